@@ -1,0 +1,19 @@
+-- Laws of the functions of specs/, named after what they are about.
+pub mod Tests
+pub mod Each
+pub mod Same
+pub mod Sets
+pub mod Counted
+pub mod Counts
+pub mod Uses
+pub mod First
+pub mod Rows
+pub mod Cuts
+pub mod Slices
+pub mod Parts
+pub mod Uptos
+pub mod Overs
+pub mod Masks
+pub mod Walks
+pub mod Marks
+pub mod Checkers

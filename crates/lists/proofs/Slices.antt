@@ -1,0 +1,123 @@
+-- Parts of a list as a loop or a lent slice takes them.
+use mathlib.Core.Path.{_≡_, refl, sym, ap, _∙_}
+use mathlib.Core.Bool.{Bool, true, false}
+use mathlib.Core.List.{List, [], _∷_, _++_, append-nil}
+use Prim.Native.Nat.{ℕ, zero, suc, zero-le, min, _+_, _-_, _≤_, _<_}
+use native.Mathlib.Nat.{sub-zero}
+use native.Mathlib.Numerals.{add-one}
+use native.Mathlib.Omega.{arith}
+use lib.ListN.{length, getD, take, drop, replicate, length-drop, drop-of-length-le}
+use lib.Seq.{drop-cons, drop-nil, drop-length, take-all, take-suc, take-at, drop-at, length-take-le}
+use lib.Dec.{leb, eqb}
+use borrow.Author.Tests.{leb-true, leb-false, eq-eqb, ne-eqb}
+use Rattle.lists.specs.Lists.{every, allZero}
+use Rattle.lists.specs.Rows.{fill}
+use Rattle.lists.proofs.Rows.{fill-take}
+
+-- ---- take and drop, at the code's i + 1
+
+module _ {ℓ} {A : Type ℓ} where
+  -- the element at i and what follows it
+  pub drop-next : (l : List A) (i : ℕ) (d : A) → i < length l → drop i l ≡ getD l i d ∷ drop (i + 1) l
+  drop-next l i d h = rw (add-one i) (drop-cons l i d h)
+
+  pub drop-end : (l : List A) (i : ℕ) → length l ≤ i → drop i l ≡ []
+  drop-end l i h = drop-of-length-le l h
+
+  -- what comes before i, and the element at i
+  pub take-next : (l : List A) (i : ℕ) (d : A) → i < length l → take (i + 1) l ≡ take i l ++ (getD l i d ∷ [])
+  take-next l i d h = rw (add-one i) (take-suc l i d h)
+
+-- ---- every, read from the front
+
+module _ {ℓ} {A : Type ℓ} (f : A → Bool) (l : List A) (i : ℕ) where
+  pub every-next : (d : A) → i < length l → f (getD l i d) ≡ true → every f (drop i l) ≡ every f (drop (i + 1) l)
+  unfolding every
+  every-next d h e = rw (drop-next l i d h, e)
+
+  pub every-stop : (d : A) → i < length l → f (getD l i d) ≡ false → every f (drop i l) ≡ false
+  unfolding every
+  every-stop d h e = rw (drop-next l i d h, e)
+
+  pub every-end : length l ≤ i → every f (drop i l) ≡ true
+  unfolding every
+  every-end h = rw (drop-end l i h)
+
+module _ (l : List ℕ) (i : ℕ) (h : i < length l) where
+  pub zero-next : getD l i 0 ≡ 0 → allZero (drop i l) ≡ allZero (drop (i + 1) l)
+  unfolding allZero
+  zero-next e = every-next (λ x. eqb x 0) l i 0 h (eq-eqb (getD l i 0) 0 e)
+
+  pub zero-not : (getD l i 0 ≡ 0 → ⊥) → allZero (drop i l) ≡ false
+  unfolding allZero
+  zero-not e = every-stop (λ x. eqb x 0) l i 0 h (ne-eqb (getD l i 0) 0 e)
+
+-- ---- a part that was lent and has come back
+
+module _ {ℓ} {A : Type ℓ} where
+  -- all that is left from a on
+  pub tail-all : (xs : List A) (a : ℕ) → take (length xs - a) (drop a xs) ≡ drop a xs
+  tail-all xs a = take-all (length xs - a) (drop a xs) (omega (arith, length-drop a xs))
+
+-- the list is p, then m, then q; the part is m
+module _ {ℓ} {A : Type ℓ} (p m q ws : List A) (a k : ℕ) (e : ws ≡ p ++ (m ++ q)) (la : length p ≡ a) (lk : length m ≡ k) where
+  pub mid-is : take k (drop a ws) ≡ m
+  mid-is = rw (e, drop-at p (m ++ q) a la) (take-at m q k lk)
+
+  pub mid-put : (m′ : List A) → take a ws ++ (m′ ++ drop k (drop a ws)) ≡ p ++ (m′ ++ q)
+  mid-put m′ = rw (e, take-at p (m ++ q) a la, drop-at p (m ++ q) a la, drop-at m q k lk)
+
+-- the list is p, then m; the part is m, which goes to the end
+module _ {ℓ} {A : Type ℓ} (p m ws : List A) (a : ℕ) (e : ws ≡ p ++ m) (la : length p ≡ a) where
+  pub tail-is : take (length ws - a) (drop a ws) ≡ m
+  tail-is = tail-all ws a ∙ rw e (drop-at p m a la)
+
+  pub tail-put : (m′ : List A) → take a ws ++ (m′ ++ drop (length ws - a) (drop a ws)) ≡ p ++ m′
+  tail-put m′ =
+      let n : length (drop a ws) ≤ length ws - a = omega (arith, length-drop a ws) in
+      rw (drop-of-length-le (drop a ws) n, append-nil) (rw e (ap (λ (l : List A). l ++ m′) (take-at p m a la)))
+
+-- ---- a list filled up
+
+module _ {ℓ} {A : Type ℓ} (v : A) where
+  pub drop-same : (a z : ℕ) → drop a (replicate z v) ≡ replicate (z - a) v
+  drop-same zero z = rw (sub-zero z)
+  drop-same (suc a) zero = let e : 0 - suc a ≡ 0 = omega arith in rw e
+  drop-same (suc a) (suc z) = let e : suc z - suc a ≡ z - a = omega arith in rw e (drop-same a z)
+
+  pub drop-filled : (a z : ℕ) (xs : List A) → drop a (xs ++ replicate z v) ≡ drop a xs ++ replicate (z - (a - length xs)) v
+  drop-filled a z [] = let e : a - 0 ≡ a = omega arith in rw e (drop-same a z ∙ sym (ap (λ (l : List A). l ++ replicate (z - a) v) (drop-nil a)))
+  drop-filled zero z (x ∷ xs) = let e : z - (0 - suc (length xs)) ≡ z = omega arith in rw e
+  drop-filled (suc a) z (x ∷ xs) = let e : suc a - suc (length xs) ≡ a - length xs = omega arith in rw e (drop-filled a z xs)
+
+pub take-filled : (k w : ℕ) (ys : List ℕ) → k ≤ length ys + w → take k (ys ++ replicate w 0) ≡ fill k ys
+unfolding fill
+take-filled zero w ys h = refl
+take-filled (suc k) zero [] h = absurd (omega arith)
+take-filled (suc k) (suc w) [] h = ap (λ (l : List ℕ). 0 ∷ l) (take-filled k w [] (omega arith))
+take-filled (suc k) w (y ∷ ys) h = ap (λ (l : List ℕ). y ∷ l) (take-filled k w ys (omega arith))
+
+-- k numbers from a on, where zeros follow the list
+pub cut-filled : (xs : List ℕ) (a k z : ℕ) → a + k ≤ length xs + z → take k (drop a (xs ++ replicate z 0)) ≡ fill k (drop a xs)
+cut-filled xs a k z h = rw (drop-filled 0 a z xs) (take-filled k (z - (a - length xs)) (drop a xs) (omega (arith, length-drop a xs)))
+
+-- the part from a on of at most k numbers, its ends cut to the list's length
+module _ (xs : List ℕ) (a k s e : ℕ) (hs : s ≡ min (length xs) a) (he : e ≡ min (length xs) (a + k)) where
+  pub cut-small : length (take (e - s) (drop s xs)) ≤ k
+  cut-small = let n : e - s ≤ length (drop s xs) = omega (arith, length-drop s xs) in omega (arith, length-take-le (e - s) (drop s xs) n)
+
+  pub cut-is : fill k (take (e - s) (drop s xs)) ≡ fill k (drop a xs)
+  cut-is = go (leb (length xs) a) refl (leb (length xs) (a + k)) refl
+    where
+      go : (t : Bool) → leb (length xs) a ≡ t → (u : Bool) → leb (length xs) (a + k) ≡ u → fill k (take (e - s) (drop s xs)) ≡ fill k (drop a xs)
+      go true h u h′ =
+          let z : s ≡ length xs = omega (arith, leb-true (length xs) a h) in
+          rw (z, drop-length xs, drop-end xs a (leb-true (length xs) a h)) (ap (fill k) (take-all (e - length xs) [] zero-le))
+      go false h true h′ =
+          let z : s ≡ a = omega (arith, leb-false (length xs) a h) in
+          let n : e - a ≡ length xs - a = omega (arith, leb-true (length xs) (a + k) h′) in
+          rw (z, n, take-all (length xs - a) (drop a xs) (omega (arith, length-drop a xs)))
+      go false h false h′ =
+          let z : s ≡ a = omega (arith, leb-false (length xs) a h) in
+          let n : e - a ≡ k = omega (arith, leb-false (length xs) (a + k) h′) in
+          rw (z, n) (fill-take k (drop a xs))

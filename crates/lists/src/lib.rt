@@ -1,0 +1,1 @@
+// Functions on lists and their laws, for specifications and proofs; no code.

@@ -1,0 +1,455 @@
+-- "A day at the box": the starred cases 1 to 10, and rows for what the page says beside them, as lists of calls with what they answer and leave.
+-- One theorem, `day-holds`, proved by computing the calls' definitions on real 64-byte blocks.
+use Prim.Native.Nat.{ℕ, _+_, _*_}
+use mathlib.Core.Path.{_≡_, refl}
+use mathlib.Core.Bool.{Bool, true, _&&_}
+use mathlib.Core.List.{List, [], _∷_, _++_}
+use lib.ListN.{set, take, drop, replicate}
+use lib.Dec.{eqb}
+use Rattle.lists.specs.Lists.{counted, every, keep, count, total, firstFrom, allOf, sameNumbers, isIn, distinct, allZero, largest}
+use Rattle.lists.specs.Rows.{joined, parts, chunks, fill, rows}
+use Rattle.lists.specs.Masks.{maskOf}
+use Rattle.model.specs.Measures.{isWithin, inRange, partsFor, tableWords, poolBytes, Capacities, Shape, shapeFor, headerWords, slotWords, recordWords, recordsAt}
+use Rattle.model.specs.Image.{zeroBlock, blockFrom, blocksFrom, imageBlocks, segmentsFrom, imageSegments}
+use Rattle.model.specs.Records.{freeSegment, isFree, cellsOf, namedCells, cellAt, positionAt, equals}
+use Rattle.model.specs.Runs.{freeCells, better, scan, findRun}
+use Rattle.model.specs.Place.{pointersTo, newPositions, nonNull, share, write, writeRun, writeRecord, shareOrWrite, placeSegment, afterSome, placeNext, placeAll}
+use Rattle.model.specs.Turn.{target, turn, turning}
+use Rattle.model.specs.Sweep.{lower, lowerAll, release, moved, clearCells, freeRecord, strikeOnly, compact, removeFrom, sweepRecord, sweepFrom, sweep}
+use Rattle.model.specs.Trace.{hopsVia, endVia, hops, endOf, blockAt, tracedBlock, tracedBlocks, imageOf, longestChain}
+use Rattle.model.specs.Table.{pointerWord, recordToWords, versionToWords, tillToWords, headerToWords, stateToWords, stateToBytes, shapeOf, pointerOf, wordToPointer, positionOf, positionsIn, segmentIn, recordsIn, cellsIn, shelfIn, versionIn, versionsIn, tillIn, tillsIn, stateIn}
+use Rattle.model.specs.Sound.{isShaped, hasLength, isNumbered, isUsed, hasCells, nextPointers, endsZero, areTraceable, isTill, allPointers, areCounted, allCounted, areFilled, isSound, ifSound, hasLengths, storeAs, storeOf}
+use Rattle.model.specs.Calls.{emptyTill, emptyState, layoutIf, layoutAs, layoutOf, tillOf, heldFrom, withTill, newestPointers, withNewestPointers, tillWith, fileIn, placeAndFile, backupAnswer, backupIn, backupOf, restoreRefusal, restoreFrom, restoreIn, restoreOf, dropOldest, isOldest, isEmpty, retireAnswer, retireIn, retireOf, oldestNumber, newestNumber, listingRefusal, listTill, listingIn, listingOf, tallyIn, tallyOf, LayoutAnswer, BackupAnswer, RestoreAnswer, RetireAnswer, ListingAnswer, TallyAnswer}
+use Rattle.model.specs.State.{Pointer, nullPointer, direct, indirect, nullPosition, held, removed, Segment, Version}
+use Rattle.model.specs.Calls as Calls
+
+-- A call with what it answers, or a fact of the buffers as the calls before it left them. Slots and records are read as words.
+data Step : Type 0 where
+  layout : (capacities : Capacities) (refusal : ℕ) → Step
+  backup : (till : ℕ) (image : List ℕ) (refusal version : ℕ) → Step
+  restore : (till version : ℕ) (output : List ℕ) (refusal length hops : ℕ) (after : List ℕ) → Step
+  retire : (till version refusal length : ℕ) → Step
+  listing : (till refusal oldest newest last : ℕ) → Step
+  tally : (refusal cells records counts : ℕ) → Step
+  -- slot `i` of till 0
+  slotIs : (i : ℕ) (version : Version) → Step
+  recordIs : (k : ℕ) (positions : Segment) → Step
+  poolIs : (pool : List ℕ) → Step
+  -- a word of the table is overwritten, for stores that no call leaves
+  overwrite : (at word : ℕ) → Step
+
+-- a store's capacities, and the steps from its laying out
+record Row : Type 0 where
+  capacities : Capacities
+  steps : List Step
+
+slotAt : Capacities → ℕ → ℕ
+slotAt c i = headerWords + 4 + i * slotWords (c .blocks)
+
+recordAt : Capacities → ℕ → ℕ
+recordAt c k = recordsAt (c .tills) (c .versions) (c .blocks) + k * recordWords 8
+
+-- `n` elements from place `at` are those of the list
+isAt : List ℕ → ℕ → ℕ → List ℕ → Bool
+isAt xs at n ys = sameNumbers (take n (drop at xs)) ys
+
+holdsFrom : Capacities → List Step → List ℕ → List ℕ → Bool
+holdsFrom c [] pool table = true
+holdsFrom c (layout d n ∷ steps) pool table =
+    let a : LayoutAnswer = layoutOf d pool table in
+    eqb (a .refusal) n && holdsFrom c steps (a .pool) (a .table)
+holdsFrom c (backup t image n v ∷ steps) pool table =
+    let a : BackupAnswer = backupOf pool table t image in
+    eqb (a .refusal) n && eqb (a .version) v && holdsFrom c steps (a .pool) (a .table)
+holdsFrom c (restore t v output n l h after ∷ steps) pool table =
+    let a : RestoreAnswer = restoreOf pool table t v output in
+    eqb (a .refusal) n && eqb (a .length) l && eqb (a .hops) h && sameNumbers (a .output) after && holdsFrom c steps pool table
+holdsFrom c (retire t v n l ∷ steps) pool table =
+    let a : RetireAnswer = retireOf pool table t v in
+    eqb (a .refusal) n && eqb (a .length) l && holdsFrom c steps (a .pool) (a .table)
+holdsFrom c (listing t r o n l ∷ steps) pool table =
+    let a : ListingAnswer = listingOf pool table t in
+    eqb (a .refusal) r && eqb (a .oldest) o && eqb (a .newest) n && eqb (a .last) l && holdsFrom c steps pool table
+holdsFrom c (tally r k s n ∷ steps) pool table =
+    let a : TallyAnswer = tallyOf pool table in
+    eqb (a .refusal) r && eqb (a .cells) k && eqb (a .records) s && eqb (a .counts) n && holdsFrom c steps pool table
+holdsFrom c (slotIs i v ∷ steps) pool table =
+    isAt table (slotAt c i) (slotWords (c .blocks)) (versionToWords (c .blocks) v) && holdsFrom c steps pool table
+holdsFrom c (recordIs k seg ∷ steps) pool table =
+    isAt table (recordAt c k) (recordWords 8) (recordToWords seg) && holdsFrom c steps pool table
+holdsFrom c (poolIs bytes ∷ steps) pool table = sameNumbers pool bytes && holdsFrom c steps pool table
+holdsFrom c (overwrite at word ∷ steps) pool table = holdsFrom c steps pool (set table at word)
+
+-- from buffers of ones, which an accepted lay out clears
+holds : Row → Bool
+unfolding holdsFrom
+holds row =
+    let s : Shape = shapeFor (row .capacities) in
+    let a : LayoutAnswer = layoutOf (row .capacities) (replicate (poolBytes s) 1) (replicate (tableWords s) 1) in
+    eqb (a .refusal) 0 && holdsFrom (row .capacities) (row .steps) (a .pool) (a .table)
+
+-- ---- the stores and images of the cases
+
+-- 1 till, 4 versions, 16 blocks per image, 8 records
+box : ℕ → Capacities
+box cells = record { tills = 1; versions = 4; blocks = 16; records = 8; cells = cells }
+
+-- a letter is a block filled with it; 0 is a block of zeros
+blocks : List ℕ → List ℕ
+blocks ls = rows (replicate 64) ls
+
+zeros : ℕ → List ℕ
+zeros n = replicate n 0
+
+-- `n` letters from one on
+letters : ℕ → ℕ → List ℕ
+letters a n = counted (λ c. c) a n
+
+ABCDEFGH : List ℕ
+ABCDEFGH = letters 65 8
+
+ABCDEFGZ : List ℕ
+ABCDEFGZ = letters 65 7 ++ (90 ∷ [])
+
+AIJKLMNO : List ℕ
+AIJKLMNO = 65 ∷ letters 73 7
+
+ABIJKLMN : List ℕ
+ABIJKLMN = 65 ∷ 66 ∷ letters 73 6
+
+IJKLMNOP : List ℕ
+IJKLMNOP = letters 73 8
+
+QRSTUVWX : List ℕ
+QRSTUVWX = letters 81 8
+
+-- position i of eight held in the cell c + i with count n
+run8 : ℕ → ℕ → Segment
+run8 c n = counted (λ cell. held cell n) c 8
+
+-- direct pointers to the eight positions of record k
+to8 : ℕ → List Pointer
+to8 k = counted (direct k) 0 8
+
+-- a version of 512 bytes
+v512 : ℕ → List Pointer → Version
+v512 n ps = record { number = n; length = 512; pointers = ps }
+
+-- ---- the page's cases
+
+case1 : List Step
+case1 =
+    backup 0 (blocks ABCDEFGH) 0 1
+    ∷ recordIs 0 (run8 0 1)
+    ∷ slotIs 0 (v512 1 (to8 0))
+    ∷ poolIs (blocks ABCDEFGH ++ zeros (64 * 24))
+    ∷ tally 0 8 1 8
+    ∷ []
+
+case2 : List Step
+case2 =
+    backup 0 (blocks ABCDEFGZ) 0 2
+    ∷ recordIs 0 (replicate 7 removed ++ (held 16 1 ∷ []))
+    ∷ recordIs 1 (run8 8 1)
+    ∷ slotIs 0 (v512 1 (counted indirect 0 7 ++ (direct 0 7 ∷ [])))
+    ∷ slotIs 1 (v512 2 (to8 1))
+    ∷ poolIs (zeros (64 * 8) ++ (blocks ABCDEFGZ ++ (blocks (72 ∷ []) ++ zeros (64 * 15))))
+    ∷ tally 0 9 2 9
+    ∷ []
+
+case3 : List Step
+case3 =
+    backup 0 (blocks ABCDEFGH) 0 3
+    ∷ recordIs 0 (replicate 7 removed ++ (held 16 1 ∷ []))
+    ∷ recordIs 1 (replicate 7 removed ++ (held 17 1 ∷ []))
+    ∷ recordIs 2 (run8 0 1)
+    ∷ poolIs (blocks ABCDEFGH ++ (zeros (64 * 8) ++ (blocks (72 ∷ 90 ∷ []) ++ zeros (64 * 14))))
+    ∷ tally 0 10 3 10
+    ∷ []
+
+case4 : List Step
+case4 =
+    backup 0 (blocks ABCDEFGH) 0 4
+    ∷ recordIs 2 (run8 0 1)
+    ∷ slotIs 2 (v512 3 (counted indirect 0 8))
+    ∷ slotIs 3 (v512 4 (to8 2))
+    ∷ tally 0 10 3 10
+    ∷ []
+
+case5 : List Step
+case5 =
+    backup 0 (blocks ABCDEFGH) 11 0
+    ∷ restore 0 1 (replicate 520 7) 0 512 3 (blocks ABCDEFGH ++ replicate 8 7)
+    ∷ []
+
+case6 : List Step
+case6 =
+    retire 0 3 13 0
+    ∷ tally 0 10 3 10
+    ∷ retire 0 1 0 512
+    ∷ recordIs 0 (replicate 8 nullPosition)
+    ∷ poolIs (blocks ABCDEFGH ++ (zeros (64 * 9) ++ (blocks (90 ∷ []) ++ zeros (64 * 14))))
+    ∷ listing 0 0 2 4 4
+    ∷ tally 0 9 2 9
+    ∷ []
+
+theDay : List Row
+theDay =
+    record { capacities = box 32; steps = case1 }
+    ∷ record { capacities = box 32; steps = case1 ++ case2 }
+    ∷ record { capacities = box 32; steps = case1 ++ (case2 ++ case3) }
+    ∷ record { capacities = box 32; steps = case1 ++ (case2 ++ (case3 ++ case4)) }
+    ∷ record { capacities = box 32; steps = case1 ++ (case2 ++ (case3 ++ (case4 ++ case5))) }
+    ∷ record { capacities = box 32; steps = case1 ++ (case2 ++ (case3 ++ (case4 ++ (case5 ++ case6)))) }
+    -- 7: no cell, no record
+    ∷ record {
+      capacities = box 32;
+      steps =
+          backup 0 (zeros 512) 0 1
+          ∷ slotIs 0 (v512 1 (replicate 8 nullPointer))
+          ∷ recordIs 0 (replicate 8 nullPosition)
+          ∷ poolIs (zeros (64 * 32))
+          ∷ tally 0 0 0 0
+          ∷ [];
+    }
+    -- 8: one record, counts 2
+    ∷ record {
+      capacities = box 32;
+      steps =
+          backup 0 (blocks (ABCDEFGH ++ ABCDEFGH)) 0 1
+          ∷ recordIs 0 (run8 0 2)
+          ∷ recordIs 1 (replicate 8 nullPosition)
+          ∷ poolIs (blocks ABCDEFGH ++ zeros (64 * 24))
+          ∷ tally 0 8 1 16
+          ∷ [];
+    }
+    -- 9: 5 < 8, cell 0 is cleared; then instead 10 ≥ 8, six blocks to cells 16 to 21
+    ∷ record {
+      capacities = box 32;
+      steps =
+          backup 0 (blocks ABCDEFGH) 0 1
+          ∷ backup 0 (blocks AIJKLMNO) 0 2
+          ∷ recordIs 0 (removed ∷ counted (λ c. held c 1) 1 7)
+          ∷ poolIs (zeros 64 ++ (drop 64 (blocks ABCDEFGH) ++ (blocks AIJKLMNO ++ zeros (64 * 16))))
+          ∷ tally 0 15 2 15
+          ∷ [];
+    }
+    ∷ record {
+      capacities = box 32;
+      steps =
+          backup 0 (blocks ABCDEFGH) 0 1
+          ∷ backup 0 (blocks ABIJKLMN) 0 2
+          ∷ recordIs 0 (removed ∷ removed ∷ counted (λ c. held c 1) 16 6)
+          ∷ poolIs (zeros (64 * 8) ++ (blocks ABIJKLMN ++ (drop 128 (blocks ABCDEFGH) ++ zeros (64 * 10))))
+          ∷ tally 0 14 2 14
+          ∷ [];
+    }
+    -- 10: the latter with 16 cells: no run, cells 0 and 1 are cleared; with 15 cells: 16
+    ∷ record {
+      capacities = box 16;
+      steps =
+          backup 0 (blocks ABCDEFGH) 0 1
+          ∷ backup 0 (blocks ABIJKLMN) 0 2
+          ∷ recordIs 0 (removed ∷ removed ∷ counted (λ c. held c 1) 2 6)
+          ∷ poolIs (zeros 128 ++ (drop 128 (blocks ABCDEFGH) ++ blocks ABIJKLMN))
+          ∷ tally 0 14 2 14
+          ∷ [];
+    }
+    ∷ record {
+      capacities = box 15;
+      steps =
+          backup 0 (blocks ABCDEFGH) 0 1
+          ∷ backup 0 (blocks ABIJKLMN) 16 0
+          ∷ recordIs 1 (replicate 8 nullPosition)
+          ∷ slotIs 0 (v512 1 (to8 0))
+          ∷ poolIs (blocks ABCDEFGH ++ zeros (64 * 7))
+          ∷ tally 0 8 1 8
+          ∷ listing 0 0 1 1 1
+          ∷ [];
+    }
+    ∷ []
+
+-- ---- what the page says beside the cases
+
+beside : List Row
+beside =
+    -- two runs of eight cells: the lower one is taken
+    record {
+      capacities = box 24;
+      steps =
+          backup 0 (blocks ABCDEFGH) 0 1
+          ∷ backup 0 (blocks IJKLMNOP) 0 2
+          ∷ retire 0 1 0 512
+          ∷ backup 0 (blocks QRSTUVWX) 0 3
+          ∷ recordIs 0 (run8 0 1)
+          ∷ poolIs (blocks QRSTUVWX ++ (blocks IJKLMNOP ++ zeros 512))
+          ∷ tally 0 16 2 16
+          ∷ [];
+    }
+    -- a run of three cells below one of two: the shorter one that is long enough is taken
+    ∷ record {
+      capacities = record { tills = 4; versions = 2; blocks = 8; records = 8; cells = 7 };
+      steps =
+          backup 0 (blocks (letters 65 3)) 0 1
+          ∷ backup 1 (blocks (81 ∷ [])) 0 1
+          ∷ backup 2 (blocks (letters 70 2)) 0 1
+          ∷ backup 3 (blocks (82 ∷ [])) 0 1
+          ∷ retire 0 1 0 192
+          ∷ retire 2 1 0 128
+          ∷ poolIs (zeros 192 ++ (blocks (81 ∷ []) ++ (zeros 128 ++ blocks (82 ∷ []))))
+          ∷ backup 2 (blocks (letters 75 2)) 0 2
+          ∷ poolIs (zeros 192 ++ (blocks (81 ∷ []) ++ (blocks (letters 75 2) ++ blocks (82 ∷ []))))
+          ∷ [];
+    }
+    -- one of five positions goes: 5 × 1 < 5 does not hold, and the other four are copied together
+    ∷ record {
+      capacities = box 16;
+      steps =
+          backup 0 (blocks (letters 65 5)) 0 1
+          ∷ backup 0 (blocks (66 ∷ letters 80 4)) 0 2
+          ∷ recordIs 0 (held 10 1 ∷ removed ∷ held 11 1 ∷ held 12 1 ∷ held 13 1 ∷ replicate 3 nullPosition)
+          ∷ poolIs (zeros 320 ++ (blocks (66 ∷ letters 80 4) ++ (blocks (65 ∷ 67 ∷ 68 ∷ 69 ∷ []) ++ zeros 128)))
+          ∷ [];
+    }
+    -- only the previous version turns: the pointers of version 1 stay direct, though version 3 has its blocks
+    ∷ record {
+      capacities = box 32;
+      steps =
+          backup 0 (blocks ABCDEFGH) 0 1
+          ∷ backup 0 (blocks IJKLMNOP) 0 2
+          ∷ backup 0 (blocks ABCDEFGH) 0 3
+          ∷ slotIs 0 (v512 1 (to8 0))
+          ∷ slotIs 1 (v512 2 (to8 1))
+          ∷ slotIs 2 (v512 3 (to8 0))
+          ∷ recordIs 0 (run8 0 2)
+          ∷ tally 0 16 2 24
+          ∷ [];
+    }
+    -- the lowest equal block is named, and a null block stays null
+    ∷ record {
+      capacities = box 32;
+      steps =
+          backup 0 (blocks (65 ∷ 0 ∷ 66 ∷ [])) 0 1
+          ∷ backup 0 (blocks (0 ∷ 66 ∷ 66 ∷ 65 ∷ 65 ∷ [])) 0 2
+          ∷ slotIs 0 (record { number = 1; length = 192; pointers = indirect 3 ∷ nullPointer ∷ indirect 1 ∷ [] })
+          ∷ restore 0 1 (zeros 192) 0 192 1 (blocks (65 ∷ 0 ∷ 66 ∷ []))
+          ∷ tally 0 4 1 4
+          ∷ [];
+    }
+    -- two tills on one record: what one lets go of stays for the other
+    ∷ record {
+      capacities = record { tills = 2; versions = 2; blocks = 8; records = 2; cells = 16 };
+      steps =
+          backup 0 (blocks ABCDEFGH) 0 1
+          ∷ backup 1 (blocks ABCDEFGH) 0 1
+          ∷ recordIs 0 (run8 0 2)
+          ∷ retire 0 1 0 512
+          ∷ recordIs 0 (run8 0 1)
+          ∷ restore 1 1 (zeros 512) 0 512 0 (blocks ABCDEFGH)
+          ∷ listing 0 0 0 0 1
+          ∷ tally 0 8 1 8
+          ∷ [];
+    }
+    -- a length that is no whole number of blocks: 500 bytes are eight blocks, the last 52 bytes long; 1,024 bytes fit
+    ∷ record {
+      capacities = box 32;
+      steps =
+          backup 0 (take 500 (blocks ABCDEFGH)) 0 1
+          ∷ poolIs (take 500 (blocks ABCDEFGH) ++ zeros (12 + 64 * 24))
+          ∷ restore 0 1 (replicate 512 7) 0 500 0 (take 500 (blocks ABCDEFGH) ++ replicate 12 7)
+          ∷ backup 0 (replicate 1024 65) 0 2
+          ∷ tally 0 15 2 23
+          ∷ retire 0 1 0 500
+          ∷ [];
+    }
+    -- ---- refusals, in their order
+    -- neither a record nor a run: 14; nothing is altered, also where a segment before was placed
+    ∷ record {
+      capacities = record { tills = 1; versions = 2; blocks = 16; records = 1; cells = 8 };
+      steps =
+          backup 0 (blocks (ABCDEFGH ++ IJKLMNOP)) 14 0
+          ∷ poolIs (zeros 512)
+          ∷ recordIs 0 (replicate 8 nullPosition)
+          ∷ backup 0 (blocks ABCDEFGH) 0 1
+          ∷ backup 0 (blocks IJKLMNOP) 14 0
+          ∷ poolIs (blocks ABCDEFGH)
+          ∷ tally 0 8 1 8
+          ∷ [];
+    }
+    -- lay out 1 before 2; backup 3, 4, 11
+    ∷ record {
+      capacities = record { tills = 1; versions = 1; blocks = 1; records = 1; cells = 1 };
+      steps =
+          layout (record { tills = 17; versions = 1; blocks = 1; records = 1; cells = 1 }) 1
+          ∷ layout (record { tills = 1; versions = 1; blocks = 1; records = 1; cells = 2 }) 2
+          ∷ backup 1 [] 3 0
+          ∷ backup 0 [] 4 0
+          ∷ backup 0 (replicate 65 7) 4 0
+          ∷ backup 0 (replicate 64 7) 0 1
+          ∷ backup 0 [] 4 0
+          ∷ backup 0 (replicate 64 7) 11 0
+          ∷ tally 0 1 1 1
+          ∷ [];
+    }
+    -- restore 3, 15, 5; retire 3, 15, 13; listing 3
+    ∷ record {
+      capacities = box 32;
+      steps =
+          backup 0 (blocks ABCDEFGH) 0 1
+          ∷ backup 0 (blocks ABCDEFGH) 0 2
+          ∷ restore 1 1 [] 3 0 0 []
+          ∷ restore 0 3 [] 15 0 0 []
+          ∷ restore 0 0 [] 15 0 0 []
+          ∷ restore 0 1 (replicate 511 7) 5 0 0 (replicate 511 7)
+          ∷ retire 1 1 3 0
+          ∷ retire 0 3 15 0
+          ∷ retire 0 2 13 0
+          ∷ listing 1 3 0 0 0
+          ∷ listing 0 0 1 2 2
+          ∷ [];
+    }
+    -- the last number given is 65,535: 12, and 11 before it; word 8 is till 0's last number
+    ∷ record {
+      capacities = record { tills = 1; versions = 1; blocks = 1; records = 1; cells = 1 };
+      steps =
+          overwrite 8 65535
+          ∷ listing 0 0 0 0 65535
+          ∷ backup 0 (replicate 64 7) 12 0
+          ∷ overwrite 8 65534
+          ∷ backup 0 (replicate 64 7) 0 65535
+          ∷ backup 0 (replicate 64 7) 11 0
+          ∷ retire 0 65535 0 64
+          ∷ backup 0 (replicate 64 7) 12 0
+          ∷ [];
+    }
+    -- no sound store: 10 before all others; word 10 is a reserved one, which is zero in every sound store
+    ∷ record {
+      capacities = box 32;
+      steps =
+          overwrite 10 1
+          ∷ backup 9 [] 10 0
+          ∷ restore 9 9 [] 10 0 0 []
+          ∷ retire 9 9 10 0
+          ∷ listing 9 10 0 0 0
+          ∷ tally 10 0 0 0
+          ∷ overwrite 10 0
+          ∷ tally 0 0 0 0
+          ∷ [];
+    }
+    ∷ []
+
+day-holds : every holds (theDay ++ beside) ≡ true
+unfolding theDay beside case1 case2 case3 case4 case5 case6 v512 to8 run8 letters ABCDEFGH ABCDEFGZ AIJKLMNO ABIJKLMN IJKLMNOP QRSTUVWX zeros blocks box holds
+    holdsFrom isAt slotAt recordAt
+    counted every keep count total firstFrom allOf sameNumbers isIn distinct allZero largest joined parts chunks fill maskOf isWithin inRange partsFor
+    tableWords poolBytes zeroBlock blockFrom blocksFrom imageBlocks segmentsFrom imageSegments freeSegment isFree cellsOf namedCells cellAt positionAt
+    equals freeCells better scan findRun pointersTo newPositions nonNull share write writeRun writeRecord shareOrWrite placeSegment afterSome
+    placeNext placeAll target turn turning lower lowerAll release moved clearCells freeRecord strikeOnly compact removeFrom sweepRecord sweepFrom
+    sweep hopsVia endVia hops endOf blockAt tracedBlock tracedBlocks imageOf longestChain pointerWord recordToWords versionToWords tillToWords
+    headerToWords stateToWords stateToBytes shapeOf pointerOf wordToPointer positionOf positionsIn segmentIn recordsIn cellsIn shelfIn versionIn
+    versionsIn tillIn tillsIn stateIn isShaped hasLength isNumbered isUsed hasCells nextPointers endsZero areTraceable isTill allPointers areCounted
+    allCounted areFilled isSound ifSound hasLengths storeAs storeOf emptyTill emptyState layoutIf layoutAs layoutOf tillOf heldFrom withTill
+    newestPointers withNewestPointers tillWith fileIn placeAndFile Calls.backup backupAnswer backupIn backupOf restoreRefusal restoreFrom
+    Calls.restore restoreIn restoreOf dropOldest isOldest isEmpty Calls.retire retireAnswer retireIn retireOf oldestNumber newestNumber listingRefusal
+    listTill listingIn listingOf tallyIn tallyOf
+day-holds = refl

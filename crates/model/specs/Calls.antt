@@ -1,0 +1,266 @@
+-- "The calls" and "Refusals". Each call answers a refusal's number, 0 for an accepted call, and its other fields, all 0 in a refusal; and it says what
+-- the lent buffers are afterwards: as they were, in a refusal. The heading of each call gives its refusals in their order.
+use Prim.Native.Nat.{ℕ, suc, _+_, _*_}
+use mathlib.Core.Bool.{Bool, true, false, cond, not, _&&_, _||_}
+use mathlib.Core.List.{List, [], _∷_, _++_}
+use mathlib.Core.Option.{Option, none, some}
+use lib.ListN.{length, getD, set, take, drop, replicate}
+use lib.Dec.{eqb, ltb, leb}
+use Rattle.lists.specs.Lists.{count, total}
+use Rattle.model.specs.Measures.{Measures, Capacities, Shape, shapeFor, inRange, tableWords, poolBytes}
+use Rattle.model.specs.State.{Block, Pointer, Shelf, Version, Till, State, Outcome, refused, done}
+use Rattle.model.specs.Image.{zeroBlock, imageBlocks, imageSegments}
+use Rattle.model.specs.Records.{freeSegment, isFree, namedCells, countOf}
+use Rattle.model.specs.Place.{Placed, placeAll}
+use Rattle.model.specs.Turn.{turn, turning}
+use Rattle.model.specs.Sweep.{release, sweep}
+use Rattle.model.specs.Trace.{imageOf, longestChain}
+use Rattle.model.specs.Table.{stateToWords, stateToBytes}
+use Rattle.model.specs.Sound.{Store, storeOf}
+
+-- ---- table length: 1
+
+pub record LengthAnswer : Type 0 where
+  pub refusal : ℕ
+  pub words : ℕ
+
+unfoldable pub tableLengthOf : Capacities → LengthAnswer
+tableLengthOf c = cond (inRange (shapeFor c)) (record { refusal = 0; words = tableWords (shapeFor c) }) (record { refusal = 1; words = 0 })
+
+-- ---- lay out: 1, 2
+
+pub record LayoutAnswer : Type 0 where
+  pub refusal : ℕ
+  pub pool : List ℕ
+  pub table : List ℕ
+
+unfoldable pub emptyTill : Till
+emptyTill = record { last = 0; versions = [] }
+
+unfoldable pub emptyState : Shape → State
+emptyState s = record {
+  tills = replicate (s .capacities .tills) emptyTill;
+  shelf = record {
+    records = replicate (s .capacities .records) (freeSegment (s .measures .segmentBlocks));
+    cells = replicate (s .capacities .cells) (zeroBlock (s .measures .blockBytes));
+  };
+}
+
+unfoldable pub layoutIf : Bool → Bool → Shape → List ℕ → List ℕ → LayoutAnswer
+layoutIf false fit s pool table = record { refusal = 1; pool = pool; table = table }
+layoutIf true false s pool table = record { refusal = 2; pool = pool; table = table }
+layoutIf true true s pool table = record { refusal = 0; pool = stateToBytes (emptyState s); table = stateToWords s (emptyState s) }
+
+unfoldable pub layoutAs : Shape → List ℕ → List ℕ → LayoutAnswer
+layoutAs s pool table =
+    layoutIf (inRange s) (eqb (length pool) (poolBytes s) && eqb (length table) (tableWords s)) s pool table
+
+unfoldable pub layoutOf : Capacities → List ℕ → List ℕ → LayoutAnswer
+layoutOf c pool table = layoutAs (shapeFor c) pool table
+
+-- ---- tills and versions
+
+unfoldable pub tillOf : State → ℕ → Till
+tillOf st t = getD (st .tills) t emptyTill
+
+-- the version of that number and those after it; [] where it is not held
+unfoldable pub heldFrom : ℕ → List Version → List Version
+heldFrom n [] = []
+heldFrom n (v ∷ vs) = let r = heldFrom n vs in cond (eqb (v .number) n) (v ∷ vs) r
+
+unfoldable pub withTill : State → ℕ → Till → Shelf → State
+withTill st t till shelf = record { tills = set (st .tills) t till; shelf = shelf }
+
+-- ---- backup: 10, 3, 4, 11, 12, then 14 before 16 at the first segment that cannot be placed
+
+pub record BackupAnswer : Type 0 where
+  pub refusal : ℕ
+  pub version : ℕ
+  pub pool : List ℕ
+  pub table : List ℕ
+
+-- a state, and the number that the call answers beside the refusal's
+pub record After : Type 0 where
+  pub state : State
+  pub answer : ℕ
+
+-- the pointers of the till's previous held version (its newest), and the held versions with others in their place
+unfoldable pub newestPointers : List Version → List Pointer
+newestPointers [] = []
+newestPointers (v ∷ []) = v .pointers
+newestPointers (v ∷ w ∷ vs) = newestPointers (w ∷ vs)
+
+unfoldable pub withNewestPointers : List Version → List Pointer → List Version
+withNewestPointers [] ps = []
+withNewestPointers (v ∷ []) ps = record { number = v .number; length = v .length; pointers = ps } ∷ []
+withNewestPointers (v ∷ w ∷ vs) ps = v ∷ withNewestPointers (w ∷ vs) ps
+
+-- the till with the new version, the previous one's pointers turned
+unfoldable pub tillWith : Till → List Pointer → ℕ → List Pointer → Till
+tillWith till turned bytes pointers = record {
+  last = suc (till .last);
+  versions = withNewestPointers (till .versions) turned ++ (record { number = suc (till .last); length = bytes; pointers = pointers } ∷ []);
+}
+
+-- steps 2 and 3, once the segments are placed
+unfoldable pub fileIn : Shape → State → ℕ → List ℕ → List Block → Till → Outcome Placed → Outcome After
+fileIn s st t image blocks till (refused n) = refused n
+fileIn s st t image blocks till (done p) = done (record {
+  state =
+      withTill st t
+      (tillWith till (turn (p .shelf) blocks (newestPointers (till .versions))) (length image) (take (length blocks) (p .pointers)))
+      (sweep (s .measures) (release (p .shelf) (turning (p .shelf) blocks (newestPointers (till .versions)))));
+  answer = suc (till .last);
+})
+
+-- steps 1 to 3
+unfoldable pub placeAndFile : Shape → State → ℕ → List ℕ → Till → Outcome After
+placeAndFile s st t image till =
+    fileIn s st t image (imageBlocks (s .measures .blockBytes) image) till
+    (placeAll (done (record { shelf = st .shelf; pointers = [] })) (imageSegments (s .measures .blockBytes) (s .measures .segmentBlocks) image))
+
+unfoldable pub backup : Shape → State → ℕ → List ℕ → Outcome After
+backup s st t image =
+    cond (leb (s .capacities .tills) t) (refused 3)
+    (cond (eqb (length image) 0 || ltb (s .measures .blockBytes * s .capacities .blocks) (length image)) (refused 4)
+    (cond (leb (s .capacities .versions) (length (tillOf st t .versions))) (refused 11)
+    (cond (eqb (tillOf st t .last) 65535) (refused 12)
+    (placeAndFile s st t image (tillOf st t)))))
+
+unfoldable pub backupAnswer : List ℕ → List ℕ → Shape → Outcome After → BackupAnswer
+backupAnswer pool table s (refused n) = record { refusal = n; version = 0; pool = pool; table = table }
+backupAnswer pool table s (done a) = record { refusal = 0; version = a .answer; pool = stateToBytes (a .state); table = stateToWords s (a .state) }
+
+unfoldable pub backupIn : Option Store → List ℕ → List ℕ → ℕ → List ℕ → BackupAnswer
+backupIn none pool table t image = record { refusal = 10; version = 0; pool = pool; table = table }
+backupIn (some store) pool table t image = backupAnswer pool table (store .shape) (backup (store .shape) (store .state) t image)
+
+unfoldable pub backupOf : List ℕ → List ℕ → ℕ → List ℕ → BackupAnswer
+backupOf pool table t image = backupIn (storeOf pool table) pool table t image
+
+-- ---- restore: 10, 3, 15, 5. Answers the length and the longest chain.
+
+pub record RestoreAnswer : Type 0 where
+  pub refusal : ℕ
+  pub length : ℕ
+  pub hops : ℕ
+  pub output : List ℕ
+
+unfoldable pub restoreRefusal : ℕ → List ℕ → RestoreAnswer
+restoreRefusal n output = record { refusal = n; length = 0; hops = 0; output = output }
+
+-- The first version of the list, whose newer ones are the others. Later bytes of the output stay.
+unfoldable pub restoreFrom : ℕ → Shelf → List Version → List ℕ → RestoreAnswer
+restoreFrom bytes shelf [] output = restoreRefusal 15 output
+restoreFrom bytes shelf (v ∷ newer) output =
+    cond (ltb (length output) (v .length)) (restoreRefusal 5 output)
+    (record {
+      refusal = 0;
+      length = v .length;
+      hops = longestChain (v ∷ newer);
+      output = imageOf bytes shelf (v ∷ newer) ++ drop (v .length) output;
+    })
+
+unfoldable pub restore : Shape → State → ℕ → ℕ → List ℕ → RestoreAnswer
+restore s st t version output =
+    cond (leb (s .capacities .tills) t) (restoreRefusal 3 output)
+    (restoreFrom (s .measures .blockBytes) (st .shelf) (heldFrom version (tillOf st t .versions)) output)
+
+unfoldable pub restoreIn : Option Store → ℕ → ℕ → List ℕ → RestoreAnswer
+restoreIn none t version output = restoreRefusal 10 output
+restoreIn (some store) t version output = restore (store .shape) (store .state) t version output
+
+unfoldable pub restoreOf : List ℕ → List ℕ → ℕ → ℕ → List ℕ → RestoreAnswer
+restoreOf pool table t version output = restoreIn (storeOf pool table) t version output
+
+-- ---- retire: 10, 3, 15, 13. Answers the retired length.
+
+pub record RetireAnswer : Type 0 where
+  pub refusal : ℕ
+  pub length : ℕ
+  pub pool : List ℕ
+  pub table : List ℕ
+
+-- the oldest version goes: its direct pointers lower their counts, and step 3 is done
+unfoldable pub dropOldest : Shape → State → ℕ → ℕ → List Version → Outcome After
+dropOldest s st t last [] = refused 15
+dropOldest s st t last (v ∷ newer) = done (record {
+  state = withTill st t (record { last = last; versions = newer }) (sweep (s .measures) (release (st .shelf) (v .pointers)));
+  answer = v .length;
+})
+
+unfoldable pub isOldest : ℕ → List Version → Bool
+isOldest n [] = false
+isOldest n (v ∷ vs) = eqb (v .number) n
+
+unfoldable pub isEmpty : List Version → Bool
+isEmpty [] = true
+isEmpty (v ∷ vs) = false
+
+unfoldable pub retire : Shape → State → ℕ → ℕ → Outcome After
+retire s st t version =
+    cond (leb (s .capacities .tills) t) (refused 3)
+    (cond (isEmpty (heldFrom version (tillOf st t .versions))) (refused 15)
+    (cond (not (isOldest version (tillOf st t .versions))) (refused 13)
+    (dropOldest s st t (tillOf st t .last) (tillOf st t .versions))))
+
+unfoldable pub retireAnswer : List ℕ → List ℕ → Shape → Outcome After → RetireAnswer
+retireAnswer pool table s (refused n) = record { refusal = n; length = 0; pool = pool; table = table }
+retireAnswer pool table s (done a) = record { refusal = 0; length = a .answer; pool = stateToBytes (a .state); table = stateToWords s (a .state) }
+
+unfoldable pub retireIn : Option Store → List ℕ → List ℕ → ℕ → ℕ → RetireAnswer
+retireIn none pool table t version = record { refusal = 10; length = 0; pool = pool; table = table }
+retireIn (some store) pool table t version = retireAnswer pool table (store .shape) (retire (store .shape) (store .state) t version)
+
+unfoldable pub retireOf : List ℕ → List ℕ → ℕ → ℕ → RetireAnswer
+retireOf pool table t version = retireIn (storeOf pool table) pool table t version
+
+-- ---- listing: 10, 3. Oldest and newest held number (0 and 0 if none) and the last given.
+
+pub record ListingAnswer : Type 0 where
+  pub refusal : ℕ
+  pub oldest : ℕ
+  pub newest : ℕ
+  pub last : ℕ
+
+unfoldable pub oldestNumber : List Version → ℕ
+oldestNumber [] = 0
+oldestNumber (v ∷ vs) = v .number
+
+unfoldable pub newestNumber : List Version → ℕ
+newestNumber [] = 0
+newestNumber (v ∷ []) = v .number
+newestNumber (v ∷ w ∷ vs) = newestNumber (w ∷ vs)
+
+unfoldable pub listingRefusal : ℕ → ListingAnswer
+listingRefusal n = record { refusal = n; oldest = 0; newest = 0; last = 0 }
+
+unfoldable pub listTill : Till → ListingAnswer
+listTill t = record { refusal = 0; oldest = oldestNumber (t .versions); newest = newestNumber (t .versions); last = t .last }
+
+unfoldable pub listingIn : Option Store → ℕ → ListingAnswer
+listingIn none t = listingRefusal 10
+listingIn (some store) t = cond (leb (store .shape .capacities .tills) t) (listingRefusal 3) (listTill (tillOf (store .state) t))
+
+unfoldable pub listingOf : List ℕ → List ℕ → ℕ → ListingAnswer
+listingOf pool table t = listingIn (storeOf pool table) t
+
+-- ---- tally: 10. Occupied cells, records in use, sum of all counts.
+
+pub record TallyAnswer : Type 0 where
+  pub refusal : ℕ
+  pub cells : ℕ
+  pub records : ℕ
+  pub counts : ℕ
+
+unfoldable pub tallyIn : Option Store → TallyAnswer
+tallyIn none = record { refusal = 10; cells = 0; records = 0; counts = 0 }
+tallyIn (some store) = record {
+  refusal = 0;
+  cells = length (namedCells (store .state .shelf .records));
+  records = count (λ seg. not (isFree seg)) (store .state .shelf .records);
+  counts = total (total countOf) (store .state .shelf .records);
+}
+
+unfoldable pub tallyOf : List ℕ → List ℕ → TallyAnswer
+tallyOf pool table = tallyIn (storeOf pool table)

@@ -1,0 +1,49 @@
+-- "What the store holds". Cells, blocks and records are numbered from 0, as are tills.
+use Prim.Native.Nat.{ℕ}
+use mathlib.Core.List.{List}
+
+-- the bytes of a block or a cell
+abbrev pub Block : Type 0
+Block = List ℕ
+
+-- A version's pointer for one of its blocks: the block is all zero; or it is a position of a segment record; or it is the block of that number of
+-- the same till's next newer held version.
+pub data Pointer : Type 0 where
+  nullPointer : Pointer
+  direct : (segment position : ℕ) → Pointer
+  indirect : (block : ℕ) → Pointer
+
+-- A position of a segment record: null, held (its cell, and the count of direct pointers to it), or removed.
+pub data Position : Type 0 where
+  nullPosition : Position
+  held : (cell count : ℕ) → Position
+  removed : Position
+
+-- A segment record is its positions, as many as a segment has blocks. All are null in a free record.
+abbrev pub Segment : Type 0
+Segment = List Position
+
+-- The records and the cells, which all tills share. (Our word.)
+pub record Shelf : Type 0 where
+  pub records : List Segment
+  pub cells : List Block
+
+-- its number, its length in bytes, and one pointer for each block
+pub record Version : Type 0 where
+  pub number : ℕ
+  pub length : ℕ
+  pub pointers : List Pointer
+
+-- the last number given, and the held versions, the oldest first
+pub record Till : Type 0 where
+  pub last : ℕ
+  pub versions : List Version
+
+pub record State : Type 0 where
+  pub tills : List Till
+  pub shelf : Shelf
+
+-- what a step gives: the number of the refusal, or its result
+pub data Outcome {ℓ} (A : Type ℓ) : Type ℓ where
+  refused : ℕ → Outcome A
+  done : A → Outcome A

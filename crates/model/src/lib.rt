@@ -1,0 +1,1 @@
+// The definitions of the till version store and their laws; no code.
