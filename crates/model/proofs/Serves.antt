@@ -2,8 +2,8 @@
 use mathlib.Core.Path.{_≡_, refl, ap, ap₂, _∙_}
 use mathlib.Core.Bool.{Bool, true, false, cond, false≢true}
 use mathlib.Core.List.{List, [], _∷_, _++_, map}
-use Prim.Native.Nat.{ℕ, _+_, _-_, _*_, _≤_, _<_}
-use native.Mathlib.Nat.{not-suc-le-zero}
+use Prim.Native.Nat.{ℕ, _+_, _-_, _*_, _≤_, _<_, suc, zero}
+use native.Mathlib.Nat.{not-suc-le-zero, le-refl}
 use native.Mathlib.Omega.{arith}
 use lib.ListN.{length, getD, drop}
 use lib.Dec.{ltb}
@@ -18,6 +18,7 @@ use Rattle.model.specs.State.{Block, Pointer, nullPointer, direct, indir
 use Rattle.model.specs.Records.{isHeld, cellAt, positionAt}
 use Rattle.model.specs.Trace.{endVia, endOf, blockAt, tracedBlock}
 use Rattle.model.specs.Sound.{isSound, isShaped, isNumbered, leads, nextPointers, endsZero, areTraceable, isTill, isUsed, leadsTo, allPointers}
+use Rattle.model.specs.Calls.{emptyTill}
 use Rattle.model.proofs.Sweep.{Exact, countIn, blockIn}
 use Rattle.model.proofs.Clean.{Whole, SegmentFits, ShelfFits}
 use Rattle.model.proofs.Valid.{sound-exact, exact-sound}
@@ -41,6 +42,13 @@ end-counted k i (v ∷ newer) n h = go (getD (v .pointers) n nullPointer) refl h
     go (direct k′ i′) e h r =
         omega (arith, count-append (leadsTo k i) (v .pointers) (pointersOf newer), pointer-counted k i (v .pointers) n (ap (leadsTo k i) e ∙ h))
     go (indirect b) e h r = omega (arith, count-append (leadsTo k i) (v .pointers) (pointersOf newer), r b h)
+
+-- a till's pointers are among all
+pub till-among : (k i : ℕ) (ts : List Till) (t : ℕ) → count (leadsTo k i) (pointersOf (getD ts t emptyTill .versions)) ≤ count (leadsTo k i) (allPointers ts)
+unfolding allPointers joined emptyTill
+till-among k i [] t = le-refl _
+till-among k i (x ∷ ts) zero = omega (arith, count-append (leadsTo k i) (pointersOf (x .versions)) (allPointers ts))
+till-among k i (x ∷ ts) (suc t) = omega (arith, till-among k i ts t, count-append (leadsTo k i) (pointersOf (x .versions)) (allPointers ts))
 
 -- ---- versions that are read on another shelf, which keeps what the pointers of a list lead to
 

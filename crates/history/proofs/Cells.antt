@@ -1,0 +1,181 @@
+-- The occupied cells, the cells that are not zero and the cells that a direct pointer leads to are the same ones, and a tally counts them.
+-- Assumes nothing.
+use mathlib.Core.Path.{_≡_, refl, sym, ap, ap₂, _∙_, subst}
+use mathlib.Core.Logic.{_↔_}
+use mathlib.Core.Bool.{Bool, true, false, cond, false≢true}
+use mathlib.Core.List.{List, [], _∷_, map}
+use Prim.Native.Nat.{ℕ, zero, suc, _-_, _≤_, _<_}
+use native.Mathlib.Nat.{not-suc-le-zero, le-refl}
+use native.Mathlib.Omega.{arith}
+use lib.ListN.{length, getD}
+use lib.Dec.{eqb, ltb}
+use borrow.Author.Tests.{eqb-true, eq-eqb, ne-eqb, ltb-true, ltb-false}
+use Rattle.lists.specs.Lists.{every, count, counted, sameNumbers, isIn}
+use Rattle.lists.specs.Rows.{joined}
+use Rattle.lists.proofs.Counts.{count-append}
+use Rattle.lists.proofs.Tests.{clause, cond-true, every-head, every-tail}
+use Rattle.lists.proofs.Uses.{in-uses, uses, uses-append, uses-in}
+use Rattle.model.specs.Measures.{Shape}
+use Rattle.model.specs.State.{Pointer, nullPointer, direct, indirect, nullPosition, held, removed, Segment, Shelf, Version, Till, State}
+use Rattle.model.specs.Records.{isHeld, cellOf, countOf, cellsOf, namedCells, positionAt}
+use Rattle.model.specs.Sound.{isSound, isTill, isNumbered, leadsTo, nextPointers, allPointers, areCounted, allCounted}
+use Rattle.model.specs.Calls.{emptyTill, tillOf, heldFrom}
+use Rattle.model.proofs.Sweep.{countIn, named-one}
+use Rattle.model.proofs.Counts.{at}
+use Rattle.model.proofs.Place.{held-named}
+use Rattle.model.proofs.Serves.{pointersOf, Valid, sound-valid}
+use Rattle.history.specs.Demand.{pointersHeld, LedTo}
+
+-- ---- occupied and led to
+
+-- the record and the position that name a cell
+record-of : (c : ℕ) (segs : List Segment) → 0 < uses c (namedCells segs) → (k : ℕ) × (0 < uses c (cellsOf (getD segs k [])))
+unfolding namedCells joined
+record-of c [] h = unfold uses in absurd (not-suc-le-zero h)
+record-of c (seg ∷ segs) h = go (ltb 0 (uses c (cellsOf seg))) refl (λ l. record-of c segs l)
+  where
+    go : (t : Bool) → ltb 0 (uses c (cellsOf seg)) ≡ t → (0 < uses c (namedCells segs) → (k : ℕ) × (0 < uses c (cellsOf (getD segs k []))))
+        → (k : ℕ) × (0 < uses c (cellsOf (getD (seg ∷ segs) k [])))
+    go true e r = (0, ltb-true 0 _ e)
+    go false e r =
+        let z = r (unfold namedCells in omega (arith, h, ltb-false 0 (uses c (cellsOf seg)) e, uses-append c (cellsOf seg) (joined (map cellsOf segs)))) in
+        (suc (z .0), z .1)
+
+position-of : (c : ℕ) (seg : Segment) → 0 < uses c (cellsOf seg)
+    → (i : ℕ) × (isHeld (getD seg i nullPosition) ≡ true) × (cellOf (getD seg i nullPosition) ≡ c)
+unfolding cellsOf uses
+position-of c [] h = absurd (not-suc-le-zero h)
+position-of c (nullPosition ∷ seg) h = let z = position-of c seg h in (suc (z .0), z .1, z .2)
+position-of c (held d n ∷ seg) h = go (eqb c d) refl (λ l. position-of c seg l)
+  where
+    go : (t : Bool) → eqb c d ≡ t
+        → (0 < uses c (cellsOf seg) → (i : ℕ) × (isHeld (getD seg i nullPosition) ≡ true) × (cellOf (getD seg i nullPosition) ≡ c))
+        → (i : ℕ) × (isHeld (getD (held d n ∷ seg) i nullPosition) ≡ true) × (cellOf (getD (held d n ∷ seg) i nullPosition) ≡ c)
+    go true e r = (0, refl, sym (eqb-true c d e))
+    go false e r = let z = r (omega (arith, rw e at h)) in (suc (z .0), z .1, z .2)
+position-of c (removed ∷ seg) h = let z = position-of c seg h in (suc (z .0), z .1, z .2)
+
+-- a held position is counted
+positions-positive : (ps : List Pointer) (k i : ℕ) (seg : Segment) → areCounted ps k i seg ≡ true → (j : ℕ)
+    → isHeld (getD seg j nullPosition) ≡ true → 0 < countOf (getD seg j nullPosition)
+unfolding areCounted
+positions-positive ps k i [] h j e = absurd (false≢true e)
+positions-positive ps k i (nullPosition ∷ seg) h zero e = absurd (false≢true e)
+positions-positive ps k i (held c n ∷ seg) h zero e = ltb-true 0 n (clause _ 0 (clause _ 0 h))
+positions-positive ps k i (removed ∷ seg) h zero e = absurd (false≢true e)
+positions-positive ps k i (p ∷ seg) h (suc j) e = positions-positive ps k (suc i) seg (clause _ 1 h) j e
+
+pub held-positive : (ps : List Pointer) (k : ℕ) (segs : List Segment) → allCounted ps k segs ≡ true → (j i : ℕ) → isHeld (at segs j i) ≡ true → 0 < countOf (at segs j i)
+unfolding allCounted
+held-positive ps k [] h j i e = absurd (false≢true e)
+held-positive ps k (seg ∷ segs) h zero i e = positions-positive ps k 0 seg (clause _ 0 h) i e
+held-positive ps k (seg ∷ segs) h (suc j) i e = held-positive ps (suc k) segs (clause _ 1 h) j i e
+
+-- the pointer, the version and the till that lead to a position
+leads-is : (k i : ℕ) (p : Pointer) → leadsTo k i p ≡ true → p ≡ direct k i
+leads-is k i nullPointer h = absurd (false≢true h)
+leads-is k i (direct k′ i′) h = ap₂ direct (sym (eqb-true k k′ (clause _ 0 h))) (sym (eqb-true i i′ (clause _ 1 h)))
+leads-is k i (indirect n) h = absurd (false≢true h)
+
+pointer-of : (k i : ℕ) (ps : List Pointer) → 0 < count (leadsTo k i) ps → (n : ℕ) × (getD ps n nullPointer ≡ direct k i)
+unfolding count
+pointer-of k i [] h = absurd (not-suc-le-zero h)
+pointer-of k i (p ∷ ps) h = go (leadsTo k i p) refl (λ l. pointer-of k i ps l)
+  where
+    go : (t : Bool) → leadsTo k i p ≡ t → (0 < count (leadsTo k i) ps → (n : ℕ) × (getD ps n nullPointer ≡ direct k i))
+        → (n : ℕ) × (getD (p ∷ ps) n nullPointer ≡ direct k i)
+    go true e r = (0, leads-is k i p e)
+    go false e r = let z = r (omega (arith, h, ap {B = ℕ} (λ (t : Bool). cond t 1 0) e)) in (suc (z .0), z .1)
+
+held-here : (b : ℕ) (w : Version) (vs : List Version) → w .number ≡ b → heldFrom b (w ∷ vs) ≡ w ∷ vs
+unfolding heldFrom
+held-here b w vs e = ap (λ (t : Bool). cond t (w ∷ vs) (heldFrom b vs)) (eq-eqb (w .number) b e)
+
+held-later : (v : ℕ) (w : Version) (vs : List Version) → (w .number ≡ v → ⊥) → heldFrom v (w ∷ vs) ≡ heldFrom v vs
+unfolding heldFrom
+held-later v w vs e = ap (λ (t : Bool). cond t (w ∷ vs) (heldFrom v vs)) (ne-eqb (w .number) v e)
+
+version-of : (k i : ℕ) (vs : List Version) (b n : ℕ) → sameNumbers (map (λ (v : Version). v .number) vs) (counted (λ x. x) b n) ≡ true
+    → 0 < count (leadsTo k i) (pointersOf vs)
+    → (v : ℕ) × (j : ℕ) × (b ≤ v) × (getD (nextPointers (heldFrom v vs)) j nullPointer ≡ direct k i)
+unfolding sameNumbers counted joined
+version-of k i [] b n h c = unfold count in absurd (not-suc-le-zero c)
+version-of k i (w ∷ vs) b zero h c = absurd (false≢true h)
+version-of k i (w ∷ vs) b (suc n) h c =
+    let (e, r) = cond-true (eqb (w .number) b) (sameNumbers (map (λ (v : Version). v .number) vs) (counted (λ x. x) (suc b) n)) h in
+    go (ltb 0 (count (leadsTo k i) (w .pointers))) refl (eqb-true (w .number) b e) (λ l. version-of k i vs (suc b) n r l)
+  where
+    first : (w : Version) (vs : List Version) (j : ℕ) → getD (nextPointers (w ∷ vs)) j nullPointer ≡ getD (w .pointers) j nullPointer
+    first w vs j = unfold nextPointers in refl
+
+    go : (t : Bool) → ltb 0 (count (leadsTo k i) (w .pointers)) ≡ t → w .number ≡ b
+        → (0 < count (leadsTo k i) (pointersOf vs) → (v : ℕ) × (j : ℕ) × (suc b ≤ v) × (getD (nextPointers (heldFrom v vs)) j nullPointer ≡ direct k i))
+        → (v : ℕ) × (j : ℕ) × (b ≤ v) × (getD (nextPointers (heldFrom v (w ∷ vs))) j nullPointer ≡ direct k i)
+    go true q e r =
+        let z = pointer-of k i (w .pointers) (ltb-true 0 _ q) in
+        (b, z .0, le-refl b, ap (λ (l : List Version). getD (nextPointers l) (z .0) nullPointer) (held-here b w vs e) ∙ first w vs (z .0) ∙ z .1)
+    go false q e r =
+        let z = r (omega (arith, c, ltb-false 0 (count (leadsTo k i) (w .pointers)) q, count-append (leadsTo k i) (w .pointers) (pointersOf vs))) in (
+          z .0,
+          z .1,
+          omega (arith, z .2),
+          ap (λ (l : List Version). getD (nextPointers l) (z .1) nullPointer) (held-later (z .0) w vs (λ y. omega (arith, y, e, z .2))) ∙ z .3,
+        )
+
+till-of : (s : Shape) (a : Shelf) (k i : ℕ) (ts : List Till) → every (isTill s a) ts ≡ true → 0 < count (leadsTo k i) (allPointers ts)
+    → (t : ℕ) × (v : ℕ) × (j : ℕ) × (getD (nextPointers (heldFrom v (getD ts t emptyTill .versions))) j nullPointer ≡ direct k i)
+unfolding allPointers joined
+till-of s a k i [] h c = unfold count in absurd (not-suc-le-zero c)
+till-of s a k i (x ∷ ts) h c = go (ltb 0 (count (leadsTo k i) (pointersOf (x .versions)))) refl (λ l. till-of s a k i ts (every-tail (isTill s a) x ts h) l)
+  where
+    numbers : sameNumbers (map (λ (v : Version). v .number) (x .versions)) (counted (λ n. n) (suc (x .last) - length (x .versions)) (length (x .versions))) ≡ true
+    numbers = unfold isTill isNumbered in clause _ 3 (clause _ 0 (every-head (isTill s a) x ts h))
+
+    go : (q : Bool) → ltb 0 (count (leadsTo k i) (pointersOf (x .versions))) ≡ q
+        → (0 < count (leadsTo k i) (allPointers ts)
+        → (t : ℕ) × (v : ℕ) × (j : ℕ) × (getD (nextPointers (heldFrom v (getD ts t emptyTill .versions))) j nullPointer ≡ direct k i))
+        → (t : ℕ) × (v : ℕ) × (j : ℕ) × (getD (nextPointers (heldFrom v (getD (x ∷ ts) t emptyTill .versions))) j nullPointer ≡ direct k i)
+    go true q r =
+        let z = version-of k i (x .versions) (suc (x .last) - length (x .versions)) (length (x .versions)) numbers (ltb-true 0 _ q) in
+        (0, z .0, z .1, z .3)
+    go false q r =
+        let z = r (unfold allPointers in omega (
+          arith,
+          c,
+          ltb-false 0 (count (leadsTo k i) (pointersOf (x .versions))) q,
+          count-append (leadsTo k i) (pointersOf (x .versions)) (joined (map (λ (t : Till). joined (map (λ (v : Version). v .pointers) (t .versions))) ts)),
+        )) in
+        (suc (z .0), z .1, z .2, z .3)
+
+module _ (s : Shape) (st : State) (h : isSound s st ≡ true) where
+  valid : Valid s st
+  valid = sound-valid s st h
+
+  named-led : (c : ℕ) → isIn c (namedCells (st .shelf .records)) ≡ true → LedTo st c
+  unfolding isSound pointersHeld tillOf positionAt
+  named-led c e =
+      let r = record-of c (st .shelf .records) (in-uses c (namedCells (st .shelf .records)) e) in
+      let p = position-of c (getD (st .shelf .records) (r .0) []) (r .1) in
+      let positive : 0 < countIn (st .shelf) (r .0) (p .0) = held-positive (allPointers (st .tills)) 0 (st .shelf .records) (clause _ 5 h) (r .0) (p .0) (p .1) in
+      let z = till-of s (st .shelf) (r .0) (p .0) (st .tills) (valid .tills) (subst (λ (n : ℕ). 0 < n) (valid .counts (r .0) (p .0)) positive) in
+      record {
+        till = z .0;
+        version = z .1;
+        block = z .2;
+        segment = r .0;
+        position = p .0;
+        there = z .3;
+        isHere = p .1;
+        cell = p .2;
+      }
+
+  led-named : (c : ℕ) → LedTo st c → isIn c (namedCells (st .shelf .records)) ≡ true
+  unfolding positionAt
+  led-named c l =
+      let seg : Segment = getD (st .shelf .records) (l .segment) [] in
+      ap (λ (n : ℕ). isIn n (namedCells (st .shelf .records))) (sym (l .cell))
+      ∙ uses-in (cellOf (getD seg (l .position) nullPosition)) (namedCells (st .shelf .records))
+      (omega (arith, held-named seg (l .position) (l .isHere), named-one (cellOf (getD seg (l .position) nullPosition)) (st .shelf .records) (l .segment)))
+
+  pub named-leads : (c : ℕ) → (isIn c (namedCells (st .shelf .records)) ≡ true) ↔ LedTo st c
+  named-leads c = (named-led c, led-named c)

@@ -1,0 +1,113 @@
+-- A refused call, of any buffers: it alters none of them, and every other field of its answer is 0. Assumes nothing.
+use mathlib.Core.Path.{_≡_, refl, ap}
+use mathlib.Core.List.{List, [], _∷_}
+use mathlib.Core.Option.{Option, none, some}
+use Prim.Native.Nat.{ℕ}
+use lib.ListN.{length}
+use lib.Dec.{leb, ltb}
+use Rattle.lists.proofs.Tests.{by-test}
+use Rattle.model.specs.Measures.{Shape}
+use Rattle.model.specs.State.{Shelf, Version, Outcome, refused, done}
+use Rattle.model.specs.Sound.{Store, storeOf}
+use Rattle.model.specs.Calls.{layoutOf, layoutAs, backup, backupIn, backupOf, backupAnswer, restore, restoreFrom, restoreIn, restoreOf, restoreRefusal, RestoreAnswer, heldFrom, tillOf, retire, retireIn, retireOf, retireAnswer, listingIn, listingOf, listingRefusal, listTill, ListingAnswer, tallyIn, tallyOf, After}
+use Rattle.model.proofs.Empty.{layout-refused}
+use Rattle.history.specs.Calls.{Call, callLayout, callBackup, callRestore, callRetire, callListing, callTally, Buffers, refusalOf, buffersAfter, Answer, laidOut, backedUp, restored, retired, listed, tallied, answerOf}
+
+same-buffers : (b : Buffers) (pool table : List ℕ) → pool ≡ b .pool → table ≡ b .table → record { pool = pool; table = table } ≡ b
+same-buffers b pool table p q = λ i. record { pool = p i; table = q i }
+
+-- no buffer is altered
+pub alters-nothing : (b : Buffers) (call : Call) → ¬ (refusalOf b call ≡ 0) → buffersAfter b call ≡ b
+unfolding refusalOf buffersAfter
+alters-nothing b (callLayout c) h =
+    unfold layoutOf layoutAs in (let r = layout-refused _ _ _ (b .pool) (b .table) h in same-buffers b _ _ (r .0) (r .1))
+alters-nothing b (callBackup t image) h = unfold backupOf in go (storeOf (b .pool) (b .table)) h
+  where
+    one : (s : Shape) (o : Outcome After) → ¬ (backupAnswer (b .pool) (b .table) s o .refusal ≡ 0)
+        → record { pool = backupAnswer (b .pool) (b .table) s o .pool; table = backupAnswer (b .pool) (b .table) s o .table } ≡ b
+    one s (refused n) h = unfold backupAnswer in refl
+    one s (done a) h = unfold backupAnswer in absurd (h refl)
+
+    go : (o : Option Store) → ¬ (backupIn o (b .pool) (b .table) t image .refusal ≡ 0)
+        → record { pool = backupIn o (b .pool) (b .table) t image .pool; table = backupIn o (b .pool) (b .table) t image .table } ≡ b
+    go none h = unfold backupIn in refl
+    go (some x) h = unfold backupIn in one (x .shape) (backup (x .shape) (x .state) t image) h
+alters-nothing b (callRestore t v output) h = refl
+alters-nothing b (callRetire t v) h = unfold retireOf in go (storeOf (b .pool) (b .table)) h
+  where
+    one : (s : Shape) (o : Outcome After) → ¬ (retireAnswer (b .pool) (b .table) s o .refusal ≡ 0)
+        → record { pool = retireAnswer (b .pool) (b .table) s o .pool; table = retireAnswer (b .pool) (b .table) s o .table } ≡ b
+    one s (refused n) h = unfold retireAnswer in refl
+    one s (done a) h = unfold retireAnswer in absurd (h refl)
+
+    go : (o : Option Store) → ¬ (retireIn o (b .pool) (b .table) t v .refusal ≡ 0)
+        → record { pool = retireIn o (b .pool) (b .table) t v .pool; table = retireIn o (b .pool) (b .table) t v .table } ≡ b
+    go none h = unfold retireIn in refl
+    go (some x) h = unfold retireIn in one (x .shape) (retire (x .shape) (x .state) t v) h
+alters-nothing b (callListing t) h = refl
+alters-nothing b callTally h = refl
+
+-- the answer of a refusal
+unfoldable pub refusedWith : ℕ → Call → Answer
+refusedWith n (callLayout c) = laidOut n
+refusedWith n (callBackup t image) = backedUp n 0
+refusedWith n (callRestore t v output) = restored (record { refusal = n; length = 0; hops = 0; output = output })
+refusedWith n (callRetire t v) = retired n 0
+refusedWith n (callListing t) = listed (record { refusal = n; oldest = 0; newest = 0; last = 0 })
+refusedWith n callTally = tallied (record { refusal = n; cells = 0; records = 0; counts = 0 })
+
+abbrev ZeroRestore : List ℕ → RestoreAnswer → Type 0
+ZeroRestore output r = ¬ (r .refusal ≡ 0) → r ≡ record { refusal = r .refusal; length = 0; hops = 0; output = output }
+
+from-zero : (bytes : ℕ) (a : Shelf) (output : List ℕ) (vs : List Version) → ZeroRestore output (restoreFrom bytes a vs output)
+unfolding restoreFrom restoreRefusal
+from-zero bytes a output [] = λ h. refl
+from-zero bytes a output (v ∷ newer) = by-test (ZeroRestore output) (ltb (length output) (v .length)) (λ e h. refl) (λ e h. absurd (h refl))
+
+restore-zero : (t v : ℕ) (output : List ℕ) (o : Option Store) → ZeroRestore output (restoreIn o t v output)
+unfolding restoreIn restore restoreRefusal
+restore-zero t v output none = λ h. refl
+restore-zero t v output (some x) =
+    by-test (ZeroRestore output) (leb (x .shape .capacities .tills) t) (λ e h. refl)
+    (λ e. from-zero (x .shape .measures .blockBytes) (x .state .shelf) output (heldFrom v (tillOf (x .state) t .versions)))
+
+abbrev ZeroListing : ListingAnswer → Type 0
+ZeroListing r = ¬ (r .refusal ≡ 0) → r ≡ record { refusal = r .refusal; oldest = 0; newest = 0; last = 0 }
+
+listing-zero : (t : ℕ) (o : Option Store) → ZeroListing (listingIn o t)
+unfolding listingIn listingRefusal listTill
+listing-zero t none = λ h. refl
+listing-zero t (some x) = by-test ZeroListing (leb (x .shape .capacities .tills) t) (λ e h. refl) (λ e h. absurd (h refl))
+
+pub answers-number-only : (b : Buffers) (call : Call) → ¬ (refusalOf b call ≡ 0) → answerOf b call ≡ refusedWith (refusalOf b call) call
+unfolding refusalOf answerOf refusedWith
+answers-number-only b (callLayout c) h = refl
+answers-number-only b (callBackup t image) h = unfold backupOf in go (storeOf (b .pool) (b .table)) h
+  where
+    one : (s : Shape) (o : Outcome After) → ¬ (backupAnswer (b .pool) (b .table) s o .refusal ≡ 0)
+        → backedUp (backupAnswer (b .pool) (b .table) s o .refusal) (backupAnswer (b .pool) (b .table) s o .version) ≡ backedUp (backupAnswer (b .pool) (b .table) s o .refusal) 0
+    one s (refused n) h = unfold backupAnswer in refl
+    one s (done a) h = unfold backupAnswer in absurd (h refl)
+
+    go : (o : Option Store) → ¬ (backupIn o (b .pool) (b .table) t image .refusal ≡ 0)
+        → backedUp (backupIn o (b .pool) (b .table) t image .refusal) (backupIn o (b .pool) (b .table) t image .version) ≡ backedUp (backupIn o (b .pool) (b .table) t image .refusal) 0
+    go none h = unfold backupIn in refl
+    go (some x) h = unfold backupIn in one (x .shape) (backup (x .shape) (x .state) t image) h
+answers-number-only b (callRestore t v output) h = unfold restoreOf in ap restored (restore-zero t v output (storeOf (b .pool) (b .table)) h)
+answers-number-only b (callRetire t v) h = unfold retireOf in go (storeOf (b .pool) (b .table)) h
+  where
+    one : (s : Shape) (o : Outcome After) → ¬ (retireAnswer (b .pool) (b .table) s o .refusal ≡ 0)
+        → retired (retireAnswer (b .pool) (b .table) s o .refusal) (retireAnswer (b .pool) (b .table) s o .length) ≡ retired (retireAnswer (b .pool) (b .table) s o .refusal) 0
+    one s (refused n) h = unfold retireAnswer in refl
+    one s (done a) h = unfold retireAnswer in absurd (h refl)
+
+    go : (o : Option Store) → ¬ (retireIn o (b .pool) (b .table) t v .refusal ≡ 0)
+        → retired (retireIn o (b .pool) (b .table) t v .refusal) (retireIn o (b .pool) (b .table) t v .length) ≡ retired (retireIn o (b .pool) (b .table) t v .refusal) 0
+    go none h = unfold retireIn in refl
+    go (some x) h = unfold retireIn in one (x .shape) (retire (x .shape) (x .state) t v) h
+answers-number-only b (callListing t) h = unfold listingOf in ap listed (listing-zero t (storeOf (b .pool) (b .table)) h)
+answers-number-only b callTally h = unfold tallyOf in ap tallied (go (storeOf (b .pool) (b .table)) h)
+  where
+    go : (o : Option Store) → ¬ (tallyIn o .refusal ≡ 0) → tallyIn o ≡ record { refusal = tallyIn o .refusal; cells = 0; records = 0; counts = 0 }
+    go none h = unfold tallyIn in refl
+    go (some x) h = unfold tallyIn in absurd (h refl)

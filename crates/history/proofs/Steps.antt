@@ -1,0 +1,136 @@
+-- Call by call on the buffers: they are the words and bytes of a state that calls reach, and each call leaves such.
+use mathlib.Core.Path.{_≡_, refl, sym, ap, ap₂, _∙_}
+use mathlib.Core.List.{List, [], _∷_}
+use mathlib.Core.Option.{Option, some}
+use Prim.Native.Nat.{ℕ}
+use lib.Dec.{eqb}
+use Rattle.model.specs.Measures.{Shape}
+use Rattle.model.specs.State.{State, Outcome, refused, done}
+use Rattle.model.specs.Table.{stateToWords, stateToBytes}
+use Rattle.model.specs.Sound.{Store, storeOf}
+use Rattle.model.specs.Calls.{emptyState, layoutAs, layoutOf, backup, backupIn, backupOf, backupAnswer, restoreIn, restoreOf, retire, retireIn, retireOf, retireAnswer, listingIn, listingOf, tallyIn, tallyOf, After}
+use Rattle.model.proofs.Fits.{Fit}
+use Rattle.model.proofs.RoundTrip.{round-trip}
+use Rattle.model.proofs.Empty.{layout-refused, layout-accepted}
+use Rattle.history.specs.Calls.{Call, callLayout, callBackup, callRestore, callRetire, callListing, callTally, Buffers, refusalOf, buffersAfter, buffersAfterAll, laidOut, backedUp, restored, retired, listed, tallied, answerOf, answersOf, refusalIn, refusedLayout, refusedLayouts, stateOr, stateAfter, stateAfterAll, outcomeRefusal, outcomeNumber, answerIn, answersIn, isAccepted}
+use Rattle.history.specs.Keeper.{Keeper, freshKeeper, fed, fedAll}
+use Rattle.history.specs.Demand.{laidOutIn}
+use Rattle.history.proofs.Images.{keeperOf}
+use Rattle.history.proofs.Reach.{Good, good-empty, good-after, kept-after, fresh-kept}
+
+pub record Left (s : Shape) (b : Buffers) (st : State) : Type 0 where
+  pub fit : Fit s
+  pub pool : b .pool ≡ stateToBytes st
+  pub table : b .table ≡ stateToWords s st
+  pub good : Good s st
+
+-- the store that a call finds
+pub left-store : (s : Shape) (b : Buffers) (st : State) → Left s b st → storeOf (b .pool) (b .table) ≡ some (record { shape = s; state = st })
+left-store s b st e = ap₂ storeOf (e .pool) (e .table) ∙ round-trip s st (e .fit) (e .good .sound)
+
+-- ---- what is left
+
+backup-words : (s : Shape) (b : Buffers) (st : State) (o : Outcome After) → b .pool ≡ stateToBytes st → b .table ≡ stateToWords s st
+    → (backupAnswer (b .pool) (b .table) s o .pool ≡ stateToBytes (stateOr st o)) × (backupAnswer (b .pool) (b .table) s o .table ≡ stateToWords s (stateOr st o))
+unfolding backupAnswer stateOr
+backup-words s b st (refused n) p q = (p, q)
+backup-words s b st (done a) p q = (refl, refl)
+
+retire-words : (s : Shape) (b : Buffers) (st : State) (o : Outcome After) → b .pool ≡ stateToBytes st → b .table ≡ stateToWords s st
+    → (retireAnswer (b .pool) (b .table) s o .pool ≡ stateToBytes (stateOr st o)) × (retireAnswer (b .pool) (b .table) s o .table ≡ stateToWords s (stateOr st o))
+unfolding retireAnswer stateOr
+retire-words s b st (refused n) p q = (p, q)
+retire-words s b st (done a) p q = (refl, refl)
+
+pub left-one : (s : Shape) (b : Buffers) (st : State) (call : Call) → Left s b st → refusedLayout b call → Left s (buffersAfter b call) (stateAfter s st call)
+left-one s b st call e r = record { fit = e .fit; pool = words call r .0; table = words call r .1; good = good-after s (e .fit .proper) st (e .good) call }
+  where
+    words : (call : Call) → refusedLayout b call
+        → (buffersAfter b call .pool ≡ stateToBytes (stateAfter s st call)) × (buffersAfter b call .table ≡ stateToWords s (stateAfter s st call))
+    words (callLayout c) r =
+        unfold buffersAfter stateAfter layoutOf layoutAs in (let z = layout-refused _ _ _ (b .pool) (b .table) r in (z .0 ∙ e .pool, z .1 ∙ e .table))
+    words (callBackup t image) r =
+        unfold buffersAfter stateAfter backupOf backupIn in rw (left-store s b st e) (backup-words s b st (backup s st t image) (e .pool) (e .table))
+    words (callRestore t v output) r = unfold buffersAfter stateAfter in (e .pool, e .table)
+    words (callRetire t v) r =
+        unfold buffersAfter stateAfter retireOf retireIn in rw (left-store s b st e) (retire-words s b st (retire s st t v) (e .pool) (e .table))
+    words (callListing t) r = unfold buffersAfter stateAfter in (e .pool, e .table)
+    words callTally r = unfold buffersAfter stateAfter in (e .pool, e .table)
+
+pub left-all : (s : Shape) (calls : List Call) (b : Buffers) (st : State) → Left s b st → refusedLayouts b calls → Left s (buffersAfterAll b calls) (stateAfterAll s st calls)
+unfolding buffersAfterAll stateAfterAll
+left-all s [] b st l r = l
+left-all s (call ∷ calls) b st l r = left-all s calls (buffersAfter b call) (stateAfter s st call) (left-one s b st call l (r .0)) (r .1)
+
+-- an accepted lay out leaves the empty state
+pub left-laid : (s : Shape) → Fit s → (pool table : List ℕ) → layoutAs s pool table .refusal ≡ 0 → Left s (laidOutIn s pool table) (emptyState s)
+unfolding laidOutIn
+left-laid s fit pool table h =
+    let a = layout-accepted s pool table h in record { fit = fit; pool = a .1; table = a .2; good = good-empty s (a .0) }
+
+-- ---- what is answered
+
+-- what a call answers on the buffers is what it answers on the state
+pub answer-same : (s : Shape) (b : Buffers) (st : State) (call : Call) → Left s b st → answerOf b call ≡ answerIn s st call
+unfolding answerOf answerIn
+answer-same s b st (callLayout c) e = ap₂ (λ (pool table : List ℕ). laidOut (layoutOf c pool table .refusal)) (e .pool) (e .table)
+answer-same s b st (callBackup t image) e =
+    unfold backupOf in
+    (ap (λ (o : Option Store). backedUp (backupIn o (b .pool) (b .table) t image .refusal) (backupIn o (b .pool) (b .table) t image .version)) (left-store s b st e)
+    ∙ (unfold backupIn in go (backup s st t image)))
+  where
+    go : (o : Outcome After) → backedUp (backupAnswer (b .pool) (b .table) s o .refusal) (backupAnswer (b .pool) (b .table) s o .version) ≡ backedUp (outcomeRefusal o) (outcomeNumber o)
+    go (refused n) = unfold backupAnswer outcomeRefusal outcomeNumber in refl
+    go (done a) = unfold backupAnswer outcomeRefusal outcomeNumber in refl
+answer-same s b st (callRestore t v output) e = unfold restoreOf restoreIn in ap (λ (o : Option Store). restored (restoreIn o t v output)) (left-store s b st e)
+answer-same s b st (callRetire t v) e =
+    unfold retireOf in
+    (ap (λ (o : Option Store). retired (retireIn o (b .pool) (b .table) t v .refusal) (retireIn o (b .pool) (b .table) t v .length)) (left-store s b st e)
+    ∙ (unfold retireIn in go (retire s st t v)))
+  where
+    go : (o : Outcome After) → retired (retireAnswer (b .pool) (b .table) s o .refusal) (retireAnswer (b .pool) (b .table) s o .length) ≡ retired (outcomeRefusal o) (outcomeNumber o)
+    go (refused n) = unfold retireAnswer outcomeRefusal outcomeNumber in refl
+    go (done a) = unfold retireAnswer outcomeRefusal outcomeNumber in refl
+answer-same s b st (callListing t) e = unfold listingOf in ap (λ (o : Option Store). listed (listingIn o t)) (left-store s b st e)
+answer-same s b st callTally e = unfold tallyOf in ap (λ (o : Option Store). tallied (tallyIn o)) (left-store s b st e)
+
+pub answers-same : (s : Shape) (calls : List Call) (b : Buffers) (st : State) → Left s b st → refusedLayouts b calls → answersOf b calls ≡ answersIn s st calls
+unfolding answersOf answersIn
+answers-same s [] b st e r = refl
+answers-same s (call ∷ calls) b st e r =
+    ap₂ _∷_ (answer-same s b st call e) (answers-same s calls (buffersAfter b call) (stateAfter s st call) (left-one s b st call e (r .0)) (r .1))
+
+-- the refusal is the one that the answer carries
+pub refusal-in : (b : Buffers) (call : Call) → refusalIn (answerOf b call) ≡ refusalOf b call
+unfolding refusalIn answerOf refusalOf
+refusal-in b (callLayout c) = refl
+refusal-in b (callBackup t image) = refl
+refusal-in b (callRestore t v output) = refl
+refusal-in b (callRetire t v) = refl
+refusal-in b (callListing t) = refl
+refusal-in b callTally = refl
+
+pub accepted-same : (s : Shape) (b : Buffers) (st : State) (call : Call) → Left s b st → eqb (refusalOf b call) 0 ≡ isAccepted s st call
+unfolding isAccepted
+accepted-same s b st call e = ap (λ (n : ℕ). eqb n 0) (sym (refusal-in b call) ∙ ap refusalIn (answer-same s b st call e))
+
+-- ---- the keeper
+
+pub fed-after : (s : Shape) (b : Buffers) (st : State) (call : Call) → Left s b st
+    → fed (keeperOf (s .measures .blockBytes) st) call (eqb (refusalOf b call) 0) ≡ keeperOf (s .measures .blockBytes) (stateAfter s st call)
+fed-after s b st call e =
+    ap (fed (keeperOf (s .measures .blockBytes) st) call) (accepted-same s b st call e) ∙ sym (kept-after s (e .fit .proper) st (e .good) call)
+
+pub fed-after-all : (s : Shape) (calls : List Call) (b : Buffers) (st : State) → Left s b st → refusedLayouts b calls
+    → fedAll (keeperOf (s .measures .blockBytes) st) b calls ≡ keeperOf (s .measures .blockBytes) (stateAfterAll s st calls)
+unfolding fedAll stateAfterAll
+fed-after-all s [] b st e h = refl
+fed-after-all s (call ∷ calls) b st e h =
+    ap (λ (k : Keeper). fedAll k (buffersAfter b call) calls) (fed-after s b st call e)
+    ∙ fed-after-all s calls (buffersAfter b call) (stateAfter s st call) (left-one s b st call e (h .0)) (h .1)
+
+-- After every list of calls the keeper has, for each till, the last number and for each held version its number and the image that tracing gives.
+pub list-kept : (s : Shape) → Fit s → (pool table : List ℕ) (calls : List Call) → layoutAs s pool table .refusal ≡ 0 → refusedLayouts (laidOutIn s pool table) calls
+    → fedAll (freshKeeper (s .capacities)) (laidOutIn s pool table) calls ≡ keeperOf (s .measures .blockBytes) (stateAfterAll s (emptyState s) calls)
+list-kept s fit pool table calls a h =
+    ap (λ (k : Keeper). fedAll k (laidOutIn s pool table) calls) (fresh-kept s) ∙ fed-after-all s calls (laidOutIn s pool table) (emptyState s) (left-laid s fit pool table a) h

@@ -1,0 +1,133 @@
+-- "A list of calls": what each answers and leaves on the buffers, and on the state with no buffer in between.
+use Prim.Native.Nat.{ℕ}
+use mathlib.Core.Path.{_≡_}
+use mathlib.Core.Bool.{Bool}
+use mathlib.Core.List.{List, [], _∷_}
+use mathlib.Core.Option.{some}
+use lib.Dec.{eqb}
+use Rattle.model.specs.Measures.{Capacities, Shape}
+use Rattle.model.specs.State.{State, Outcome, refused, done}
+use Rattle.model.specs.Table.{stateToWords, stateToBytes}
+use Rattle.model.specs.Calls.{layoutOf, backupOf, restoreOf, retireOf, listingOf, tallyOf, backup, restore, retire, listingIn, tallyIn, RestoreAnswer, ListingAnswer, TallyAnswer, After}
+
+-- A call with its arguments, any of them. Table length takes no buffer and is no call of the list.
+pub data Call : Type 0 where
+  callLayout : (capacities : Capacities) → Call
+  callBackup : (till : ℕ) (image : List ℕ) → Call
+  callRestore : (till version : ℕ) (output : List ℕ) → Call
+  callRetire : (till version : ℕ) → Call
+  callListing : (till : ℕ) → Call
+  callTally : Call
+
+-- the two buffers
+pub record Buffers : Type 0 where
+  pub pool : List ℕ
+  pub table : List ℕ
+
+-- the number of the refusal, or 0
+unfoldable pub refusalOf : Buffers → Call → ℕ
+refusalOf b (callLayout c) = layoutOf c (b .pool) (b .table) .refusal
+refusalOf b (callBackup t image) = backupOf (b .pool) (b .table) t image .refusal
+refusalOf b (callRestore t v output) = restoreOf (b .pool) (b .table) t v output .refusal
+refusalOf b (callRetire t v) = retireOf (b .pool) (b .table) t v .refusal
+refusalOf b (callListing t) = listingOf (b .pool) (b .table) t .refusal
+refusalOf b callTally = tallyOf (b .pool) (b .table) .refusal
+
+-- the buffers after a call
+unfoldable pub buffersAfter : Buffers → Call → Buffers
+buffersAfter b (callLayout c) = record { pool = layoutOf c (b .pool) (b .table) .pool; table = layoutOf c (b .pool) (b .table) .table }
+buffersAfter b (callBackup t image) = record { pool = backupOf (b .pool) (b .table) t image .pool; table = backupOf (b .pool) (b .table) t image .table }
+buffersAfter b (callRestore t v output) = b
+buffersAfter b (callRetire t v) = record { pool = retireOf (b .pool) (b .table) t v .pool; table = retireOf (b .pool) (b .table) t v .table }
+buffersAfter b (callListing t) = b
+buffersAfter b callTally = b
+
+unfoldable pub buffersAfterAll : Buffers → List Call → Buffers
+buffersAfterAll b [] = b
+buffersAfterAll b (c ∷ cs) = buffersAfterAll (buffersAfter b c) cs
+
+-- what a call answers; a restore's has the output too
+pub data Answer : Type 0 where
+  laidOut : (refusal : ℕ) → Answer
+  backedUp : (refusal version : ℕ) → Answer
+  restored : (answer : RestoreAnswer) → Answer
+  retired : (refusal length : ℕ) → Answer
+  listed : (answer : ListingAnswer) → Answer
+  tallied : (answer : TallyAnswer) → Answer
+
+unfoldable pub answerOf : Buffers → Call → Answer
+answerOf b (callLayout c) = laidOut (layoutOf c (b .pool) (b .table) .refusal)
+answerOf b (callBackup t image) = backedUp (backupOf (b .pool) (b .table) t image .refusal) (backupOf (b .pool) (b .table) t image .version)
+answerOf b (callRestore t v output) = restored (restoreOf (b .pool) (b .table) t v output)
+answerOf b (callRetire t v) = retired (retireOf (b .pool) (b .table) t v .refusal) (retireOf (b .pool) (b .table) t v .length)
+answerOf b (callListing t) = listed (listingOf (b .pool) (b .table) t)
+answerOf b callTally = tallied (tallyOf (b .pool) (b .table))
+
+-- the number of the refusal that an answer carries, or 0
+unfoldable pub refusalIn : Answer → ℕ
+refusalIn (laidOut n) = n
+refusalIn (backedUp n v) = n
+refusalIn (restored a) = a .refusal
+refusalIn (retired n l) = n
+refusalIn (listed a) = a .refusal
+refusalIn (tallied a) = a .refusal
+
+-- the answers of a list of calls, each with the buffers as the last one left them
+unfoldable pub answersOf : Buffers → List Call → List Answer
+answersOf b [] = []
+answersOf b (c ∷ cs) = answerOf b c ∷ answersOf (buffersAfter b c) cs
+
+-- every lay out of the list is refused when it is made
+abbrev pub refusedLayout : Buffers → Call → Type 0
+refusedLayout b (callLayout c) = ¬ (layoutOf c (b .pool) (b .table) .refusal ≡ 0)
+refusedLayout b (callBackup t image) = Unit {0}
+refusedLayout b (callRestore t v output) = Unit {0}
+refusedLayout b (callRetire t v) = Unit {0}
+refusedLayout b (callListing t) = Unit {0}
+refusedLayout b callTally = Unit {0}
+
+abbrev pub refusedLayouts : Buffers → List Call → Type 0
+refusedLayouts b [] = Unit {0}
+refusedLayouts b (c ∷ cs) = refusedLayout b c × refusedLayouts (buffersAfter b c) cs
+
+-- ---- the state, call by call from the empty store, with no buffer in between
+
+unfoldable pub stateOr : State → Outcome After → State
+stateOr st (refused n) = st
+stateOr st (done a) = a .state
+
+unfoldable pub stateAfter : Shape → State → Call → State
+stateAfter s st (callLayout c) = st
+stateAfter s st (callBackup t image) = stateOr st (backup s st t image)
+stateAfter s st (callRestore t v output) = st
+stateAfter s st (callRetire t v) = stateOr st (retire s st t v)
+stateAfter s st (callListing t) = st
+stateAfter s st callTally = st
+
+unfoldable pub stateAfterAll : Shape → State → List Call → State
+stateAfterAll s st [] = st
+stateAfterAll s st (c ∷ cs) = stateAfterAll s (stateAfter s st c) cs
+
+unfoldable pub outcomeRefusal : Outcome After → ℕ
+outcomeRefusal (refused n) = n
+outcomeRefusal (done a) = 0
+
+unfoldable pub outcomeNumber : Outcome After → ℕ
+outcomeNumber (refused n) = 0
+outcomeNumber (done a) = a .answer
+
+-- what each call answers on a state: there is always a sound store, so no call gets 10
+unfoldable pub answerIn : Shape → State → Call → Answer
+answerIn s st (callLayout c) = laidOut (layoutOf c (stateToBytes st) (stateToWords s st) .refusal)
+answerIn s st (callBackup t image) = backedUp (outcomeRefusal (backup s st t image)) (outcomeNumber (backup s st t image))
+answerIn s st (callRestore t v output) = restored (restore s st t v output)
+answerIn s st (callRetire t v) = retired (outcomeRefusal (retire s st t v)) (outcomeNumber (retire s st t v))
+answerIn s st (callListing t) = listed (listingIn (some (record { shape = s; state = st })) t)
+answerIn s st callTally = tallied (tallyIn (some (record { shape = s; state = st })))
+
+unfoldable pub answersIn : Shape → State → List Call → List Answer
+answersIn s st [] = []
+answersIn s st (c ∷ cs) = answerIn s st c ∷ answersIn s (stateAfter s st c) cs
+
+unfoldable pub isAccepted : Shape → State → Call → Bool
+isAccepted s st call = eqb (refusalIn (answerIn s st call)) 0

@@ -1,0 +1,133 @@
+-- Demand 3: what holds after every list of calls. One type, `Demand3`, with a field for each sentence of the page; proofs/Demand.antt has its proof.
+use Prim.Native.Nat.{ℕ, suc, _-_, _≤_, _<_}
+use mathlib.Core.Path.{_≡_}
+use mathlib.Core.Logic.{_↔_}
+use mathlib.Core.Bool.{true, false}
+use mathlib.Core.List.{List, [], _∷_, _++_, map}
+use mathlib.Core.Option.{some}
+use lib.ListN.{length, getD, drop}
+use Rattle.lists.specs.Lists.{counted, count, isIn, allZero}
+use Rattle.model.specs.Measures.{Capacities, Shape, shapeFor}
+use Rattle.model.specs.State.{Block, Pointer, nullPointer, direct, indirect, State}
+use Rattle.model.specs.Image.{imageBlocks}
+use Rattle.model.specs.Records.{namedCells, cellAt, positionAt, cellOf, isHeld}
+use Rattle.model.specs.Table.{stateToWords, stateToBytes, cellsIn}
+use Rattle.model.specs.Sound.{storeOf, nextPointers}
+use Rattle.model.specs.Calls.{layoutAs, backupOf, restoreOf, RestoreAnswer, retireOf, listingOf, ListingAnswer, tallyOf, emptyState, tillOf, heldFrom}
+use Rattle.history.specs.Calls.{Call, callBackup, Buffers, buffersAfterAll, answersOf, refusedLayouts, stateAfterAll, answersIn}
+use Rattle.history.specs.Keeper.{Kept, Keeper, freshKeeper, keptTill, fed, fedAll, keptFrom, oldestKept, newestKept}
+use Rattle.history.specs.Kinds.{kindOf, kindsKept, longestKept}
+
+-- the pointers of a till's version of that number; `nextPointers` gives those of the first version of a list
+unfoldable pub pointersHeld : State → ℕ → ℕ → List Pointer
+pointersHeld st t v = nextPointers (heldFrom v (tillOf st t .versions))
+
+abbrev pub IsDirect : Pointer → Type 0
+IsDirect nullPointer = ⊥
+IsDirect (direct k i) = Unit {0}
+IsDirect (indirect n) = ⊥
+
+-- a cell that some held version's direct pointer leads to
+pub record LedTo (st : State) (c : ℕ) : Type 0 where
+  pub till : ℕ
+  pub version : ℕ
+  pub block : ℕ
+  pub segment : ℕ
+  pub position : ℕ
+  pub there : getD (pointersHeld st till version) block nullPointer ≡ direct segment position
+  pub isHere : isHeld (positionAt (st .shelf) segment position) ≡ true
+  pub cell : cellOf (positionAt (st .shelf) segment position) ≡ c
+
+-- After a list: the state `st`, the keeper `k` and the buffers `b`, for blocks of that many bytes.
+module _ (bytes : ℕ) (st : State) (k : Keeper) (b : Buffers) where
+  -- version `v` of till `t` is held, by the keeper: it is `x`, and `newer` are the newer ones, the next newer first
+  abbrev pub IsKept : ℕ → ℕ → Kept → List Kept → Type 0
+  IsKept t v x newer = keptFrom v (keptTill k t .versions) ≡ x ∷ newer
+
+  abbrev pub restoring : ℕ → ℕ → List ℕ → RestoreAnswer
+  restoring t v output = restoreOf (b .pool) (b .table) t v output
+
+  pub record Restores : Type 0 where
+    -- "A restore of a held version, with an output long enough, gets none of 10, 3, 15 and 5": it is accepted, "answers the image's length and writes the
+    -- image; later bytes of the output stay"; and its longest chain is what the kept images say
+    pub given : (t v : ℕ) (x : Kept) (newer : List Kept) (output : List ℕ) → IsKept t v x newer → length (x .image) ≤ length output
+        → (restoring t v output .refusal ≡ 0)
+        × (restoring t v output .length ≡ length (x .image))
+        × (restoring t v output .output ≡ x .image ++ drop (length (x .image)) output)
+        × (restoring t v output .hops ≡ longestKept bytes (x ∷ newer))
+    pub short : (t v : ℕ) (x : Kept) (newer : List Kept) (output : List ℕ) → IsKept t v x newer → length output < length (x .image)
+        → restoring t v output .refusal ≡ 5
+    -- "A restore of a version not held is refused"
+    pub notHeld : (t v : ℕ) (output : List ℕ) → keptFrom v (keptTill k t .versions) ≡ [] → ¬ (restoring t v output .refusal ≡ 0)
+    -- "The longest chain that restore answers … is 0 for a till's newest version and for another at most the number of newer ones held": both in one
+    pub chain : (t v : ℕ) (x : Kept) (newer : List Kept) (output : List ℕ) → IsKept t v x newer → restoring t v output .hops ≤ length newer
+
+  abbrev pub listingAt : ℕ → ListingAnswer
+  listingAt t = listingOf (b .pool) (b .table) t
+
+  pub record Answers : Type 0 where
+    -- "An accepted listing answers the keeper's oldest, newest (0 and 0 if none is held) and last number"
+    pub listing : (t : ℕ) → listingAt t .refusal ≡ 0
+        → (listingAt t .oldest ≡ oldestKept (keptTill k t .versions))
+        × (listingAt t .newest ≡ newestKept (keptTill k t .versions))
+        × (listingAt t .last ≡ keptTill k t .last)
+    -- "an accepted backup the keeper's new last number"
+    pub backup : (t : ℕ) (image : List ℕ) → backupOf (b .pool) (b .table) t image .refusal ≡ 0
+        → backupOf (b .pool) (b .table) t image .version ≡ keptTill (fed k (callBackup t image) true) t .last
+    -- "an accepted retire the struck image's length"
+    pub retire : (t v : ℕ) → retireOf (b .pool) (b .table) t v .refusal ≡ 0
+        → (x : Kept) × (newer : List Kept) × (IsKept t v x newer) × (retireOf (b .pool) (b .table) t v .length ≡ length (x .image))
+
+  -- block `n` of a kept image
+  abbrev pub blockOf : Kept → ℕ → Block
+  blockOf x n = getD (imageBlocks bytes (x .image)) n []
+
+  pub record Shares : Type 0 where
+    -- "If a non-null block of an image equals a block of the next newer version's image, its pointer is not direct"
+    pub notDirect : (t v : ℕ) (x y : Kept) (newer : List Kept) (n i : ℕ) → IsKept t v x (y ∷ newer)
+        → n < length (imageBlocks bytes (x .image)) → i < length (imageBlocks bytes (y .image)) → ¬ (allZero (blockOf x n) ≡ true) → blockOf x n ≡ blockOf y i
+        → ¬ IsDirect (getD (pointersHeld st t v) n nullPointer)
+    -- exactly: null, else indirect to the lowest equal block of the next newer image, else direct
+    pub kinds : (t v : ℕ) → map kindOf (pointersHeld st t v) ≡ kindsKept bytes (keptFrom v (keptTill k t .versions))
+
+  -- "The occupied cells (those that positions name), the cells with a byte other than zero, and the cells that some held version's direct pointer leads
+  -- to are the same ones; an accepted tally's first number counts them"
+  pub record Cells (s : Shape) : Type 0 where
+    pub inPool : cellsIn bytes (b .pool) ≡ st .shelf .cells
+    pub nonZero : (c : ℕ) → (isIn c (namedCells (st .shelf .records)) ≡ true) ↔ (allZero (cellAt (st .shelf) c) ≡ false)
+    pub led : (c : ℕ) → (isIn c (namedCells (st .shelf .records)) ≡ true) ↔ LedTo st c
+    pub inside : (c : ℕ) → isIn c (namedCells (st .shelf .records)) ≡ true → c < s .capacities .cells
+    pub counts : tallyOf (b .pool) (b .table) .refusal ≡ 0
+        → tallyOf (b .pool) (b .table) .cells ≡ count (λ c. isIn c (namedCells (st .shelf .records))) (counted (λ c. c) 0 (s .capacities .cells))
+
+  pub record Holds (s : Shape) : Type 0 where
+    -- "the store [is the one] that the calls … give call by call from the empty store"
+    pub isStore : storeOf (b .pool) (b .table) ≡ some (record { shape = s; state = st })
+    pub pool : b .pool ≡ stateToBytes st
+    pub table : b .table ≡ stateToWords s st
+    -- the keeper's versions stand in the order of their numbers, without gaps up to the last: newer in the list is newer by number
+    pub numbers : (t : ℕ) → map (λ (x : Kept). x .number) (keptTill k t .versions)
+        ≡ counted (λ n. n) (suc (keptTill k t .last) - length (keptTill k t .versions)) (length (keptTill k t .versions))
+    pub restores : Restores
+    pub answers : Answers
+    pub shares : Shares
+    pub cells : Cells s
+
+-- a list of calls from a store laid out in `b`
+pub record Demands (s : Shape) (b : Buffers) (calls : List Call) : Type 0 where
+  -- "the answers … are those that the calls … give call by call from the empty store"
+  pub answers : answersOf b calls ≡ answersIn s (emptyState s) calls
+  pub after : Holds (s .measures .blockBytes) (stateAfterAll s (emptyState s) calls) (fedAll (freshKeeper (s .capacities)) b calls) (buffersAfterAll b calls) s
+
+unfoldable pub laidOutIn : Shape → List ℕ → List ℕ → Buffers
+laidOutIn s pool table = record { pool = layoutAs s pool table .pool; table = layoutAs s pool table .table }
+
+-- From any accepted lay out with that shape, after every list of calls, with any arguments, whose lay outs are refused.
+abbrev pub DemandOf : Shape → Type 0
+DemandOf s =
+    (pool table : List ℕ) (calls : List Call) → layoutAs s pool table .refusal ≡ 0 → refusedLayouts (laidOutIn s pool table) calls
+    → Demands s (laidOutIn s pool table) calls
+
+-- The single claim. `layoutOf c` is `layoutAs (shapeFor c)`.
+abbrev pub Demand3 : Type 0
+Demand3 = (c : Capacities) → DemandOf (shapeFor c)
