@@ -12,7 +12,7 @@ use Rattle.lists.proofs.Sets.{set-agree}
 use Rattle.model.specs.Measures.{Shape}
 use Rattle.model.specs.State.{State}
 use Rattle.model.specs.Calls.{tillOf}
-use Rattle.model.proofs.Serves.{sound-valid}
+use Rattle.laws.proofs.Serves.{sound-valid}
 use Rattle.history.specs.Calls.{Call, callLayout, callBackup, callRestore, callRetire, callListing, callTally, Buffers, refusalOf, answerOf, buffersAfter, refusedLayout, stateAfter, refusalIn}
 use Rattle.history.specs.Keeper.{KeptTill, Keeper, noTill, keptTill, fed}
 use Rattle.history.specs.View.{viewOf, viewFrom, isOnTill, tillNamed, answerKept, change}

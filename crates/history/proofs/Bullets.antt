@@ -16,7 +16,7 @@ use Rattle.model.specs.Measures.{Measures, Shape}
 use Rattle.model.specs.State.{Block, State}
 use Rattle.model.specs.Image.{imageBlocks}
 use Rattle.model.specs.Calls.{backupOf, restoreOf, restoreRefusal, retireOf, listingOf, listingRefusal, RestoreAnswer, ListingAnswer, retire, backup}
-use Rattle.model.proofs.Serves.{sound-valid}
+use Rattle.laws.proofs.Serves.{sound-valid}
 use Rattle.history.specs.Calls.{Call, callBackup, callRestore, callRetire, callListing, Buffers, Answer, laidOut, backedUp, restored, retired, listed, tallied, answerOf, refusalIn}
 use Rattle.history.specs.Keeper.{Kept, KeptTill, noTill, keptTill, filed, fed, keptFrom, oldestKept, newestKept}
 use Rattle.history.specs.Kinds.{Kind, zeroKind, directKind, indirectKind, kindFor, firstBlocks, kindsKept, hopsOfKind, hopsKept, longestKept}

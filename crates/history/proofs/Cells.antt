@@ -20,10 +20,10 @@ use Rattle.model.specs.State.{Pointer, nullPointer, direct, indirect, nullPosit
 use Rattle.model.specs.Records.{isHeld, cellOf, countOf, cellsOf, namedCells, positionAt}
 use Rattle.model.specs.Sound.{isSound, isTill, isNumbered, leadsTo, nextPointers, allPointers, areCounted, allCounted}
 use Rattle.model.specs.Calls.{emptyTill, tillOf, heldFrom}
-use Rattle.model.proofs.Sweep.{countIn, named-one}
-use Rattle.model.proofs.Counts.{at}
-use Rattle.model.proofs.Place.{held-named}
-use Rattle.model.proofs.Serves.{pointersOf, Valid, sound-valid}
+use Rattle.laws.proofs.Sweep.{countIn, named-one}
+use Rattle.laws.proofs.Counts.{at}
+use Rattle.laws.proofs.Place.{held-named}
+use Rattle.laws.proofs.Serves.{pointersOf, Valid, sound-valid}
 use Rattle.history.specs.Demand.{pointersHeld, LedTo}
 
 -- ---- occupied and led to

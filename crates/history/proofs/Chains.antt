@@ -21,8 +21,8 @@ use Rattle.model.specs.Image.{imageBlocks}
 use Rattle.model.specs.Trace.{hopsVia, hops, longestChain, tracedBlock, tracedBlocks}
 use Rattle.model.specs.Sound.{isSound, areTraceable, nextPointers, leadsTo, allPointers}
 use Rattle.model.specs.Calls.{heldFrom}
-use Rattle.model.proofs.Serves.{pointersOf}
-use Rattle.model.proofs.Fits.{Proper}
+use Rattle.laws.proofs.Serves.{pointersOf}
+use Rattle.laws.proofs.Fits.{Proper}
 use Rattle.history.specs.Keeper.{Kept}
 use Rattle.history.specs.Kinds.{Kind, zeroKind, directKind, indirectKind, kindOf, kindAt, kindFor, firstBlocks, kindsKept, hopsOfKind, hopsKept, longestKept}
 use Rattle.history.specs.Demand.{IsDirect}

@@ -9,9 +9,9 @@ use Rattle.model.specs.State.{State}
 use Rattle.model.specs.Table.{stateToBytes, cellsIn}
 use Rattle.model.specs.Sound.{Store}
 use Rattle.model.specs.Calls.{emptyState, tallyIn, tallyOf}
-use Rattle.model.proofs.Serves.{sound-valid}
-use Rattle.model.proofs.Named.{named-full, named-inside, named-count}
-use Rattle.model.proofs.Fits.{Fit, base-fit}
+use Rattle.laws.proofs.Serves.{sound-valid}
+use Rattle.laws.proofs.Named.{named-full, named-inside, named-count}
+use Rattle.laws.proofs.Fits.{Fit, base-fit}
 use Rattle.history.specs.Calls.{Buffers, buffersAfterAll, stateAfterAll}
 use Rattle.history.specs.Keeper.{Keeper}
 use Rattle.history.specs.Kinds.{kindsKept}

@@ -20,10 +20,10 @@ use Rattle.model.specs.Image.{imageBlocks}
 use Rattle.model.specs.Trace.{imageOf}
 use Rattle.model.specs.Sound.{isSound, isTill, isNumbered, leadsTo, allPointers}
 use Rattle.model.specs.Calls.{emptyTill, tillOf, After}
-use Rattle.model.proofs.Fits.{Proper}
-use Rattle.model.proofs.Serves.{sound-valid, till-among}
-use Rattle.model.proofs.Backup.{Filed}
-use Rattle.model.proofs.Retire.{Retired}
+use Rattle.laws.proofs.Fits.{Proper}
+use Rattle.laws.proofs.Serves.{sound-valid, till-among}
+use Rattle.laws.proofs.Backup.{Filed}
+use Rattle.laws.proofs.Retire.{Retired}
 use Rattle.history.specs.Keeper.{Kept, KeptTill, keptTill, filed, struckOut}
 use Rattle.history.proofs.Images.{imagesOf, keptOf, keeperOf, kept-at, kept-path, images-again, keepers-again, images-extended, new-image}
 use Rattle.history.proofs.Sharing.{Kinded, KindedTill, AllKinded, kinded-tills, kinded-extended}

@@ -17,8 +17,8 @@ use Rattle.model.specs.State.{Shelf, Version, Till, State}
 use Rattle.model.specs.Trace.{imageOf}
 use Rattle.model.specs.Sound.{isSound, areTraceable, nextPointers, leadsTo}
 use Rattle.model.specs.Calls.{emptyTill, tillOf, backup, retire, emptyState}
-use Rattle.model.proofs.Serves.{pointersOf, sound-valid}
-use Rattle.model.proofs.Fits.{Proper}
+use Rattle.laws.proofs.Serves.{pointersOf, sound-valid}
+use Rattle.laws.proofs.Fits.{Proper}
 use Rattle.history.specs.Keeper.{Kept, KeptTill, Keeper, noTill, keptTill, freshKeeper, fed, fedIn, keptFrom}
 use Rattle.history.specs.Kinds.{kindOf, Kind, kindsKept}
 use Rattle.history.specs.View.{VersionView, viewVersions, viewOf, viewKept, viewFrom, keptIn, tillNamed, viewAt, change, changed}

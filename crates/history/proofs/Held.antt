@@ -15,8 +15,8 @@ use Rattle.model.specs.State.{Version, Till, State}
 use Rattle.model.specs.Trace.{imageOf}
 use Rattle.model.specs.Sound.{isSound, areTraceable, leadsTo, nextPointers, allPointers}
 use Rattle.model.specs.Calls.{emptyTill, tillOf, heldFrom}
-use Rattle.model.proofs.Serves.{pointersOf, Valid, sound-valid, till-among}
-use Rattle.model.proofs.Fits.{Proper}
+use Rattle.laws.proofs.Serves.{pointersOf, Valid, sound-valid, till-among}
+use Rattle.laws.proofs.Fits.{Proper}
 use Rattle.history.specs.Keeper.{KeptTill, keptFrom, keptTill}
 use Rattle.history.specs.Kinds.{kindOf, kindsKept}
 use Rattle.history.specs.Demand.{pointersHeld}

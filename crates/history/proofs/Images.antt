@@ -20,11 +20,11 @@ use Rattle.model.specs.Turn.{turn}
 use Rattle.model.specs.Trace.{endOf, blockAt, tracedBlock, tracedBlocks, imageOf}
 use Rattle.model.specs.Sound.{leadsTo, allPointers, areTraceable}
 use Rattle.model.specs.Calls.{newestPointers, withNewestPointers, tillOf, emptyTill}
-use Rattle.model.proofs.Sweep.{Exact}
-use Rattle.model.proofs.Serves.{pointersOf, Serves, traced-again}
-use Rattle.model.proofs.Turn.{NewOk, extended, traced-same, turn-length, plain-end}
-use Rattle.model.proofs.Image.{blocks-joined}
-use Rattle.model.proofs.Fits.{Proper}
+use Rattle.laws.proofs.Sweep.{Exact}
+use Rattle.laws.proofs.Serves.{pointersOf, Serves, traced-again}
+use Rattle.laws.proofs.Turn.{NewOk, extended, traced-same, turn-length, plain-end}
+use Rattle.laws.proofs.Image.{blocks-joined}
+use Rattle.laws.proofs.Fits.{Proper}
 use Rattle.history.specs.Keeper.{Kept, KeptTill, Keeper, keptTill, noTill}
 
 unfoldable pub imagesOf : ℕ → Shelf → List Version → List Kept

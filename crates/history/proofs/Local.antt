@@ -20,8 +20,8 @@ use Rattle.model.specs.Place.{Placed, nonNull, writeRun, writeRecord, shareOrWr
 use Rattle.model.specs.Trace.{imageOf}
 use Rattle.model.specs.Sound.{isSound}
 use Rattle.model.specs.Calls.{tillOf, heldFrom, restoreFrom, restoreRefusal, restore, isEmpty, isOldest, dropOldest, retire, fileIn, placeAndFile, backup, listTill, listingRefusal, listingIn, After}
-use Rattle.model.proofs.Serves.{sound-valid}
-use Rattle.model.proofs.Fits.{Proper}
+use Rattle.laws.proofs.Serves.{sound-valid}
+use Rattle.laws.proofs.Fits.{Proper}
 use Rattle.history.specs.Calls.{Call, callLayout, callBackup, callRestore, callRetire, callListing, callTally, Answer, backedUp, restored, retired, listed, outcomeRefusal, outcomeNumber, answerIn}
 use Rattle.history.specs.Keeper.{Kept, KeptTill, keptFrom, keptTill, oldestKept, newestKept}
 use Rattle.history.specs.View.{isOnTill, tillNamed, restoreKept, retireKept, answerKept}

@@ -13,7 +13,7 @@ use Rattle.model.specs.Measures.{Measures, Shape}
 use Rattle.model.specs.State.{Shelf, Version, Till, State}
 use Rattle.model.specs.Sound.{isTill, isNumbered, isSound}
 use Rattle.model.specs.Calls.{emptyTill, tillOf, oldestNumber, newestNumber}
-use Rattle.model.proofs.Serves.{Valid, sound-valid}
+use Rattle.laws.proofs.Serves.{Valid, sound-valid}
 use Rattle.history.specs.Keeper.{Kept, KeptTill, keptTill, oldestKept, newestKept}
 use Rattle.history.proofs.Images.{kept-at, imagesOf, keptOf, keeperOf}
 

@@ -12,10 +12,10 @@ use Rattle.model.specs.Measures.{Shape, inRange}
 use Rattle.model.specs.State.{State, Outcome, refused, done}
 use Rattle.model.specs.Sound.{isSound}
 use Rattle.model.specs.Calls.{emptyTill, emptyState, backup, retire, After}
-use Rattle.model.proofs.Fits.{Proper}
-use Rattle.model.proofs.Empty.{empty-sound}
-use Rattle.model.proofs.Backup.{backup-filed}
-use Rattle.model.proofs.Retire.{retire-done}
+use Rattle.laws.proofs.Fits.{Proper}
+use Rattle.laws.proofs.Empty.{empty-sound}
+use Rattle.laws.proofs.Backup.{backup-filed}
+use Rattle.laws.proofs.Retire.{retire-done}
 use Rattle.history.specs.Calls.{Call, callLayout, callBackup, callRestore, callRetire, callListing, callTally, stateOr, stateAfter, stateAfterAll, outcomeRefusal, answerIn, refusalIn, isAccepted}
 use Rattle.history.specs.Keeper.{freshKeeper, noTill, fed}
 use Rattle.history.proofs.Images.{imagesOf, keptOf, keeperOf}

@@ -24,15 +24,15 @@ use Rattle.model.specs.Records.{isHeld, cellOf, cellAt, positionAt}
 use Rattle.model.specs.Trace.{endOf, blockAt, tracedBlock, tracedBlocks, imageOf}
 use Rattle.model.specs.Sound.{isSound, isTill, areTraceable, hasLength, leadsTo, allPointers}
 use Rattle.model.specs.Calls.{emptyTill, tillOf, heldFrom}
-use Rattle.model.proofs.Sweep.{named-one}
-use Rattle.model.proofs.Clean.{Whole, zero-whole}
-use Rattle.model.proofs.Counts.{at, leads-itself}
-use Rattle.model.proofs.Place.{held-named}
-use Rattle.model.proofs.Measures.{parts-enough}
-use Rattle.model.proofs.Serves.{pointersOf, Valid, sound-valid, end-counted, till-among}
-use Rattle.model.proofs.Retire.{counted-held}
-use Rattle.model.proofs.Fits.{Proper}
-use Rattle.model.proofs.Named.{inside-any}
+use Rattle.laws.proofs.Sweep.{named-one}
+use Rattle.laws.proofs.Clean.{Whole, zero-whole}
+use Rattle.laws.proofs.Counts.{at, leads-itself}
+use Rattle.laws.proofs.Place.{held-named}
+use Rattle.laws.proofs.Measures.{parts-enough}
+use Rattle.laws.proofs.Serves.{pointersOf, Valid, sound-valid, end-counted, till-among}
+use Rattle.laws.proofs.Retire.{counted-held}
+use Rattle.laws.proofs.Fits.{Proper}
+use Rattle.laws.proofs.Named.{inside-any}
 use Rattle.history.specs.Keeper.{keptFrom}
 use Rattle.history.proofs.Images.{imagesOf}
 

@@ -23,11 +23,11 @@ use Rattle.model.specs.Turn.{target, indirectTo, turn}
 use Rattle.model.specs.Trace.{endVia, endOf, blockAt, tracedBlock, tracedBlocks}
 use Rattle.model.specs.Sound.{isNull, leads, leadsTo, nextPointers, areTraceable, allPointers}
 use Rattle.model.specs.Calls.{newestPointers, withNewestPointers}
-use Rattle.model.proofs.Sweep.{Exact}
-use Rattle.model.proofs.Place.{isIndirect}
-use Rattle.model.proofs.Turn.{NewOk, turn-at, turned, held-full, turn-length, plain-end, lead-at, extended, traced-same}
-use Rattle.model.proofs.Serves.{pointersOf, Serves, traced-again}
-use Rattle.model.proofs.Empty.{zero-null}
+use Rattle.laws.proofs.Sweep.{Exact}
+use Rattle.laws.proofs.Place.{isIndirect}
+use Rattle.laws.proofs.Turn.{NewOk, turn-at, turned, held-full, turn-length, plain-end, lead-at, extended, traced-same}
+use Rattle.laws.proofs.Serves.{pointersOf, Serves, traced-again}
+use Rattle.laws.proofs.Empty.{zero-null}
 use Rattle.history.specs.Kinds.{zeroKind, directKind, kindOf, kindAt, kindFor}
 use Rattle.history.proofs.Images.{new-blocks}
 

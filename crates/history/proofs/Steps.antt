@@ -9,9 +9,9 @@ use Rattle.model.specs.State.{State, Outcome, refused, done}
 use Rattle.model.specs.Table.{stateToWords, stateToBytes}
 use Rattle.model.specs.Sound.{Store, storeOf}
 use Rattle.model.specs.Calls.{emptyState, layoutAs, layoutOf, backup, backupIn, backupOf, backupAnswer, restoreIn, restoreOf, retire, retireIn, retireOf, retireAnswer, listingIn, listingOf, tallyIn, tallyOf, After}
-use Rattle.model.proofs.Fits.{Fit}
-use Rattle.model.proofs.RoundTrip.{round-trip}
-use Rattle.model.proofs.Empty.{layout-refused, layout-accepted}
+use Rattle.laws.proofs.Fits.{Fit}
+use Rattle.laws.proofs.RoundTrip.{round-trip}
+use Rattle.laws.proofs.Empty.{layout-refused, layout-accepted}
 use Rattle.history.specs.Calls.{Call, callLayout, callBackup, callRestore, callRetire, callListing, callTally, Buffers, refusalOf, buffersAfter, buffersAfterAll, laidOut, backedUp, restored, retired, listed, tallied, answerOf, answersOf, refusalIn, refusedLayout, refusedLayouts, stateOr, stateAfter, stateAfterAll, outcomeRefusal, outcomeNumber, answerIn, answersIn, isAccepted}
 use Rattle.history.specs.Keeper.{Keeper, freshKeeper, fed, fedAll}
 use Rattle.history.specs.Demand.{laidOutIn}

@@ -17,11 +17,11 @@ use Rattle.model.specs.State.{Block, Version, State}
 use Rattle.model.specs.Image.{imageBlocks}
 use Rattle.model.specs.Trace.{endOf, tracedBlock, tracedBlocks, imageOf}
 use Rattle.model.specs.Sound.{isSound, hasLength, endsZero, areTraceable, leadsTo, allPointers}
-use Rattle.model.proofs.Clean.{Whole}
-use Rattle.model.proofs.Measures.{parts-some}
-use Rattle.model.proofs.Serves.{pointersOf, end-counted}
-use Rattle.model.proofs.Fits.{Proper}
-use Rattle.model.proofs.Image.{cut-again}
+use Rattle.laws.proofs.Clean.{Whole}
+use Rattle.laws.proofs.Measures.{parts-some}
+use Rattle.laws.proofs.Serves.{pointersOf, end-counted}
+use Rattle.laws.proofs.Fits.{Proper}
+use Rattle.laws.proofs.Image.{cut-again}
 use Rattle.history.proofs.Restore.{block-whole}
 
 module _ (s : Shape) (pr : Proper (s .measures)) (st : State) (h : isSound s st ≡ true) where

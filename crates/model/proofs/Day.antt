@@ -19,12 +19,13 @@ use Rattle.model.specs.Sweep.{lower, lowerAll, release, moved, clearCell
 use Rattle.model.specs.Trace.{hopsVia, endVia, hops, endOf, blockAt, tracedBlock, tracedBlocks, imageOf, longestChain}
 use Rattle.model.specs.Table.{pointerWord, recordToWords, versionToWords, tillToWords, headerToWords, stateToWords, stateToBytes, shapeOf, pointerOf, wordToPointer, positionOf, positionsIn, segmentIn, recordsIn, cellsIn, shelfIn, versionIn, versionsIn, tillIn, tillsIn, stateIn}
 use Rattle.model.specs.Sound.{isShaped, hasLength, isNumbered, isUsed, hasCells, nextPointers, endsZero, areTraceable, isTill, allPointers, areCounted, allCounted, areFilled, isSound, ifSound, hasLengths, storeAs, storeOf}
-use Rattle.model.specs.Calls.{emptyTill, emptyState, layoutIf, layoutAs, layoutOf, tillOf, heldFrom, withTill, newestPointers, withNewestPointers, tillWith, fileIn, placeAndFile, backupAnswer, backupIn, backupOf, restoreRefusal, restoreFrom, restoreIn, restoreOf, dropOldest, isOldest, isEmpty, retireAnswer, retireIn, retireOf, oldestNumber, newestNumber, listingRefusal, listTill, listingIn, listingOf, tallyIn, tallyOf, LayoutAnswer, BackupAnswer, RestoreAnswer, RetireAnswer, ListingAnswer, TallyAnswer}
+use Rattle.model.specs.Calls.{tableLengthOf, emptyTill, emptyState, layoutIf, layoutAs, layoutOf, tillOf, heldFrom, withTill, newestPointers, withNewestPointers, tillWith, fileIn, placeAndFile, backupAnswer, backupIn, backupOf, restoreRefusal, restoreFrom, restoreIn, restoreOf, dropOldest, isOldest, isEmpty, retireAnswer, retireIn, retireOf, oldestNumber, newestNumber, listingRefusal, listTill, listingIn, listingOf, tallyIn, tallyOf, LengthAnswer, LayoutAnswer, BackupAnswer, RestoreAnswer, RetireAnswer, ListingAnswer, TallyAnswer}
 use Rattle.model.specs.State.{Pointer, nullPointer, direct, indirect, nullPosition, held, removed, Segment, Version}
 use Rattle.model.specs.Calls as Calls
 
 -- A call with what it answers, or a fact of the buffers as the calls before it left them. Slots and records are read as words.
 data Step : Type 0 where
+  tableLength : (capacities : Capacities) (refusal words : ℕ) → Step
   layout : (capacities : Capacities) (refusal : ℕ) → Step
   backup : (till : ℕ) (image : List ℕ) (refusal version : ℕ) → Step
   restore : (till version : ℕ) (output : List ℕ) (refusal length hops : ℕ) (after : List ℕ) → Step
@@ -55,6 +56,9 @@ isAt xs at n ys = sameNumbers (take n (drop at xs)) ys
 
 holdsFrom : Capacities → List Step → List ℕ → List ℕ → Bool
 holdsFrom c [] pool table = true
+holdsFrom c (tableLength d n w ∷ steps) pool table =
+    let a : LengthAnswer = tableLengthOf d in
+    eqb (a .refusal) n && eqb (a .words) w && holdsFrom c steps pool table
 holdsFrom c (layout d n ∷ steps) pool table =
     let a : LayoutAnswer = layoutOf d pool table in
     eqb (a .refusal) n && holdsFrom c steps (a .pool) (a .table)
@@ -322,6 +326,7 @@ beside =
           ∷ slotIs 1 (v512 2 (to8 1))
           ∷ slotIs 2 (v512 3 (to8 0))
           ∷ recordIs 0 (run8 0 2)
+          ∷ restore 0 1 (zeros 512) 0 512 0 (blocks ABCDEFGH)
           ∷ tally 0 16 2 24
           ∷ [];
     }
@@ -376,11 +381,13 @@ beside =
           ∷ tally 0 8 1 8
           ∷ [];
     }
-    -- lay out 1 before 2; backup 3, 4, 11
+    -- table length 1; lay out 1 before 2; backup 3, 4, 11
     ∷ record {
       capacities = record { tills = 1; versions = 1; blocks = 1; records = 1; cells = 1 };
       steps =
-          layout (record { tills = 17; versions = 1; blocks = 1; records = 1; cells = 1 }) 1
+          tableLength (box 32) 0 240
+          ∷ tableLength (record { tills = 1; versions = 65; blocks = 1; records = 1; cells = 1 }) 1 0
+          ∷ layout (record { tills = 17; versions = 1; blocks = 1; records = 1; cells = 1 }) 1
           ∷ layout (record { tills = 1; versions = 1; blocks = 1; records = 1; cells = 2 }) 2
           ∷ backup 1 [] 3 0
           ∷ backup 0 [] 4 0
@@ -451,5 +458,5 @@ unfolding theDay beside case1 case2 case3 case4 case5 case6 v512 to8 run8 letter
     allCounted areFilled isSound ifSound hasLengths storeAs storeOf emptyTill emptyState layoutIf layoutAs layoutOf tillOf heldFrom withTill
     newestPointers withNewestPointers tillWith fileIn placeAndFile Calls.backup backupAnswer backupIn backupOf restoreRefusal restoreFrom
     Calls.restore restoreIn restoreOf dropOldest isOldest isEmpty Calls.retire retireAnswer retireIn retireOf oldestNumber newestNumber listingRefusal
-    listTill listingIn listingOf tallyIn tallyOf
+    listTill listingIn listingOf tallyIn tallyOf tableLengthOf
 day-holds = refl

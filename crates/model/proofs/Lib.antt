@@ -1,23 +1,2 @@
--- Laws of the definitions. Day first: a wrong definition is refused by the day's rows.
+-- The starred day, proved from the definitions.
 pub mod Day
-pub mod Measures
-pub mod Fits
-pub mod RoundTrip
-pub mod Uses
-pub mod Runs
-pub mod Best
-pub mod Sweep
-pub mod Clean
-pub mod Valid
-pub mod Counts
-pub mod Place
-pub mod Segments
-pub mod Image
-pub mod Serves
-pub mod Retire
-pub mod Turn
-pub mod Backup
-pub mod Empty
-pub mod Named
-pub mod Bounds
-pub mod Words

@@ -1,1 +1,1 @@
-// The definitions of the till version store and their laws; no code.
+// The definitions of the till version store, and the starred day; no code.

@@ -1,0 +1,432 @@
+-- What an accepted backup did, and that it keeps the state sound.
+use mathlib.Core.Path.{_≡_, refl, sym, ap, ap₂, _∙_, subst}
+use mathlib.Core.Bool.{Bool, true, false, cond, _||_, false≢true}
+use mathlib.Core.List.{List, [], _∷_, _++_, map, append-nil}
+use Prim.Native.Nat.{ℕ, zero, suc, _+_, _-_, _*_, _≤_, _<_, suc-le-suc}
+use native.Mathlib.Nat.{zero-add, add-zero, not-suc-le-zero, le-of-suc-le-suc, zero-lt-suc, le-refl}
+use native.Mathlib.Omega.{arith}
+use lib.ListN.{length, getD, set, take, drop, replicate, length-set, length-append, length-replicate, length-drop, take-append-drop, List·getD-append}
+use lib.Seq.{getD-take, getD-drop, length-take-le, getD-append-add}
+use lib.Dec.{eqb, leb, ltb}
+use borrow.Author.Tests.{eqb-false, eq-eqb, leb-true, leb-false, le-leb, ltb-false}
+use Rattle.lists.specs.Lists.{every, keep, count, counted, sameNumbers, allZero}
+use Rattle.lists.specs.Rows.{joined}
+use Rattle.lists.proofs.Tests.{all-true, clause, every-at, every-set, or-false}
+use Rattle.lists.proofs.Same.{same-eq, same-refl, zeros-zero}
+use Rattle.lists.proofs.Counted.{counted-snoc}
+use Rattle.lists.proofs.Counts.{count-append}
+use Rattle.model.specs.Measures.{Measures, Shape, isWithin, partsFor}
+use Rattle.model.specs.State.{Block, Pointer, nullPointer, direct, indirect, Shelf, Version, Till, State, Outcome, refused, done}
+use Rattle.model.specs.Image.{zeroBlock, imageBlocks, imageSegments}
+use Rattle.model.specs.Records.{isHeld, positionAt}
+use Rattle.model.specs.Place.{Placed, placeAll}
+use Rattle.model.specs.Turn.{turn, turning}
+use Rattle.model.specs.Sweep.{release, sweep}
+use Rattle.model.specs.Trace.{endOf, blockAt, tracedBlock}
+use Rattle.model.specs.Sound.{isSound, isNull, leads, leadsTo, hasLength, isNumbered, endsZero, areTraceable, isTill, allPointers}
+use Rattle.model.specs.Calls.{emptyTill, tillOf, withTill, newestPointers, withNewestPointers, tillWith, fileIn, placeAndFile, backup, After}
+use Rattle.laws.proofs.Fits.{Proper}
+use Rattle.laws.proofs.Measures.{parts-some}
+use Rattle.laws.proofs.Sweep.{Exact}
+use Rattle.laws.proofs.Counts.{at, leads-itself}
+use Rattle.laws.proofs.Place.{PlacedOk, isIndirect}
+use Rattle.laws.proofs.Segments.{PlaceOk, place-ok}
+use Rattle.laws.proofs.Image.{blocks-length, segments-ok, segments-joined, padding, last-zero}
+use Rattle.laws.proofs.Turn.{NewOk, turn-count, extended, extended-traceable, plain-end}
+use Rattle.laws.proofs.Serves.{pointersOf, Serves, Valid, sound-valid, valid-sound, tills-again}
+use Rattle.laws.proofs.Retire.{Finished, finish, counted-held, pointers-set, passed, theAfter, no-refusal}
+
+-- ---- the pointers that are kept of those placed
+
+plain-take : (n : ℕ) (ps : List Pointer) → ((j : ℕ) → isIndirect (getD ps j nullPointer) ≡ false) → (j : ℕ) → isIndirect (getD (take n ps) j nullPointer) ≡ false
+plain-take zero ps h j = refl
+plain-take (suc n) [] h j = refl
+plain-take (suc n) (p ∷ ps) h zero = h 0
+plain-take (suc n) (p ∷ ps) h (suc j) = plain-take n ps (λ i. h (suc i)) j
+
+nulls-uncounted : (k i : ℕ) (qs : List Pointer) → ((j : ℕ) → j < length qs → isNull (getD qs j nullPointer) ≡ true) → count (leadsTo k i) qs ≡ 0
+unfolding count
+nulls-uncounted k i [] h = refl
+nulls-uncounted k i (q ∷ qs) h = omega (arith, one q (h 0 (zero-lt-suc (length qs))), nulls-uncounted k i qs (λ j b. h (suc j) (suc-le-suc b)))
+  where
+    one : (q : Pointer) → isNull q ≡ true → _≡_ {A = ℕ} (cond (leadsTo k i q) 1 0) 0
+    one nullPointer e = refl
+    one (direct k′ i′) e = absurd (false≢true e)
+    one (indirect n) e = absurd (false≢true e)
+
+replicate-at : (n j : ℕ) (b : Block) → j < n → getD (replicate n b) j [] ≡ b
+replicate-at zero j b h = absurd (not-suc-le-zero h)
+replicate-at (suc n) zero b h = refl
+replicate-at (suc n) (suc j) b h = replicate-at n j b (le-of-suc-le-suc h)
+
+module _ (m : Measures) (a p : Shelf) (bs : List Block) (pad : ℕ) (ps : List Pointer) (ok : PlacedOk m a p (bs ++ replicate pad (zeroBlock (m .blockBytes))) ps) where
+  n : ℕ
+  n = length bs
+
+  all-length : length ps ≡ n + pad
+  unfolding n
+  all-length = ok .size ∙ length-append bs (replicate pad (zeroBlock (m .blockBytes))) ∙ ap (λ (k : ℕ). length bs + k) (length-replicate pad (zeroBlock (m .blockBytes)))
+
+  in-all : (j : ℕ) → j < n → j < length (bs ++ replicate pad (zeroBlock (m .blockBytes)))
+  unfolding n
+  in-all j h = omega (arith, h, length-append bs (replicate pad (zeroBlock (m .blockBytes))))
+
+  pub new-ok : NewOk m p bs (take (length bs) ps)
+  unfolding n
+  new-ok = record {
+    traced = λ j h. ap (blockAt (m .blockBytes) p) (getD-take n ps j nullPointer h) ∙ ok .traced j (in-all j h) ∙ List·getD-append bs _ [] j h;
+    nulls = λ j h. ap isNull (getD-take n ps j nullPointer h) ∙ ok .nulls j (in-all j h) ∙ ap allZero (List·getD-append bs _ [] j h);
+    plain = plain-take n ps (ok .plain);
+  }
+
+  pub new-length : length (take (length bs) ps) ≡ length bs
+  unfolding n
+  new-length = length-take-le (length bs) ps (omega (arith, all-length))
+
+  pub new-count : (k i : ℕ) → count (leadsTo k i) ps ≡ count (leadsTo k i) (take (length bs) ps)
+  unfolding n
+  new-count k i =
+      ap (count (leadsTo k i)) (sym (take-append-drop (length bs) ps)) ∙ count-append (leadsTo k i) (take (length bs) ps) (drop (length bs) ps)
+      ∙ ap (λ (c : ℕ). count (leadsTo k i) (take (length bs) ps) + c) (nulls-uncounted k i (drop (length bs) ps) rest)
+      ∙ add-zero (count (leadsTo k i) (take (length bs) ps))
+    where
+      rest : (j : ℕ) → j < length (drop (length bs) ps) → isNull (getD (drop (length bs) ps) j nullPointer) ≡ true
+      rest j h =
+          let l : j < pad = omega (arith, h, length-drop (length bs) ps, all-length) in
+          ap isNull (getD-drop (length bs) ps j nullPointer)
+          ∙ ok .nulls (length bs + j) (omega (arith, l, length-append bs (replicate pad (zeroBlock (m .blockBytes))), length-replicate pad (zeroBlock (m .blockBytes))))
+          ∙ ap allZero (getD-append-add bs (replicate pad (zeroBlock (m .blockBytes))) j [] ∙ replicate-at pad j (zeroBlock (m .blockBytes)) l) ∙ (unfold zeroBlock in zeros-zero (m .blockBytes))
+
+-- ---- pointers of the till's versions
+
+versions-append : (k i : ℕ) (vs ws : List Version) → count (leadsTo k i) (pointersOf (vs ++ ws)) ≡ count (leadsTo k i) (pointersOf vs) + count (leadsTo k i) (pointersOf ws)
+unfolding joined
+versions-append k i [] ws = unfold count in sym (zero-add (count (leadsTo k i) (pointersOf ws)))
+versions-append k i (v ∷ vs) ws =
+    omega (
+      arith,
+      versions-append k i vs ws,
+      count-append (leadsTo k i) (v .pointers) (pointersOf (vs ++ ws)),
+      count-append (leadsTo k i) (v .pointers) (pointersOf vs),
+    )
+
+newest-count : (k i : ℕ) (v : Version) (vs : List Version) (qs : List Pointer)
+    → count (leadsTo k i) (pointersOf (withNewestPointers (v ∷ vs) qs)) + count (leadsTo k i) (newestPointers (v ∷ vs))
+    ≡ count (leadsTo k i) (pointersOf (v ∷ vs)) + count (leadsTo k i) qs
+unfolding withNewestPointers newestPointers joined
+newest-count k i v [] qs = omega (arith, count-append (leadsTo k i) (v .pointers) [], count-append (leadsTo k i) qs [])
+newest-count k i v (w ∷ vs) qs =
+    omega (
+      arith,
+      newest-count k i w vs qs,
+      count-append (leadsTo k i) (v .pointers) (pointersOf (withNewestPointers (w ∷ vs) qs)),
+      count-append (leadsTo k i) (v .pointers) (pointersOf (w ∷ vs)),
+    )
+
+numbers-same : (vs : List Version) (qs : List Pointer) (w : Version)
+    → map (λ (v : Version). v .number) (withNewestPointers vs qs ++ (w ∷ [])) ≡ map (λ (v : Version). v .number) vs ++ (w .number ∷ [])
+unfolding withNewestPointers
+numbers-same [] qs w = refl
+numbers-same (v ∷ []) qs w = refl
+numbers-same (v ∷ u ∷ vs) qs w = ap {B = List ℕ} (λ l. v .number ∷ l) (numbers-same (u ∷ vs) qs w)
+
+length-same : (vs : List Version) (qs : List Pointer) (w : Version) → length (withNewestPointers vs qs ++ (w ∷ [])) ≡ suc (length vs)
+unfolding withNewestPointers
+length-same [] qs w = refl
+length-same (v ∷ []) qs w = refl
+length-same (v ∷ u ∷ vs) qs w = ap suc (length-same (u ∷ vs) qs w)
+
+module _ (s : Shape) (p : Shelf) (x : Exact p) (bs : List Block) (newV : Version) (ok : NewOk (s .measures) p bs (newV .pointers)) where
+  ext : List Version → List Version
+  ext vs = extended s p x bs newV ok vs
+
+  one-version : (k i : ℕ) → count (leadsTo k i) (pointersOf (newV ∷ [])) ≡ count (leadsTo k i) (newV .pointers)
+  unfolding joined
+  one-version k i = ap (count (leadsTo k i)) (append-nil (newV .pointers))
+
+  pub ext-count : (k i : ℕ) (vs : List Version)
+      → count (leadsTo k i) (pointersOf (extended s p x bs newV ok vs)) + count (leadsTo k i) (turning p bs (newestPointers vs))
+      ≡ count (leadsTo k i) (pointersOf vs) + count (leadsTo k i) (newV .pointers)
+  unfolding extended
+  ext-count k i [] = unfold withNewestPointers newestPointers turning keep count joined in empty
+    where
+      empty : count (leadsTo k i) (newV .pointers ++ []) + 0 ≡ 0 + count (leadsTo k i) (newV .pointers)
+      empty = omega (arith, ap (count (leadsTo k i)) (append-nil (newV .pointers)))
+  ext-count k i (v ∷ vs) =
+      omega (
+        arith,
+        versions-append k i (withNewestPointers (v ∷ vs) (turn p bs (newestPointers (v ∷ vs)))) (newV ∷ []),
+        one-version k i,
+        newest-count k i v vs (turn p bs (newestPointers (v ∷ vs))),
+        turn-count (s .measures) p x bs k i (newestPointers (v ∷ vs)),
+      )
+
+  ext-numbers : (vs : List Version) → map (λ (v : Version). v .number) (extended s p x bs newV ok vs) ≡ map (λ (v : Version). v .number) vs ++ (newV .number ∷ [])
+  unfolding extended
+  ext-numbers vs = go vs (turn p bs (newestPointers vs))
+    where
+      go : (vs : List Version) (qs : List Pointer)
+          → map (λ (v : Version). v .number) (withNewestPointers vs qs ++ (newV ∷ [])) ≡ map (λ (v : Version). v .number) vs ++ (newV .number ∷ [])
+      go vs qs = numbers-same vs qs newV
+
+  ext-length : (vs : List Version) → length (extended s p x bs newV ok vs) ≡ suc (length vs)
+  unfolding extended
+  ext-length vs = length-same vs (turn p bs (newestPointers vs)) newV
+
+-- the till's numbers with the new one
+numbered : (s : Shape) (last : ℕ) (vs ws : List Version) → isNumbered (s .capacities .versions) (record { last = last; versions = vs }) ≡ true
+    → length vs < s .capacities .versions → (last ≡ 65535 → ⊥) → length ws ≡ suc (length vs)
+    → map (λ (v : Version). v .number) ws ≡ map (λ (v : Version). v .number) vs ++ (suc last ∷ [])
+    → isNumbered (s .capacities .versions) (record { last = suc last; versions = ws }) ≡ true
+unfolding isNumbered
+numbered s last vs ws h room top l e =
+    let low : length vs ≤ last = leb-true _ _ (clause _ 1 h) in
+    let most : last ≤ 65535 = leb-true _ _ (clause _ 2 h) in
+    let old : map (λ (v : Version). v .number) vs ≡ counted (λ n. n) (suc last - length vs) (length vs) = same-eq _ _ (clause _ 3 h) in
+    let names : map (λ (v : Version). v .number) ws ≡ counted (λ n. n) (suc (suc last) - length ws) (length ws) =
+    e ∙ ap {B = List ℕ} (λ l. l ++ (suc last ∷ [])) old
+    ∙ ap {B = List ℕ} (λ y. counted (λ n. n) (suc last - length vs) (length vs) ++ (y ∷ [])) (let z : suc last ≡ suc last - length vs + length vs = omega (arith, low) in z)
+    ∙ sym (counted-snoc (suc last - length vs) (length vs))
+    ∙ ap₂ (counted (λ n. n)) (let z : suc last - length vs ≡ suc (suc last) - length ws = omega (arith, l) in z) (sym l) in
+    all-true _ (
+      le-leb (length ws) (s .capacities .versions) (omega (arith, l, room)),
+      (
+        le-leb (length ws) (suc last) (omega (arith, l, low)),
+        (
+          le-leb (suc last) 65535 (omega (arith, most, top)),
+          (ap (λ (ns : List ℕ). sameNumbers ns (counted (λ n. n) (suc (suc last) - length ws) (length ws))) names ∙ same-refl _, tt),
+        ),
+      ),
+    )
+
+-- pointers that are not indirect, to held positions, lead
+plain-leads : (p : Shelf) (qs : List Pointer) → ((j : ℕ) → isIndirect (getD qs j nullPointer) ≡ false)
+    → ((k i : ℕ) → 0 < count (leadsTo k i) qs → isHeld (at (p .records) k i) ≡ true) → every (leads p []) qs ≡ true
+unfolding every count
+plain-leads p [] f g = refl
+plain-leads p (q ∷ qs) f g = rw (one q (f 0) (λ k i e. g k i (omega (arith, ap {B = ℕ} (λ (t : Bool). cond t 1 0) e)))) (plain-leads p qs (λ j. f (suc j)) (λ k i c. g k i (omega (arith, c))))
+  where
+    one : (q : Pointer) → isIndirect q ≡ false → ((k i : ℕ) → leadsTo k i q ≡ true → isHeld (at (p .records) k i) ≡ true) → leads p [] q ≡ true
+    one nullPointer e r = refl
+    one (direct k i) e r = unfold positionAt in r k i (leads-itself k i)
+    one (indirect m) e r = absurd (false≢true (sym e))
+
+-- What an accepted backup of `image` at till `t` of `st` did: the segments were placed, the new version joined the till, and the shelf was swept.
+pub record Filed (s : Shape) (st : State) (t : ℕ) (image : List ℕ) (a : After) : Type 0 where
+  pub there : t < length (st .tills)
+  pub answer : a .answer ≡ suc (tillOf st t .last)
+  -- the shelf with the segments placed keeps what all pointers lead to
+  pub placed : Shelf
+  pub exact : Exact placed
+  pub kept : Serves (s .measures) (st .shelf) placed (allPointers (st .tills))
+  -- the new version
+  pub version : Version
+  pub number : version .number ≡ suc (tillOf st t .last)
+  pub bytes : version .length ≡ length image
+  pub size : length (version .pointers) ≡ length (imageBlocks (s .measures .blockBytes) image)
+  pub good : NewOk (s .measures) placed (imageBlocks (s .measures .blockBytes) image) (version .pointers)
+  -- its till
+  pub before : isTill s placed (tillOf st t) ≡ true
+  pub till : Till
+  pub last : till .last ≡ suc (tillOf st t .last)
+  pub versions : till .versions ≡ extended s placed exact (imageBlocks (s .measures .blockBytes) image) version good (tillOf st t .versions)
+  pub tills : a .state .tills ≡ set (st .tills) t till
+  -- the sweep keeps what all pointers lead to
+  pub swept : Serves (s .measures) placed (a .state .shelf) (allPointers (a .state .tills))
+  pub sound : isSound s (a .state) ≡ true
+
+-- ---- the state after a backup
+
+module _ (s : Shape) (pr : Proper (s .measures)) (st : State) (h : isSound s st ≡ true) (t : ℕ) (ht : t < length (st .tills)) (image : List ℕ)
+    (some-bytes : 0 < length image) (few-bytes : length image ≤ s .measures .blockBytes * s .capacities .blocks) (room : length (tillOf st t .versions) < s .capacities .versions)
+    (number : tillOf st t .last ≡ 65535 → ⊥)
+    (placed : Placed)
+    (ok : PlacedOk (s .measures) (st .shelf) (placed .shelf) (joined (imageSegments (s .measures .blockBytes) (s .measures .segmentBlocks) image)) (placed .pointers)) where
+  bs : List Block
+  bs = imageBlocks (s .measures .blockBytes) image
+
+  newV : Version
+  newV = record { number = suc (tillOf st t .last); length = length image; pointers = take (length (imageBlocks (s .measures .blockBytes) image)) (placed .pointers) }
+
+  valid : Valid s st
+  valid = sound-valid s st h
+
+  ok′ : PlacedOk (s .measures) (st .shelf) (placed .shelf) (bs ++ replicate (padding (s .measures) pr image) (zeroBlock (s .measures .blockBytes))) (placed .pointers)
+  unfolding bs
+  ok′ = subst (λ (l : List Block). PlacedOk (s .measures) (st .shelf) (placed .shelf) l (placed .pointers)) (segments-joined (s .measures) pr image) ok
+
+  good : NewOk (s .measures) (placed .shelf) bs (newV .pointers)
+  unfolding newV bs
+  good = new-ok (s .measures) (st .shelf) (placed .shelf) bs (padding (s .measures) pr image) (placed .pointers) ok′
+
+  same-count : (k i : ℕ) → count (leadsTo k i) (placed .pointers) ≡ count (leadsTo k i) (newV .pointers)
+  unfolding newV bs
+  same-count = new-count (s .measures) (st .shelf) (placed .shelf) bs (padding (s .measures) pr image) (placed .pointers) ok′
+
+  size : length (newV .pointers) ≡ partsFor (s .measures .blockBytes) (length image)
+  unfolding newV bs
+  size = new-length (s .measures) (st .shelf) (placed .shelf) bs (padding (s .measures) pr image) (placed .pointers) ok′ ∙ blocks-length (s .measures) pr image
+
+  placed-held : (k i : ℕ) → 0 < count (leadsTo k i) (newV .pointers) → isHeld (at (placed .shelf .records) k i) ≡ true
+  placed-held k i q = counted-held (at (placed .shelf .records) k i) (omega (arith, q, ok .counts k i, same-count k i))
+
+  len : hasLength (s .measures .blockBytes) (s .capacities .blocks) newV ≡ true
+  unfolding hasLength isWithin newV
+  len =
+      all-true _ (
+        all-true _ (le-leb 1 (length image) some-bytes, (le-leb (length image) (s .measures .blockBytes * s .capacities .blocks) few-bytes, tt)),
+        (eq-eqb (length (newV .pointers)) (partsFor (s .measures .blockBytes) (length image)) size, tt),
+      )
+
+  lead : every (leads (placed .shelf) []) (newV .pointers) ≡ true
+  lead = plain-leads (placed .shelf) (newV .pointers) (good .plain) placed-held
+
+  many : 0 < partsFor (s .measures .blockBytes) (length image)
+  many = parts-some (s .measures .blockBytes) (length image) (pr .bytes) some-bytes
+
+  end : endsZero (s .measures .blockBytes) (placed .shelf) newV [] ≡ true
+  unfolding endsZero tracedBlock endOf bs newV
+  end =
+      let j : ℕ = length (newV .pointers) - 1 in
+      ap (λ (b : Block). allZero (drop (length image - s .measures .blockBytes * j) b))
+      (ap (blockAt (s .measures .blockBytes) (placed .shelf)) (plain-end (getD (newV .pointers) j nullPointer) _ (good .plain j)) ∙ good .traced j (omega (arith, size, blocks-length (s .measures) pr image, some-bytes, many)))
+      ∙ last-zero (s .measures) pr image some-bytes (length (newV .pointers)) size
+
+  -- ---- the tills on the shelf with the segments placed
+
+  serves : Serves (s .measures) (st .shelf) (placed .shelf) (allPointers (st .tills))
+  serves = record {
+    holds = λ k i q. counted-held (at (placed .shelf .records) k i) (omega (arith, q, ok .counts k i, valid .counts k i));
+    blocks = λ k i q. ok .blocks k i (omega (arith, q, valid .counts k i));
+  }
+
+  olds : every (isTill s (placed .shelf)) (st .tills) ≡ true
+  olds =
+      tills-again s (st .shelf) (placed .shelf) (allPointers (st .tills)) serves (st .tills) (valid .tills)
+      (λ k i. le-refl (count (leadsTo k i) (allPointers (st .tills))))
+
+  before : isTill s (placed .shelf) (tillOf st t) ≡ true
+  unfolding tillOf
+  before = every-at (isTill s (placed .shelf)) emptyTill (st .tills) olds t ht
+
+  vs : List Version
+  vs = tillOf st t .versions
+
+  rs : List Pointer
+  rs = turning (placed .shelf) bs (newestPointers vs)
+
+  after : Till
+  after = tillWith (tillOf st t) (turn (placed .shelf) bs (newestPointers vs)) (length image) (take (length bs) (placed .pointers))
+
+  after-versions : after .versions ≡ extended s (placed .shelf) (ok .exact) bs newV good vs
+  unfolding after tillWith extended newV bs vs
+  after-versions = refl
+
+  after-till : isTill s (placed .shelf) after ≡ true
+  unfolding isTill after tillWith
+  after-till =
+      all-true _ (
+        numbered s (tillOf st t .last) vs (after .versions) (unfold vs in clause _ 0 before) (unfold vs in room) number
+            (ap length after-versions ∙ ext-length s (placed .shelf) (ok .exact) bs newV good vs)
+            (ap (map (λ (v : Version). v .number)) after-versions ∙ (unfold newV in ext-numbers s (placed .shelf) (ok .exact) bs newV good vs)),
+        (
+          ap (areTraceable (s .measures .blockBytes) (s .capacities .blocks) (placed .shelf)) after-versions
+              ∙ extended-traceable s (placed .shelf) (ok .exact) bs newV good len lead end vs (unfold vs in clause _ 1 before),
+          tt,
+        ),
+      )
+
+  -- ---- counts
+
+  ps : List Pointer
+  ps = allPointers (set (st .tills) t after)
+
+  shared : (k i : ℕ) → count (leadsTo k i) (allPointers (st .tills) ++ placed .pointers) ≡ count (leadsTo k i) rs + count (leadsTo k i) ps
+  unfolding ps rs vs tillOf
+  shared k i =
+      omega (
+        arith,
+        count-append (leadsTo k i) (allPointers (st .tills)) (placed .pointers),
+        same-count k i,
+        pointers-set k i (st .tills) t after ht,
+        ap (λ (l : List Version). count (leadsTo k i) (pointersOf l)) after-versions,
+        ext-count s (placed .shelf) (ok .exact) bs newV good k i (getD (st .tills) t emptyTill .versions),
+      )
+
+  fin : Finished (s .measures) (placed .shelf) (sweep (s .measures) (release (placed .shelf) rs)) ps
+  fin =
+      finish (s .measures) (placed .shelf) (allPointers (st .tills) ++ placed .pointers) rs ps (ok .fits) (ok .exact)
+      (λ k i. ok .counts k i ∙ ap (λ (n : ℕ). n + count (leadsTo k i) (placed .pointers)) (valid .counts k i)
+      ∙ sym (count-append (leadsTo k i) (allPointers (st .tills)) (placed .pointers)))
+      shared
+
+  filed-sound : isSound s (withTill st t after (sweep (s .measures) (release (placed .shelf) rs))) ≡ true
+  unfolding withTill ps
+  filed-sound =
+      valid-sound s _
+      (record {
+        range = valid .range;
+        tillCount = length-set (st .tills) t after ∙ valid .tillCount;
+        recordCount = fin .recordCount ∙ ok .recordCount ∙ valid .recordCount;
+        cellCount = fin .cellCount ∙ ok .cellCount ∙ valid .cellCount;
+        fits = fin .fits;
+        exact = fin .exact;
+        tills =
+            tills-again s (placed .shelf) (sweep (s .measures) (release (placed .shelf) rs)) ps (fin .serves) (set (st .tills) t after)
+            (every-set (isTill s (placed .shelf)) (st .tills) t after olds after-till) (λ k i. le-refl (count (leadsTo k i) ps));
+        counts = fin .counts;
+      })
+      (fin .positive)
+
+  filed : Filed s st t image (record { state = withTill st t (tillWith (tillOf st t) (turn (placed .shelf) (imageBlocks (s .measures .blockBytes) image) (newestPointers (tillOf st t .versions))) (length image) (take (length (imageBlocks (s .measures .blockBytes) image)) (placed .pointers))) (sweep (s .measures) (release (placed .shelf) (turning (placed .shelf) (imageBlocks (s .measures .blockBytes) image) (newestPointers (tillOf st t .versions))))); answer = suc (tillOf st t .last) })
+  unfolding bs newV vs rs after ps withTill
+  filed = record {
+    there = ht;
+    answer = refl;
+    placed = placed .shelf;
+    exact = ok .exact;
+    kept = serves;
+    version = newV;
+    number = refl;
+    bytes = refl;
+    size = new-length (s .measures) (st .shelf) (placed .shelf) bs (padding (s .measures) pr image) (placed .pointers) ok′;
+    good = good;
+    before = before;
+    till = after;
+    last = unfold tillWith in refl;
+    versions = after-versions;
+    tills = refl;
+    swept = fin .serves;
+    sound = filed-sound;
+  }
+
+-- ---- backup
+
+pub backup-filed : (s : Shape) → Proper (s .measures) → (t : ℕ) (image : List ℕ) (st : State) (a : After) → isSound s st ≡ true
+    → backup s st t image ≡ done a → Filed s st t image a
+unfolding backup placeAndFile
+backup-filed s pr t image st a h e =
+    let (e₁, r₁) = passed (leb (s .capacities .tills) t) 3 _ a e in
+    let (e₂, r₂) = passed (eqb (length image) 0 || ltb (s .measures .blockBytes * s .capacities .blocks) (length image)) 4 _ a r₁ in
+    let (e₃, r₃) = passed (leb (s .capacities .versions) (length (tillOf st t .versions))) 11 _ a r₂ in
+    let (e₄, r₄) = passed (eqb (tillOf st t .last) 65535) 12 _ a r₃ in
+    let (z, big) = or-false (eqb (length image) 0) (ltb (s .measures .blockBytes * s .capacities .blocks) (length image)) e₂ in
+    let v : Valid s st = sound-valid s st h in
+    let segs : List (List Block) = imageSegments (s .measures .blockBytes) (s .measures .segmentBlocks) image in
+    go (placeAll (done (record { shelf = st .shelf; pointers = [] })) segs)
+    (place-ok (s .measures) (st .shelf) segs (v .fits) (v .exact) (segments-ok (s .measures) pr image))
+    (omega (arith, leb-false (s .capacities .tills) t e₁, v .tillCount)) (omega (arith, eqb-false (length image) 0 z))
+    (ltb-false (s .measures .blockBytes * s .capacities .blocks) (length image) big) (leb-false (s .capacities .versions) (length (tillOf st t .versions)) e₃)
+    (eqb-false (tillOf st t .last) 65535 e₄) r₄
+  where
+    go : (o : Outcome Placed) → PlaceOk (s .measures) (st .shelf) (joined (imageSegments (s .measures .blockBytes) (s .measures .segmentBlocks) image)) o
+        → t < length (st .tills) → 0 < length image → length image ≤ s .measures .blockBytes * s .capacities .blocks
+        → length (tillOf st t .versions) < s .capacities .versions → (tillOf st t .last ≡ 65535 → ⊥)
+        → fileIn s st t image (imageBlocks (s .measures .blockBytes) image) (tillOf st t) o ≡ done a → Filed s st t image a
+    go (refused n) ok ht some few room num r = unfold fileIn in absurd (no-refusal n a r)
+    go (done p) ok ht some few room num r =
+        unfold fileIn theAfter in subst (Filed s st t image) (ap (theAfter a) r) (filed s pr st h t ht image some few room num p ok)
+
+pub backup-sound : (s : Shape) → Proper (s .measures) → (t : ℕ) (image : List ℕ) (st : State) (a : After) → isSound s st ≡ true
+    → backup s st t image ≡ done a → isSound s (a .state) ≡ true
+backup-sound s pr t image st a h e = backup-filed s pr t image st a h e .sound

@@ -1,0 +1,22 @@
+-- Laws of the store's definitions, named after what they are about.
+pub mod Measures
+pub mod Fits
+pub mod RoundTrip
+pub mod Uses
+pub mod Runs
+pub mod Best
+pub mod Sweep
+pub mod Clean
+pub mod Valid
+pub mod Counts
+pub mod Place
+pub mod Segments
+pub mod Image
+pub mod Serves
+pub mod Retire
+pub mod Turn
+pub mod Backup
+pub mod Empty
+pub mod Named
+pub mod Bounds
+pub mod Words

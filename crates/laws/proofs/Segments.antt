@@ -1,0 +1,203 @@
+-- Placing one segment, and all segments of an image: step 1 of a backup. Assumes nothing.
+use mathlib.Core.Path.{_≡_, refl, sym, ap, ap₂, _∙_, subst}
+use mathlib.Core.Logic.{_⊎_, inl, inr}
+use mathlib.Core.Bool.{Bool, true, false}
+use mathlib.Core.List.{List, [], _∷_, _++_, map, append-nil, append-assoc}
+use mathlib.Core.Option.{Option, none, some}
+use Prim.Native.Nat.{ℕ, zero, suc, _+_, _-_, _<_}
+use native.Mathlib.Nat.{zero-add, add-zero, not-suc-le-zero}
+use native.Mathlib.Omega.{arith}
+use lib.ListN.{length, getD, length-map, length-append, List·getD-append}
+use lib.Seq.{getD-append-add}
+use lib.Dec.{ltb}
+use borrow.Author.Tests.{ltb-true, ltb-false}
+use Rattle.lists.specs.Lists.{every, count, firstFrom, allZero}
+use Rattle.lists.specs.Rows.{joined}
+use Rattle.lists.specs.Each.{Each}
+use Rattle.lists.proofs.Counts.{count-append}
+use Rattle.lists.proofs.Each.{each-at}
+use Rattle.lists.proofs.First.{Lowest, first-lowest}
+use Rattle.lists.proofs.Tests.{by-test, every-head, every-tail}
+use Rattle.model.specs.Measures.{Measures}
+use Rattle.model.specs.State.{Block, Pointer, nullPointer, direct, indirect, Shelf, Outcome, refused, done}
+use Rattle.model.specs.Records.{isFree, cellAt, positionAt, equals}
+use Rattle.model.specs.Runs.{Run, findRun}
+use Rattle.model.specs.Place.{Placed, nonNull, writeRun, writeRecord, shareOrWrite, placeSegment, afterSome, placeNext, placeAll}
+use Rattle.model.specs.Trace.{blockAt}
+use Rattle.model.specs.Sound.{isNull, leadsTo}
+use Rattle.laws.proofs.Runs.{FoundOk, Free, find-ok}
+use Rattle.laws.proofs.Sweep.{Exact, countIn, blockIn}
+use Rattle.laws.proofs.Clean.{Whole, ShelfFits}
+use Rattle.laws.proofs.Place.{zero-eq, isIndirect, PlacedOk, share-ok, fill-ok}
+use Rattle.laws.proofs.Counts.{leads-itself, pointer-counted}
+
+-- ---- one segment
+
+null-count : (k i : ℕ) (bs : List Block) → count (leadsTo k i) (map (λ b. nullPointer) bs) ≡ 0
+unfolding count
+null-count k i [] = refl
+null-count k i (x ∷ bs) = ap (λ (n : ℕ). 0 + n) (null-count k i bs)
+
+abbrev pub PlaceOk : (m : Measures) (a : Shelf) (seg : List Block) → Outcome Placed → Type 0
+PlaceOk m a seg (refused n) = Unit {0}
+PlaceOk m a seg (done p) = PlacedOk m a (p .shelf) seg (p .pointers)
+
+module _ (m : Measures) (a : Shelf) (f : ShelfFits m a) (x : Exact a) (seg : List Block) (w : Each (Whole m) seg) (sz : length seg ≡ m .segmentBlocks) where
+  null-ok : every allZero seg ≡ true → PlacedOk m a a seg (map (λ b. nullPointer) seg)
+  unfolding blockAt
+  null-ok z = record {
+    fits = f;
+    exact = x;
+    counts = λ k i. sym (ap (λ (n : ℕ). countIn a k i + n) (null-count k i seg) ∙ add-zero (countIn a k i));
+    blocks = λ k i p. refl;
+    traced = λ j h.
+        ap (blockAt (m .blockBytes) a) (null-at seg j)
+        ∙ zero-eq m (getD seg j []) (zero-at seg z j) (each-at (Whole m) [] seg w j h);
+    nulls = λ j h. ap isNull (null-at seg j) ∙ sym (zero-at seg z j);
+    plain = λ j. ap isIndirect (null-at seg j);
+    size = length-map seg (λ b. nullPointer);
+    recordCount = refl;
+    cellCount = refl;
+  }
+    where
+      null-at : (bs : List Block) (j : ℕ) → getD (map (λ b. nullPointer) bs) j nullPointer ≡ nullPointer
+      null-at [] j = refl
+      null-at (b ∷ bs) zero = refl
+      null-at (b ∷ bs) (suc j) = null-at bs j
+
+      zero-at : (bs : List Block) → every allZero bs ≡ true → (j : ℕ) → allZero (getD bs j []) ≡ true
+      zero-at [] z j = unfold allZero every in refl
+      zero-at (b ∷ bs) z zero = every-head allZero b bs z
+      zero-at (b ∷ bs) z (suc j) = zero-at bs (every-tail allZero b bs z) j
+
+  module _ (ne : every allZero seg ≡ false) where
+    run-ok : (k : ℕ) → k < length (a .records) → isFree (getD (a .records) k []) ≡ true → (o : Option Run) → FoundOk (Free a) (length (nonNull seg)) o
+        → PlaceOk m a seg (writeRun a seg k o)
+    unfolding writeRun
+    run-ok k hk fr none h = tt
+    run-ok k hk fr (some run) h = fill-ok m a f x seg w sz k hk fr ne run h
+
+    record-ok : (o : Option ℕ) → Lowest isFree [] 0 (a .records) o → PlaceOk m a seg (writeRecord a seg o)
+    unfolding writeRecord
+    record-ok none h = tt
+    record-ok (some k) h =
+        let e : k ≡ h .0 = h .1 ∙ zero-add (h .0) in
+        run-ok k (subst (λ (n : ℕ). n < length (a .records)) (sym e) (h .2)) (ap (λ (n : ℕ). isFree (getD (a .records) n [])) e ∙ h .3)
+        (findRun a (length (nonNull seg))) (find-ok a (length (nonNull seg)))
+
+    either-ok : (o : Option ℕ) → Lowest (equals a seg) [] 0 (a .records) o → PlaceOk m a seg (shareOrWrite a seg o)
+    unfolding shareOrWrite
+    either-ok none h = record-ok (firstFrom isFree 0 (a .records)) (first-lowest isFree [] 0 (a .records))
+    either-ok (some k) h =
+        let e : k ≡ h .0 = h .1 ∙ zero-add (h .0) in
+        share-ok m a f x seg w k (subst (λ (n : ℕ). n < length (a .records)) (sym e) (h .2)) (ap (λ (n : ℕ). equals a seg (getD (a .records) n [])) e ∙ h .3)
+
+  pub segment-ok : PlaceOk m a seg (placeSegment a seg)
+  unfolding placeSegment
+  segment-ok =
+      by-test (PlaceOk m a seg) (every allZero seg) null-ok
+      (λ ne. either-ok ne (firstFrom (equals a seg) 0 (a .records)) (first-lowest (equals a seg) [] 0 (a .records)))
+
+-- ---- all segments
+
+pub block-kept : (m : Measures) (a b : Shelf) (p : Pointer) → ((k i : ℕ) → leadsTo k i p ≡ true → blockIn b k i ≡ blockIn a k i) → blockAt (m .blockBytes) b p ≡ blockAt (m .blockBytes) a p
+unfolding blockAt cellAt positionAt
+block-kept m a b nullPointer h = refl
+block-kept m a b (direct k i) h = h k i (leads-itself k i)
+block-kept m a b (indirect n) h = refl
+
+both-plain : (ps qs : List Pointer) → ((j : ℕ) → isIndirect (getD ps j nullPointer) ≡ false) → ((j : ℕ) → isIndirect (getD qs j nullPointer) ≡ false)
+    → (j : ℕ) → isIndirect (getD (ps ++ qs) j nullPointer) ≡ false
+both-plain [] qs f g j = g j
+both-plain (p ∷ ps) qs f g zero = f 0
+both-plain (p ∷ ps) qs f g (suc j) = both-plain ps qs (λ i. f (suc i)) g j
+
+module _ (m : Measures) (a b c : Shelf) (bs cs : List Block) (ps qs : List Pointer) (f : PlacedOk m a b bs ps) (g : PlacedOk m b c cs qs) where
+  split : (j : ℕ) → j < length (bs ++ cs) → (j < length bs) ⊎ ((i : ℕ) × (j ≡ length bs + i) × (i < length cs))
+  split j h = go (ltb j (length bs)) refl
+    where
+      go : (t : Bool) → ltb j (length bs) ≡ t → (j < length bs) ⊎ ((i : ℕ) × (j ≡ length bs + i) × (i < length cs))
+      go true e = inl (ltb-true j (length bs) e)
+      go false e = inr (j - length bs, omega (arith, ltb-false j (length bs) e), omega (arith, ltb-false j (length bs) e, h, length-append bs cs))
+
+  first : (j : ℕ) → j < length bs → (getD (ps ++ qs) j nullPointer ≡ getD ps j nullPointer) × (getD (bs ++ cs) j [] ≡ getD bs j [])
+  first j h = (List·getD-append ps qs nullPointer j (omega (arith, h, f .size)), List·getD-append bs cs [] j h)
+
+  second : (i : ℕ) → (getD (ps ++ qs) (length bs + i) nullPointer ≡ getD qs i nullPointer) × (getD (bs ++ cs) (length bs + i) [] ≡ getD cs i [])
+  second i = (
+    ap (λ (n : ℕ). getD (ps ++ qs) (n + i) nullPointer) (sym (f .size)) ∙ getD-append-add ps qs i nullPointer,
+    getD-append-add bs cs i [],
+  )
+
+  both-traced : (j : ℕ) → j < length (bs ++ cs) → blockAt (m .blockBytes) c (getD (ps ++ qs) j nullPointer) ≡ getD (bs ++ cs) j []
+  both-traced j h = go (split j h)
+    where
+      go : (j < length bs) ⊎ ((i : ℕ) × (j ≡ length bs + i) × (i < length cs)) → blockAt (m .blockBytes) c (getD (ps ++ qs) j nullPointer) ≡ getD (bs ++ cs) j []
+      go (inl l) =
+          ap (blockAt (m .blockBytes) c) (first j l .0)
+          ∙ block-kept m b c (getD ps j nullPointer) (λ k i e. g .blocks k i (omega (arith, f .counts k i, pointer-counted k i ps j e)))
+          ∙ f .traced j l ∙ sym (first j l .1)
+      go (inr t) = rw (t .1) (ap (blockAt (m .blockBytes) c) (second (t .0) .0) ∙ g .traced (t .0) (t .2) ∙ sym (second (t .0) .1))
+
+  both-nulls : (j : ℕ) → j < length (bs ++ cs) → isNull (getD (ps ++ qs) j nullPointer) ≡ allZero (getD (bs ++ cs) j [])
+  both-nulls j h = go (split j h)
+    where
+      go : (j < length bs) ⊎ ((i : ℕ) × (j ≡ length bs + i) × (i < length cs)) → isNull (getD (ps ++ qs) j nullPointer) ≡ allZero (getD (bs ++ cs) j [])
+      go (inl l) = ap isNull (first j l .0) ∙ f .nulls j l ∙ ap allZero (sym (first j l .1))
+      go (inr t) = rw (t .1) (ap isNull (second (t .0) .0) ∙ g .nulls (t .0) (t .2) ∙ ap allZero (sym (second (t .0) .1)))
+
+  pub placed-both : PlacedOk m a c (bs ++ cs) (ps ++ qs)
+  placed-both = record {
+    fits = g .fits;
+    exact = g .exact;
+    counts = λ k i. omega (arith, f .counts k i, g .counts k i, count-append (leadsTo k i) ps qs);
+    blocks = λ k i p. g .blocks k i (omega (arith, f .counts k i, p)) ∙ f .blocks k i p;
+    traced = both-traced;
+    nulls = both-nulls;
+    plain = both-plain ps qs (f .plain) (g .plain);
+    size = length-append ps qs ∙ ap₂ _+_ (f .size) (g .size) ∙ sym (length-append bs cs);
+    recordCount = g .recordCount ∙ f .recordCount;
+    cellCount = g .cellCount ∙ f .cellCount;
+  }
+
+-- segments of whole blocks
+pub record SegmentOk (m : Measures) (seg : List Block) : Type 0 where
+  pub whole : Each (Whole m) seg
+  pub size : length seg ≡ m .segmentBlocks
+
+next-ok : (m : Measures) (a : Shelf) (bs seg : List Block) → SegmentOk m seg → (o : Outcome Placed) → PlaceOk m a bs o → PlaceOk m a (bs ++ seg) (placeNext o seg)
+unfolding placeNext
+next-ok m a bs seg w (refused n) h = tt
+next-ok m a bs seg w (done p) h =
+    go (placeSegment (p .shelf) seg) (segment-ok m (p .shelf) (h .fits) (h .exact) seg (w .whole) (w .size))
+  where
+    go : (o : Outcome Placed) → PlaceOk m (p .shelf) seg o → PlaceOk m a (bs ++ seg) (afterSome (p .pointers) o)
+    go (refused n) g = unfold afterSome in tt
+    go (done q) g = unfold afterSome in placed-both m a (p .shelf) (q .shelf) bs seg (p .pointers) (q .pointers) h g
+
+all-ok : (m : Measures) (a : Shelf) (segs : List (List Block)) (bs : List Block) → Each (SegmentOk m) segs → (o : Outcome Placed) → PlaceOk m a bs o
+    → PlaceOk m a (bs ++ joined segs) (placeAll o segs)
+unfolding placeAll joined
+all-ok m a [] bs w o h = subst (λ (l : List Block). PlaceOk m a l o) (sym (append-nil bs)) h
+all-ok m a (seg ∷ segs) bs w o h =
+    subst (λ (l : List Block). PlaceOk m a l (placeAll (placeNext o seg) segs)) (append-assoc bs seg (joined segs))
+    (all-ok m a segs (bs ++ seg) (w .1) (placeNext o seg) (next-ok m a bs seg (w .0) o h))
+
+-- Step 1 of a backup.
+pub place-ok : (m : Measures) (a : Shelf) (segs : List (List Block)) → ShelfFits m a → Exact a → Each (SegmentOk m) segs
+    → PlaceOk m a (joined segs) (placeAll (done (record { shelf = a; pointers = [] })) segs)
+place-ok m a segs f x w = all-ok m a segs [] w (done (record { shelf = a; pointers = [] })) start
+  where
+    start : PlacedOk m a a [] []
+    start = record {
+      fits = f;
+      exact = x;
+      counts = λ k i. unfold count in sym (add-zero (countIn a k i));
+      blocks = λ k i p. refl;
+      traced = λ j h. absurd (not-suc-le-zero h);
+      nulls = λ j h. absurd (not-suc-le-zero h);
+      plain = λ j. refl;
+      size = refl;
+      recordCount = refl;
+      cellCount = refl;
+    }

@@ -1,0 +1,88 @@
+-- Soundness, which is a test, in the equations that the proofs use, and back. Assumes nothing.
+use mathlib.Core.Path.{_≡_, refl, sym, ap, _∙_, subst}
+use mathlib.Core.Bool.{Bool, true, false, cond, not, false≢true, Bool·beq}
+use mathlib.Core.List.{List, [], _∷_}
+use Prim.Native.Nat.{ℕ, zero, suc, _+_, _-_, _≤_, _<_, zero-le, suc-le-suc}
+use native.Mathlib.Nat.{zero-add, add-zero, suc-add, add-suc, not-suc-le-zero, le-of-suc-le-suc, zero-lt-suc}
+use native.Mathlib.Omega.{arith}
+use lib.ListN.{length, getD, List·getD-eq-default}
+use lib.Dec.{eqb, ltb}
+use borrow.Author.Tests.{eqb-true, lt-ltb, ltb-true, ltb-false}
+use Rattle.lists.specs.Lists.{every, isIn, distinct, allZero}
+use Rattle.model.specs.State.{Block, Shelf}
+use Rattle.model.specs.Records.{namedCells}
+use Rattle.model.specs.Sound.{hasCells, areFilled}
+use Rattle.laws.proofs.Uses.{bit, nothing-bit}
+use Rattle.laws.proofs.Sweep.{Exact, bit-most}
+use Rattle.lists.proofs.Tests.{all-true, clause}
+use Rattle.lists.proofs.Uses.{all-below, below-all, beq-by, distinct-most, exact-at, in-uses, most-distinct, not-in, uses, uses-in, uses-not-in}
+
+-- ---- membership as a number
+
+filled-at : (named : List ℕ) (i : ℕ) (cells : List Block) → areFilled named i cells ≡ true → (j : ℕ) → j < length cells
+    → Bool·beq (isIn (i + j) named) (not (allZero (getD cells j []))) ≡ true
+unfolding areFilled
+filled-at named i [] h j b = absurd (not-suc-le-zero b)
+filled-at named i (x ∷ cells) h zero b = ap (λ (n : ℕ). Bool·beq (isIn n named) (not (allZero x))) (add-zero i) ∙ clause _ 0 h
+filled-at named i (x ∷ cells) h (suc j) b =
+    ap (λ (n : ℕ). Bool·beq (isIn n named) (not (allZero (getD cells j [])))) (add-suc i j ∙ sym (suc-add i j))
+    ∙ filled-at named (suc i) cells (clause _ 1 h) j (le-of-suc-le-suc b)
+
+at-filled : (named : List ℕ) (i : ℕ) (cells : List Block)
+    → ((j : ℕ) → j < length cells → Bool·beq (isIn (i + j) named) (not (allZero (getD cells j []))) ≡ true) → areFilled named i cells ≡ true
+unfolding areFilled
+at-filled named i [] h = refl
+at-filled named i (x ∷ cells) h =
+    all-true _ (
+      ap (λ (n : ℕ). Bool·beq (isIn n named) (not (allZero x))) (sym (add-zero i)) ∙ h 0 (zero-lt-suc (length cells)),
+      (
+        at-filled named (suc i) cells (λ j b.
+            ap (λ (n : ℕ). Bool·beq (isIn n named) (not (allZero (getD cells j [])))) (suc-add i j ∙ sym (add-suc i j)) ∙ h (suc j) (suc-le-suc b)),
+        tt,
+      ),
+    )
+
+-- ---- the cells are exact
+
+pub sound-exact : (shelf : Shelf) → hasCells shelf ≡ true → areFilled (namedCells (shelf .records)) 0 (shelf .cells) ≡ true → Exact shelf
+unfolding hasCells bit
+sound-exact shelf h g c = go (ltb c (length (shelf .cells))) refl
+  where
+    named : List ℕ
+    named = namedCells (shelf .records)
+
+    go : (t : Bool) → ltb c (length (shelf .cells)) ≡ t → uses c named ≡ cond (allZero (getD (shelf .cells) c [])) 0 1
+    go true e =
+        exact-at (uses c named) (isIn c named) (allZero (getD (shelf .cells) c [])) (in-uses c named) (not-in c named) (distinct-most c named (clause _ 1 h))
+        (ap (λ (n : ℕ). Bool·beq (isIn n named) (not (allZero (getD (shelf .cells) c [])))) (sym (zero-add c))
+        ∙ filled-at named 0 (shelf .cells) g c (ltb-true c (length (shelf .cells)) e))
+    go false e =
+        (let z : uses c named ≡ 0 = none (ltb 0 (uses c named)) refl in z)
+        ∙ sym (ap bit (List·getD-eq-default (shelf .cells) [] (ltb-false c (length (shelf .cells)) e)) ∙ nothing-bit)
+      where
+        none : (t : Bool) → ltb 0 (uses c named) ≡ t → uses c named ≡ 0
+        none true q = absurd (not-suc-le-zero (let z : 1 ≤ 0 = omega (arith, below-all (length (shelf .cells)) named (clause _ 0 h) c (ltb-true 0 (uses c named) q), ltb-false c (length (shelf .cells)) e) in z))
+        none false q = omega (arith, ltb-false 0 (uses c named) q)
+
+pub exact-sound : (shelf : Shelf) → Exact shelf → (hasCells shelf ≡ true) × (areFilled (namedCells (shelf .records)) 0 (shelf .cells) ≡ true)
+unfolding hasCells bit
+exact-sound shelf x = (
+  all-true _ (all-below n named inside, (most-distinct named (λ c. omega (arith, x c, bit-most (getD (shelf .cells) c []))), tt)),
+  at-filled named 0 (shelf .cells) (λ j b.
+      ap (λ (k : ℕ). Bool·beq (isIn k named) (not (allZero (getD (shelf .cells) j [])))) (zero-add j)
+      ∙ beq-by (uses j named) (isIn j named) (allZero (getD (shelf .cells) j [])) (uses-in j named) (uses-not-in j named) (x j)),
+)
+  where
+    n : ℕ
+    n = length (shelf .cells)
+
+    named : List ℕ
+    named = namedCells (shelf .records)
+
+    inside : (c : ℕ) → 0 < uses c named → c < n
+    inside c u = go (ltb c n) refl
+      where
+        go : (t : Bool) → ltb c n ≡ t → c < n
+        go true e = ltb-true c n e
+        go false e =
+            absurd (not-suc-le-zero (subst (λ (k : ℕ). 0 < k) (x c ∙ ap bit (List·getD-eq-default (shelf .cells) [] (ltb-false c n e)) ∙ nothing-bit) u))

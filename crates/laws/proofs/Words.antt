@@ -1,0 +1,180 @@
+-- Every word of a sound state's table is below 2^32, so that a table of 32-bit words can hold it. Assumes nothing.
+use mathlib.Core.Path.{_≡_, refl, sym, subst}
+use mathlib.Core.Bool.{Bool, true, false, false≢true}
+use mathlib.Core.List.{List, [], _∷_, map}
+use Prim.Native.Nat.{ℕ, zero, suc, _+_, _-_, _*_, _^_, _≤_, _<_}
+use native.Mathlib.Nat.{pow-le-pow-right}
+use native.Mathlib.Omega.{arith}
+use lib.ListN.{length, getD}
+use lib.Dec.{eqb, lit<}
+use borrow.Author.Tests.{eqb-true, leb-true}
+use Rattle.lists.specs.Lists.{every, counted, sameNumbers}
+use Rattle.lists.specs.Rows.{joined, rows}
+use Rattle.lists.specs.Each.{Each}
+use Rattle.lists.proofs.Each.{each-at, each-both, each-joined, each-map, each-map-at, each-of, each-weaken, each-append}
+use Rattle.lists.proofs.Tests.{clause, cond-true, every-head, every-tail}
+use Rattle.lists.proofs.Uses.{uses-in}
+use Rattle.lists.proofs.Rows.{each-fill}
+use Rattle.lists.proofs.Masks.{mask-lt}
+use Rattle.model.specs.Measures.{Shape, slotWords, inRange, isWithin}
+use Rattle.model.specs.State.{Pointer, nullPointer, direct, indirect, Position, nullPosition, held, removed, Segment, Version, Till, State}
+use Rattle.model.specs.Records.{isHeld, isRemoved, cellOf, countOf, namedCells}
+use Rattle.model.specs.Table.{pointerWord, recordToWords, versionToWords, tillToWords, headerToWords, stateToWords}
+use Rattle.model.specs.Sound.{isSound, isTill, isNumbered, areTraceable, hasLength}
+use Rattle.laws.proofs.Sweep.{named-one}
+use Rattle.laws.proofs.Counts.{at}
+use Rattle.laws.proofs.Place.{held-named}
+use Rattle.laws.proofs.Named.{named-inside}
+use Rattle.laws.proofs.Bounds.{count-bound}
+use Rattle.laws.proofs.Fits.{Fit, PointerFits, VersionFits, TillFits, StateFits, state-fits}
+
+abbrev pub Word : ℕ → Type 0
+Word n = n < 4294967296
+
+-- ---- versions
+
+pointer-word : (p : Pointer) → PointerFits p → Word (pointerWord p)
+unfolding pointerWord
+pointer-word nullPointer h = lit< tt
+pointer-word (direct k i) h = omega (arith, h .1)
+pointer-word (indirect n) h = omega (arith, h)
+
+numbers-most : (last : ℕ) (vs : List Version) (b n : ℕ) → sameNumbers (map (λ (v : Version). v .number) vs) (counted (λ x. x) b n) ≡ true → b + n ≤ suc last
+    → Each (λ (v : Version). v .number ≤ last) vs
+unfolding sameNumbers counted
+numbers-most last [] b n h l = tt
+numbers-most last (v ∷ vs) b zero h l = absurd (false≢true h)
+numbers-most last (v ∷ vs) b (suc n) h l =
+    let (e, r) = cond-true (eqb (v .number) b) (sameNumbers (map (λ (v : Version). v .number) vs) (counted (λ x. x) (suc b) n)) h in
+    (omega (arith, eqb-true (v .number) b e, l), numbers-most last vs (suc b) n r (omega (arith, l)))
+
+lengths-most : (s : Shape) (st : State) (vs : List Version) → areTraceable (s .measures .blockBytes) (s .capacities .blocks) (st .shelf) vs ≡ true
+    → Each (λ (v : Version). v .length ≤ s .measures .blockBytes * s .capacities .blocks) vs
+unfolding areTraceable hasLength isWithin
+lengths-most s st [] h = tt
+lengths-most s st (v ∷ vs) h = (leb-true _ _ (clause _ 1 (clause _ 0 (clause _ 0 h))), lengths-most s st vs (clause _ 3 h))
+
+module _ (s : Shape) (fit : Fit s) (st : State) (h : isSound s st ≡ true) (small : Word (s .measures .blockBytes * s .capacities .blocks)) where
+  fits : StateFits s st
+  fits = state-fits s st (fit .proper .bytes) (fit .most) h
+
+  abbrev Small : Version → Type 0
+  Small v = VersionFits s v × ((v .number ≤ 65535) × (v .length ≤ s .measures .blockBytes * s .capacities .blocks))
+
+  version-words : (v : Version) → Small v → Each Word (versionToWords (s .capacities .blocks) v)
+  unfolding versionToWords
+  version-words v f = (
+    omega (arith, f .1 .0),
+    (
+      omega (arith, f .1 .1, small),
+      (
+        lit< tt,
+        each-fill Word (s .capacities .blocks) (map pointerWord (v .pointers)) (lit< tt)
+            (each-map Word pointerWord (v .pointers) (each-weaken PointerFits _ pointer-word (v .pointers) (f .0 .pointers))),
+      ),
+    ),
+  )
+
+  abbrev SmallTill : Till → Type 0
+  SmallTill t = (t .last ≤ 65535) × (length (t .versions) ≤ 65535) × Each Small (t .versions)
+
+  till-words : (t : Till) → SmallTill t → Each Word (tillToWords (s .capacities .versions) (s .capacities .blocks) t)
+  unfolding tillToWords
+  till-words t f = (
+    omega (arith, f .0),
+    (
+      omega (arith, f .1),
+      (
+        lit< tt,
+        (
+          lit< tt,
+          each-fill Word (s .capacities .versions * slotWords (s .capacities .blocks)) (rows (versionToWords (s .capacities .blocks)) (t .versions)) (lit< tt)
+              (each-joined Word Small (versionToWords (s .capacities .blocks)) version-words (t .versions) (f .2)),
+        ),
+      ),
+    ),
+  )
+
+  small-till : (t : Till) → TillFits s t → isTill s (st .shelf) t ≡ true → SmallTill t
+  unfolding isTill isNumbered
+  small-till t f e =
+      let top : t .last ≤ 65535 = leb-true _ _ (clause _ 2 (clause _ 0 e)) in
+      let low : length (t .versions) ≤ t .last = leb-true _ _ (clause _ 1 (clause _ 0 e)) in (
+        top,
+        omega (arith, top, low),
+        each-both (VersionFits s) (λ (v : Version). (v .number ≤ 65535) × (v .length ≤ s .measures .blockBytes * s .capacities .blocks)) (t .versions) (f .versions)
+            (each-both (λ (v : Version). v .number ≤ 65535) (λ (v : Version). v .length ≤ s .measures .blockBytes * s .capacities .blocks) (t .versions)
+            (numbers-most 65535 (t .versions) (suc (t .last) - length (t .versions)) (length (t .versions)) (clause _ 3 (clause _ 0 e)) (omega (arith, top, low)))
+            (lengths-most s st (t .versions) (clause _ 1 e))),
+      )
+
+  small-tills : (ts : List Till) → Each (TillFits s) ts → every (isTill s (st .shelf)) ts ≡ true → Each SmallTill ts
+  small-tills [] f e = tt
+  small-tills (t ∷ ts) f e = (small-till t (f .0) (every-head (isTill s (st .shelf)) t ts e), small-tills ts (f .1) (every-tail (isTill s (st .shelf)) t ts e))
+
+  -- ---- records
+
+  sixteen : (n : ℕ) → n ≤ 16 → 2 ^ n ≤ 65536
+  sixteen n l = pow-le-pow-right (lit< tt) l
+
+  position-words : (k i : ℕ) → Word (cellOf (at (st .shelf .records) k i)) × Word (countOf (at (st .shelf .records) k i))
+  unfolding isSound inRange isWithin
+  position-words k i = (cell (isHeld (at (st .shelf .records) k i)) refl, omega (arith, count-bound s fit st h k i))
+    where
+      unheld : (p : Position) → isHeld p ≡ false → cellOf p ≡ 0
+      unheld nullPosition e = refl
+      unheld (held c n) e = absurd (false≢true (sym e))
+      unheld removed e = refl
+
+      cell : (b : Bool) → isHeld (at (st .shelf .records) k i) ≡ b → Word (cellOf (at (st .shelf .records) k i))
+      cell true e =
+          let c : ℕ = cellOf (at (st .shelf .records) k i) in
+          let top : s .capacities .cells ≤ 32768 = leb-true _ _ (clause _ 1 (clause _ 4 (clause _ 0 h))) in
+          omega (
+            arith,
+            top,
+            named-inside s st h c
+                (uses-in c (namedCells (st .shelf .records)) (omega (arith, held-named (getD (st .shelf .records) k []) i e, named-one c (st .shelf .records) k))),
+          )
+      cell false e = rw (unheld (at (st .shelf .records) k i) e) (lit< tt)
+
+  record-words : (k : ℕ) → length (getD (st .shelf .records) k []) ≤ 16 → Each Word (recordToWords (getD (st .shelf .records) k []))
+  unfolding recordToWords
+  record-words k l =
+      let seg : Segment = getD (st .shelf .records) k [] in (
+        omega (arith, mask-lt isHeld seg, sixteen (length seg) l),
+        (
+          omega (arith, mask-lt isRemoved seg, sixteen (length seg) l),
+          (
+            lit< tt,
+            each-append Word (map cellOf seg) (map countOf seg) (each-map-at Word cellOf nullPosition seg (λ j q. position-words k j .0))
+                (each-map-at Word countOf nullPosition seg (λ j q. position-words k j .1)),
+          ),
+        ),
+      )
+
+  records-words : Each Word (joined (map recordToWords (st .shelf .records)))
+  records-words =
+      each-joined Word (λ (seg : Segment). Each Word (recordToWords seg)) recordToWords (λ seg f. f) (st .shelf .records)
+      (each-of (λ (seg : Segment). Each Word (recordToWords seg)) [] (st .shelf .records) (λ k l. record-words k (size k l)))
+    where
+      size : (k : ℕ) → k < length (st .shelf .records) → length (getD (st .shelf .records) k []) ≤ 16
+      size k l = subst (λ (n : ℕ). n ≤ 16) (sym (each-at (λ (seg : Segment). length seg ≡ s .measures .segmentBlocks) [] (st .shelf .records) (fits .records) k l)) (fit .most)
+
+  header-words : Each Word (headerToWords s)
+  unfolding headerToWords isSound inRange isWithin
+  header-words =
+      let r : inRange s ≡ true = clause _ 0 h in
+      let a : s .capacities .tills ≤ 16 = leb-true _ _ (clause _ 1 (clause _ 0 r)) in
+      let b : s .capacities .versions ≤ 64 = leb-true _ _ (clause _ 1 (clause _ 1 r)) in
+      let c : s .capacities .blocks ≤ 1024 = leb-true _ _ (clause _ 1 (clause _ 2 r)) in
+      let d : s .capacities .records ≤ 4096 = leb-true _ _ (clause _ 1 (clause _ 3 r)) in
+      let e : s .capacities .cells ≤ 32768 = leb-true _ _ (clause _ 1 (clause _ 4 r)) in
+      (omega (arith, a), (omega (arith, b), (omega (arith, c), (omega (arith, d), (omega (arith, e), (lit< tt, (lit< tt, (lit< tt, tt))))))))
+
+  pub words-fit : Each Word (stateToWords s st)
+  unfolding stateToWords isSound
+  words-fit =
+      each-append Word (headerToWords s) _ header-words
+      (each-append Word (joined (map (tillToWords (s .capacities .versions) (s .capacities .blocks)) (st .tills))) _
+      (each-joined Word SmallTill (tillToWords (s .capacities .versions) (s .capacities .blocks)) till-words (st .tills) (small-tills (st .tills) (fits .tills) (clause _ 4 h))) records-words)
