@@ -1,4 +1,4 @@
--- Bullets 1, 2 and 3 of demand 3: what each call on a till answers, by its kept versions alone. Assumes nothing.
+-- Bullets 1, 2 and 3 of demand 3: what each call on a till answers, by its kept versions alone.
 use mathlib.Core.Path.{_≡_, refl, sym, ap, ap₂, _∙_, subst}
 use mathlib.Core.Bool.{Bool, true, false, cond, _||_}
 use mathlib.Core.List.{List, [], _∷_, _++_, map}

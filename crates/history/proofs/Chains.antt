@@ -1,4 +1,4 @@
--- The pointers and the longest chain of a held version follow from the till's images alone. Assumes nothing.
+-- The pointers and the longest chain of a held version follow from the till's images alone.
 use mathlib.Core.Path.{_≡_, refl, sym, ap, ap₂, _∙_}
 use mathlib.Core.Bool.{Bool, true, false, false≢true}
 use mathlib.Core.List.{List, [], _∷_, map}

@@ -1,4 +1,4 @@
--- Demand 3 whole, as one term, for any measures that a table can hold, and so for the base. Assumes nothing.
+-- Demand 3 whole, as one term, for any measures that a table can hold, and so for the base.
 use mathlib.Core.Path.{_≡_, sym, ap, _∙_, subst}
 use mathlib.Core.Option.{Option}
 use Rattle.lists.specs.Rows.{chunks}

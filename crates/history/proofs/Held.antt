@@ -1,4 +1,4 @@
--- Versions of a state that can be read, and what their pointers are. Assumes nothing.
+-- Versions of a state that can be read, and what their pointers are.
 -- versions of the state that can be read
 use mathlib.Core.Path.{_≡_, refl, sym, ap, _∙_}
 use mathlib.Core.Bool.{Bool, true, false}

@@ -1,4 +1,4 @@
--- The images of the held versions are those that a keeper of whole images has. Assumes nothing.
+-- The images of the held versions are those that a keeper of whole images has.
 -- each version's number and image, the oldest first
 use mathlib.Core.Path.{_≡_, refl, ap, ap₂, _∙_}
 use mathlib.Core.Bool.{true}

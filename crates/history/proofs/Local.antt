@@ -1,4 +1,4 @@
--- What a call on a till answers follows from that till's kept versions alone, 14 and 16 apart. Assumes nothing.
+-- What a call on a till answers follows from that till's kept versions alone, 14 and 16 apart.
 use mathlib.Core.Path.{_≡_, refl, sym, ap, ap₂, _∙_, subst}
 use mathlib.Core.Logic.{_⊎_, inl, inr}
 use mathlib.Core.Bool.{Bool, true, false, cond, not, _||_, false≢true}

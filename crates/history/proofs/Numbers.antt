@@ -1,4 +1,4 @@
--- The numbers of the kept versions. Assumes nothing.
+-- The numbers of the kept versions.
 use mathlib.Core.Path.{_≡_, refl, sym, ap, _∙_, subst}
 use mathlib.Core.Bool.{Bool, true, false}
 use mathlib.Core.List.{List, [], _∷_, map}

@@ -1,4 +1,4 @@
--- A refused call, of any buffers: it alters none of them, and every other field of its answer is 0. Assumes nothing.
+-- A refused call, of any buffers: it alters none of them, and every other field of its answer is 0.
 use mathlib.Core.Path.{_≡_, refl, ap}
 use mathlib.Core.List.{List, [], _∷_}
 use mathlib.Core.Option.{Option, none, some}

@@ -1,4 +1,4 @@
--- The versions from a number, and the length of an image. Assumes nothing.
+-- The versions from a number, and the length of an image.
 -- the kept versions from a number are the images of the held ones from it
 use mathlib.Core.Path.{_≡_, refl, sym, ap, _∙_, subst}
 use mathlib.Core.Bool.{Bool, true, false, cond}

@@ -1,4 +1,4 @@
--- Sharing, exactly: what each pointer is follows from the traced blocks of its version and of the next newer one. Assumes nothing.
+-- Sharing, exactly: what each pointer is follows from the traced blocks of its version and of the next newer one.
 -- every pointer of every version of the list, the newest last
 use mathlib.Core.Path.{_≡_, refl, sym, ap, ap₂, _∙_}
 use mathlib.Core.Bool.{Bool, true, false, false≢true}

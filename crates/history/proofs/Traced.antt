@@ -1,4 +1,4 @@
--- A held version's image, cut into blocks, is its traced blocks: nothing is lost by cutting them at its length. Assumes nothing.
+-- A held version's image, cut into blocks, is its traced blocks: nothing is lost by cutting them at its length.
 use mathlib.Core.Path.{_≡_, ap, _∙_}
 use mathlib.Core.Bool.{true}
 use mathlib.Core.List.{List, [], _∷_}

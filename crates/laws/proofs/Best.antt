@@ -1,5 +1,5 @@
 -- The run that is found is the page's: the shortest maximal run of free cells that is long enough, the lowest of equals; none only where there is
--- no such run. Assumes nothing.
+-- no such run.
 use mathlib.Core.Path.{_≡_, refl, sym, ap, _∙_, subst}
 use mathlib.Core.Logic.{_⊎_, inl, inr}
 use mathlib.Core.Bool.{Bool, true, false, false≢true}

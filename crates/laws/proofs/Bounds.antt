@@ -1,4 +1,4 @@
--- How large counts get: a position's count, and the sum of all, which is the number of direct pointers. Assumes nothing.
+-- How large counts get: a position's count, and the sum of all, which is the number of direct pointers.
 use mathlib.Core.Path.{_≡_, refl, sym, ap, ap₂, _∙_, subst}
 use mathlib.Core.Bool.{Bool, true, false, cond}
 use mathlib.Core.List.{List, [], _∷_}

@@ -1,4 +1,4 @@
--- Removal keeps the lengths, leaves no position with count 0, and leaves every record free or in use. Assumes nothing.
+-- Removal keeps the lengths, leaves no position with count 0, and leaves every record free or in use.
 use mathlib.Core.Path.{_≡_, refl, ap, _∙_, subst}
 use mathlib.Core.Bool.{Bool, true, false, _||_, false≢true}
 use mathlib.Core.List.{List, [], _∷_, map}

@@ -1,4 +1,4 @@
--- Counts are the numbers of direct pointers, and a release lowers them by just those released. Assumes nothing.
+-- Counts are the numbers of direct pointers, and a release lowers them by just those released.
 use mathlib.Core.Path.{_≡_, refl, sym, ap, ap₂, _∙_}
 use mathlib.Core.Bool.{Bool, true, false, cond, _||_, false≢true}
 use mathlib.Core.List.{List, [], _∷_}

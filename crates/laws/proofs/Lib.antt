@@ -20,3 +20,4 @@ pub mod Empty
 pub mod Named
 pub mod Bounds
 pub mod Words
+pub mod Calls

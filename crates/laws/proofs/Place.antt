@@ -1,5 +1,5 @@
 -- A segment that shares a record or fills a free one: the shelf keeps what it has, the new pointers are counted, and they lead to the segment's
--- blocks. Assumes nothing.
+-- blocks.
 use mathlib.Core.Path.{_≡_, refl, sym, ap, ap₂, _∙_, subst}
 use mathlib.Core.Logic.{_⊎_, inl, inr}
 use mathlib.Core.Bool.{Bool, true, false, cond, not, _||_, false≢true}

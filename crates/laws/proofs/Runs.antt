@@ -1,4 +1,4 @@
--- A run that the search finds is free and long enough. Assumes nothing.
+-- A run that the search finds is free and long enough.
 use mathlib.Core.Path.{_≡_, refl, sym, ap, _∙_, subst}
 use mathlib.Core.Bool.{Bool, true, false, cond, not, false≢true}
 use mathlib.Core.List.{List, [], _∷_}

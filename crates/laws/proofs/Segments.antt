@@ -1,4 +1,4 @@
--- Placing one segment, and all segments of an image: step 1 of a backup. Assumes nothing.
+-- Placing one segment, and all segments of an image: step 1 of a backup.
 use mathlib.Core.Path.{_≡_, refl, sym, ap, ap₂, _∙_, subst}
 use mathlib.Core.Logic.{_⊎_, inl, inr}
 use mathlib.Core.Bool.{Bool, true, false}

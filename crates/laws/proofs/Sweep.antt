@@ -1,4 +1,4 @@
--- Removal keeps every count, every block with a count, and the cells exact. Assumes nothing.
+-- Removal keeps every count, every block with a count, and the cells exact.
 use mathlib.Core.Path.{_≡_, refl, sym, ap, _∙_, subst}
 use mathlib.Core.Logic.{_⊎_, inl, inr}
 use mathlib.Core.Bool.{Bool, true, false, not}

@@ -1,4 +1,4 @@
--- The previous version's pointers turn: every older version is traced to the same blocks as before. Assumes nothing.
+-- The previous version's pointers turn: every older version is traced to the same blocks as before.
 use mathlib.Core.Path.{_≡_, refl, sym, ap, ap₂, _∙_, subst}
 use mathlib.Core.Bool.{Bool, true, false, cond, not, false≢true}
 use mathlib.Core.List.{List, [], _∷_, _++_, map}

@@ -1,4 +1,4 @@
--- How often a cell is named, as a number: the invariants on cells become equations that `omega` adds up. Assumes nothing.
+-- How often a cell is named, as a number: the invariants on cells become equations that `omega` adds up.
 use mathlib.Core.Path.{_≡_, refl, sym, ap, _∙_, subst}
 use mathlib.Core.Bool.{Bool, true, false, cond}
 use mathlib.Core.List.{List, [], _∷_, _++_, map}

@@ -1,4 +1,4 @@
--- Soundness, which is a test, in the equations that the proofs use, and back. Assumes nothing.
+-- Soundness, which is a test, in the equations that the proofs use, and back.
 use mathlib.Core.Path.{_≡_, refl, sym, ap, _∙_, subst}
 use mathlib.Core.Bool.{Bool, true, false, cond, not, false≢true, Bool·beq}
 use mathlib.Core.List.{List, [], _∷_}

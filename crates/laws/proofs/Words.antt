@@ -1,4 +1,4 @@
--- Every word of a sound state's table is below 2^32, so that a table of 32-bit words can hold it. Assumes nothing.
+-- Every word of a sound state's table is below 2^32, so that a table of 32-bit words can hold it.
 use mathlib.Core.Path.{_≡_, refl, sym, subst}
 use mathlib.Core.Bool.{Bool, true, false, false≢true}
 use mathlib.Core.List.{List, [], _∷_, map}

@@ -1,0 +1,49 @@
+-- A sound store's calls leave a sound store, on the buffers: whatever is backed up or retired, accepted or refused.
+use mathlib.Core.Path.{_≡_, refl, ap, ap₂, _∙_}
+use mathlib.Core.Bool.{true}
+use mathlib.Core.List.{List}
+use mathlib.Core.Option.{Option, some}
+use Prim.Native.Nat.{ℕ}
+use Rattle.model.specs.Measures.{Shape}
+use Rattle.model.specs.State.{State, Outcome, refused, done}
+use Rattle.model.specs.Table.{stateToWords, stateToBytes}
+use Rattle.model.specs.Sound.{isSound, Store, storeOf}
+use Rattle.model.specs.Calls.{layoutAs, emptyState, backup, backupAnswer, backupIn, backupOf, retire, retireAnswer, retireIn, retireOf, After}
+use Rattle.laws.proofs.Fits.{Fit}
+use Rattle.laws.proofs.RoundTrip.{round-trip, store-found}
+use Rattle.laws.proofs.Empty.{empty-sound, layout-accepted}
+use Rattle.laws.proofs.Backup.{backup-sound}
+use Rattle.laws.proofs.Retire.{retire-sound}
+
+-- the buffers are a sound store
+pub record IsStore (pool table : List ℕ) : Type 0 where
+  pub store : Store
+  pub is : storeOf pool table ≡ some store
+
+left : (s : Shape) (st : State) → Fit s → isSound s st ≡ true → IsStore (stateToBytes st) (stateToWords s st)
+left s st fit h = record { store = record { shape = s; state = st }; is = round-trip s st fit h }
+
+pub layout-leaves : (s : Shape) → Fit s → (pool table : List ℕ) → layoutAs s pool table .refusal ≡ 0
+    → IsStore (layoutAs s pool table .pool) (layoutAs s pool table .table)
+layout-leaves s fit pool table h =
+    let a = layout-accepted s pool table h in rw (a .1, a .2) (left s (emptyState s) fit (empty-sound s (a .0)))
+
+module _ (pool table : List ℕ) (x : Store) (e : storeOf pool table ≡ some x) (fit : Fit (x .shape)) where
+  pub backup-leaves : (t : ℕ) (image : List ℕ) → IsStore (backupOf pool table t image .pool) (backupOf pool table t image .table)
+  unfolding backupOf backupIn
+  backup-leaves t image = rw e (go (backup (x .shape) (x .state) t image) refl)
+    where
+      go : (o : Outcome After) → backup (x .shape) (x .state) t image ≡ o
+          → IsStore (backupAnswer pool table (x .shape) o .pool) (backupAnswer pool table (x .shape) o .table)
+      go (refused n) q = unfold backupAnswer in record { store = x; is = e }
+      go (done a) q =
+          unfold backupAnswer in left (x .shape) (a .state) fit (backup-sound (x .shape) (fit .proper) t image (x .state) a (store-found pool table x e .sound) q)
+
+  pub retire-leaves : (t v : ℕ) → IsStore (retireOf pool table t v .pool) (retireOf pool table t v .table)
+  unfolding retireOf retireIn
+  retire-leaves t v = rw e (go (retire (x .shape) (x .state) t v) refl)
+    where
+      go : (o : Outcome After) → retire (x .shape) (x .state) t v ≡ o
+          → IsStore (retireAnswer pool table (x .shape) o .pool) (retireAnswer pool table (x .shape) o .table)
+      go (refused n) q = unfold retireAnswer in record { store = x; is = e }
+      go (done a) q = unfold retireAnswer in left (x .shape) (a .state) fit (retire-sound (x .shape) t v (x .state) a (store-found pool table x e .sound) q)
