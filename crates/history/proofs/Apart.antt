@@ -1,6 +1,5 @@
 -- Two histories from a fresh lay out that differ only in accepted calls on one till: calls on the other tills answer the same in both, and the
 -- other tills show the same, as long as no backup is answered 14 or 16.
--- a call of both histories, or of one
 use mathlib.Core.Path.{_≡_, refl, sym, ap, _∙_}
 use mathlib.Core.Bool.{Bool, true, false, false≢true}
 use mathlib.Core.List.{List, [], _∷_}
@@ -22,6 +21,7 @@ use Rattle.history.proofs.Frame.{till-view, fed-is, fed-other}
 use Rattle.history.proofs.Local.{HasRoom}
 use Rattle.history.proofs.Bullets.{answer-kept}
 
+-- a call of both histories, or of one
 pub data Item : Type 0 where
   both : Call → Item
   first : Call → Item

@@ -1,5 +1,4 @@
 -- The occupied cells, the cells that are not zero and the cells that a direct pointer leads to are the same ones, and a tally counts them.
---
 use mathlib.Core.Path.{_≡_, refl, sym, ap, ap₂, _∙_, subst}
 use mathlib.Core.Logic.{_↔_}
 use mathlib.Core.Bool.{Bool, true, false, cond, false≢true}

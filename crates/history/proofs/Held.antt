@@ -1,5 +1,4 @@
 -- Versions of a state that can be read, and what their pointers are.
--- versions of the state that can be read
 use mathlib.Core.Path.{_≡_, refl, sym, ap, _∙_}
 use mathlib.Core.Bool.{Bool, true, false}
 use mathlib.Core.List.{List, [], _∷_, map}
@@ -25,6 +24,7 @@ use Rattle.history.proofs.Sharing.{Kinded, KindedTill, AllKinded}
 use Rattle.history.proofs.Restore.{from-same, from-traceable, from-among, image-length, till-ok}
 use Rattle.history.proofs.Chains.{from-kinded, kinds-kept}
 
+-- versions of the state that can be read
 pub record Readable (s : Shape) (st : State) (vs : List Version) : Type 0 where
   pub traceable : areTraceable (s .measures .blockBytes) (s .capacities .blocks) (st .shelf) vs ≡ true
   pub among : (k i : ℕ) → count (leadsTo k i) (pointersOf vs) ≤ count (leadsTo k i) (allPointers (st .tills))

@@ -1,5 +1,4 @@
 -- The images of the held versions are those that a keeper of whole images has.
--- each version's number and image, the oldest first
 use mathlib.Core.Path.{_≡_, refl, ap, ap₂, _∙_}
 use mathlib.Core.Bool.{true}
 use mathlib.Core.List.{List, [], _∷_, _++_, map}
@@ -27,6 +26,7 @@ use Rattle.laws.proofs.Image.{blocks-joined}
 use Rattle.laws.proofs.Fits.{Proper}
 use Rattle.history.specs.Keeper.{Kept, KeptTill, Keeper, keptTill, noTill}
 
+-- each version's number and image, the oldest first
 unfoldable pub imagesOf : ℕ → Shelf → List Version → List Kept
 imagesOf bytes shelf [] = []
 imagesOf bytes shelf (v ∷ newer) = record { number = v .number; image = imageOf bytes shelf (v ∷ newer) } ∷ imagesOf bytes shelf newer

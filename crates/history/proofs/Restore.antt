@@ -1,5 +1,4 @@
 -- The versions from a number, and the length of an image.
--- the kept versions from a number are the images of the held ones from it
 use mathlib.Core.Path.{_≡_, refl, sym, ap, _∙_, subst}
 use mathlib.Core.Bool.{Bool, true, false, cond}
 use mathlib.Core.List.{List, [], _∷_, _++_}
@@ -36,6 +35,7 @@ use Rattle.laws.proofs.Named.{inside-any}
 use Rattle.history.specs.Keeper.{keptFrom}
 use Rattle.history.proofs.Images.{imagesOf}
 
+-- the kept versions from a number are the images of the held ones from it
 pub from-same : (m : Measures) (a : Shelf) (v : ℕ) (vs : List Version) → keptFrom v (imagesOf (m .blockBytes) a vs) ≡ imagesOf (m .blockBytes) a (heldFrom v vs)
 unfolding keptFrom imagesOf heldFrom
 from-same m a v [] = refl

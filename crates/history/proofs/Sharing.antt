@@ -1,5 +1,4 @@
 -- Sharing, exactly: what each pointer is follows from the traced blocks of its version and of the next newer one.
--- every pointer of every version of the list, the newest last
 use mathlib.Core.Path.{_≡_, refl, sym, ap, ap₂, _∙_}
 use mathlib.Core.Bool.{Bool, true, false, false≢true}
 use mathlib.Core.List.{List, [], _∷_}
@@ -31,6 +30,7 @@ use Rattle.laws.proofs.Empty.{zero-null}
 use Rattle.history.specs.Kinds.{zeroKind, directKind, kindOf, kindAt, kindFor}
 use Rattle.history.proofs.Images.{new-blocks}
 
+-- every pointer of every version of the list, the newest last
 abbrev pub Kinded : ℕ → Shelf → List Version → Type 0
 Kinded bytes a [] = Unit {0}
 Kinded bytes a (v ∷ newer) =

@@ -1,5 +1,4 @@
 -- The empty store is sound, and what a lay out leaves.
--- a null block is zero
 use mathlib.Core.Path.{_≡_, refl}
 use mathlib.Core.Bool.{Bool, true, false}
 use mathlib.Core.List.{List, []}
@@ -19,6 +18,7 @@ use Rattle.model.specs.Table.{stateToBytes, stateToWords}
 use Rattle.model.specs.Sound.{isSound, isShaped, isNumbered, isTill, areTraceable, isUsed, hasCells, areCounted, allCounted, allPointers, areFilled}
 use Rattle.model.specs.Calls.{emptyTill, emptyState, layoutIf, layoutAs}
 
+-- a null block is zero
 pub zero-null : (bytes : ℕ) → allZero (zeroBlock bytes) ≡ true
 unfolding zeroBlock
 zero-null bytes = zeros-zero bytes

@@ -10,6 +10,7 @@ pub mod First
 pub mod Rows
 pub mod Cuts
 pub mod Slices
+pub mod Copies
 pub mod Parts
 pub mod Uptos
 pub mod Overs

@@ -1,0 +1,4 @@
+-- Laws that the proofs of the functions use.
+pub mod Extra
+pub mod Pieces
+pub mod Parts

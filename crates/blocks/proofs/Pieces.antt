@@ -1,0 +1,98 @@
+-- Tests in pieces, and byte by byte with a count.
+use mathlib.Core.Path.{_≡_, refl, sym, ap, ap₂, _∙_}
+use mathlib.Core.Bool.{Bool, true, false, cond}
+use mathlib.Core.List.{List, [], _∷_, _++_}
+use Prim.Native.Nat.{ℕ, zero, suc, _+_, _-_, _≤_, _<_}
+use native.Mathlib.Numerals.{add-one}
+use native.Mathlib.Omega.{arith}
+use borrow.Author.Tests.{eq-eqb, ne-eqb}
+use lib.Dec.{eqb}
+use lib.ListN.{length, getD, take, drop, length-take, length-drop, take-append-drop}
+use lib.Seq.{take-suc, drop-cons, getD-drop, length-take-le, drop-drop}
+use Rattle.lists.specs.Lists.{every, allZero, sameNumbers}
+use Rattle.lists.proofs.Slices.{drop-next, take-next}
+use Rattle.blocks.proofs.Extra.{zero-append, same-append}
+
+-- ---- a count that is 0 just where a test holds so far
+
+pub count-hit : (c : ℕ) (p q : Bool) → eqb c 0 ≡ p → q ≡ false → eqb (c + 1) 0 ≡ cond p q false
+count-hit c p q e f = ne-eqb (c + 1) 0 (λ z. omega arith) ∙ go p
+  where
+    go : (t : Bool) → false ≡ cond t q false
+    go true = sym f
+    go false = refl
+
+pub count-miss : (c : ℕ) (p q : Bool) → eqb c 0 ≡ p → q ≡ true → eqb c 0 ≡ cond p q false
+count-miss c p q e f = e ∙ go p
+  where
+    go : (t : Bool) → t ≡ cond t q false
+    go true = sym f
+    go false = refl
+
+cond-self : (t : Bool) → cond t true false ≡ t
+cond-self true = refl
+cond-self false = refl
+
+-- the byte at i of what begins at `at`
+next-byte : (l : List ℕ) (at i : ℕ) → at + i < length l → take (i + 1) (drop at l) ≡ take i (drop at l) ++ (getD l (at + i) 0 ∷ [])
+next-byte l at i h = take-next (drop at l) i 0 (omega (arith, length-drop at l)) ∙ ap (λ (x : ℕ). take i (drop at l) ++ (x ∷ [])) (getD-drop at l i 0)
+
+-- ---- all zero
+
+module _ (l : List ℕ) (at : ℕ) where
+  pub zero-more : (i : ℕ) → at + i < length l → allZero (take (i + 1) (drop at l)) ≡ cond (allZero (take i (drop at l))) (eqb (getD l (at + i) 0) 0) false
+  zero-more i h =
+      ap allZero (next-byte l at i h)
+      ∙ zero-append (take i (drop at l)) (getD l (at + i) 0 ∷ [])
+      ∙ ap (λ (t : Bool). cond (allZero (take i (drop at l))) t false) (unfold allZero every in cond-self (eqb (getD l (at + i) 0) 0))
+
+  pub zero-first : (n : ℕ) → at < length l → 0 < n → (getD l at 0 ≡ 0 → ⊥) → allZero (take n (drop at l)) ≡ false
+  unfolding allZero every
+  zero-first zero h z n = absurd (omega arith)
+  zero-first (suc n) h z e = rw (drop-next l at 0 h, ne-eqb (getD l at 0) 0 e)
+
+  zero-piece : (n : ℕ) → allZero (drop at l) ≡ cond (allZero (take n (drop at l))) (allZero (drop (at + n) l)) false
+  zero-piece n =
+      ap allZero (sym (take-append-drop n (drop at l)))
+      ∙ zero-append (take n (drop at l)) (drop n (drop at l))
+      ∙ ap (λ (t : List ℕ). cond (allZero (take n (drop at l))) (allZero t) false) (drop-drop n at l)
+
+  pub zero-stop : (n : ℕ) → allZero (take n (drop at l)) ≡ false → allZero (drop at l) ≡ false
+  zero-stop n e = zero-piece n ∙ rw e
+
+  pub zero-on : (n : ℕ) → allZero (take n (drop at l)) ≡ true → allZero (drop at l) ≡ allZero (drop (at + n) l)
+  zero-on n e = zero-piece n ∙ rw e
+
+-- ---- the same
+
+module _ (a b : List ℕ) (at : ℕ) where
+  pub same-more : (i : ℕ) → at + i < length a → at + i < length b
+      → sameNumbers (take (i + 1) (drop at a)) (take (i + 1) (drop at b))
+      ≡ cond (sameNumbers (take i (drop at a)) (take i (drop at b))) (eqb (getD a (at + i) 0) (getD b (at + i) 0)) false
+  same-more i h k =
+      let n : length (take i (drop at a)) ≡ length (take i (drop at b)) =
+      length-take-le i (drop at a) (omega (arith, length-drop at a)) ∙ sym (length-take-le i (drop at b) (omega (arith, length-drop at b))) in
+      ap₂ sameNumbers (next-byte a at i h) (next-byte b at i k)
+      ∙ same-append (take i (drop at a)) (getD a (at + i) 0 ∷ []) (take i (drop at b)) (getD b (at + i) 0 ∷ []) n
+      ∙ ap (λ (t : Bool). cond (sameNumbers (take i (drop at a)) (take i (drop at b))) t false) (unfold sameNumbers in cond-self (eqb (getD a (at + i) 0) (getD b (at + i) 0)))
+
+  pub same-first : (n : ℕ) → at < length a → at < length b → 0 < n → (getD a at 0 ≡ getD b at 0 → ⊥) → sameNumbers (take n (drop at a)) (take n (drop at b)) ≡ false
+  unfolding sameNumbers
+  same-first zero h k z e = absurd (omega arith)
+  same-first (suc n) h k z e = rw (drop-next a at 0 h, drop-next b at 0 k, ne-eqb (getD a at 0) (getD b at 0) e)
+
+  same-piece : (n : ℕ) → at + n ≤ length a → at + n ≤ length b
+      → sameNumbers (drop at a) (drop at b) ≡ cond (sameNumbers (take n (drop at a)) (take n (drop at b))) (sameNumbers (drop (at + n) a) (drop (at + n) b)) false
+  same-piece n h k =
+      let e : length (take n (drop at a)) ≡ length (take n (drop at b)) =
+      length-take-le n (drop at a) (omega (arith, length-drop at a)) ∙ sym (length-take-le n (drop at b) (omega (arith, length-drop at b))) in
+      ap₂ sameNumbers (sym (take-append-drop n (drop at a))) (sym (take-append-drop n (drop at b)))
+      ∙ same-append (take n (drop at a)) (drop n (drop at a)) (take n (drop at b)) (drop n (drop at b)) e
+      ∙ ap₂ (λ (s t : List ℕ). cond (sameNumbers (take n (drop at a)) (take n (drop at b))) (sameNumbers s t) false) (drop-drop n at a) (drop-drop n at b)
+
+  module _ (n : ℕ) (h : at + n ≤ length a) (k : at + n ≤ length b) where
+    pub same-stop : sameNumbers (take n (drop at a)) (take n (drop at b)) ≡ false → sameNumbers (drop at a) (drop at b) ≡ false
+    same-stop e = same-piece n h k ∙ rw e
+
+    pub same-on : sameNumbers (take n (drop at a)) (take n (drop at b)) ≡ true → sameNumbers (drop at a) (drop at b) ≡ sameNumbers (drop (at + n) a) (drop (at + n) b)
+    same-on e = same-piece n h k ∙ rw e

@@ -1,0 +1,186 @@
+// Blocks of bytes on parts of lent slices: tested, compared, copied and cleared; and the blocks of an image, the last filled up with zeros.
+ghost use mathlib.Core.Path.{_≡_};
+ghost use mathlib.Core.List.{_++_};
+ghost use Prim.Native.Nat.{ℕ, _+_, _*_, _≤_, _<_, min};
+ghost use lib.Dec.{eqb};
+ghost use lib.ListN.{length, take, drop, replicate};
+ghost use Rattle.lists.specs.Lists.{allZero, sameNumbers};
+ghost use Rattle.lists.specs.Rows.{fill};
+ghost use Rattle.model.specs.Image.{blockFrom};
+use numbers::Block;
+use numbers::Cell;
+
+pub fn least(a: usize, b: usize) -> usize
+    ensures { λ r. ⌜ r ≡ min a b ⌝ }
+{
+    if a < b { a } else { b }
+}
+
+// How many of the n bytes at `at` are not 0. No exit from the loop and a count of 8 bits, so that the compiler takes many bytes at a time.
+fn nonzero(part: &[u8], at: usize, n: usize) -> u8
+    requires { ⌜ (n ≤ 64) × (at + n ≤ length (now part)) ⌝ }
+    ensures { λ r. ⌜ eqb r 0 ≡ allZero (take n (drop at (now (part .entry)))) ⌝ }
+{
+    let mut count: u8 = 0;
+    let mut i: usize = 0;
+    while i < n {
+        if part[at + i] != 0 {
+            count += 1;
+        }
+        i += 1;
+    }
+    count
+}
+
+// Whether the 64 bytes at `at` are all 0. The first byte settles most blocks.
+fn piece_zero(part: &[u8], at: usize) -> bool
+    requires { ⌜ at + 64 ≤ length (now part) ⌝ }
+    ensures { λ r. ⌜ r ≡ allZero (take 64 (drop at (now (part .entry)))) ⌝ }
+{
+    if part[at] != 0 {
+        return false;
+    }
+    nonzero(part, at, 64) == 0
+}
+
+// In pieces of 64 bytes, and what is left.
+pub fn all_zero(part: &[u8]) -> bool
+    ensures { λ r. ⌜ r ≡ allZero (now (part .entry)) ⌝ }
+{
+    let mut at: usize = 0;
+    while 64 <= part.len() - at {
+        if !piece_zero(part, at) {
+            return false;
+        }
+        at += 64;
+    }
+    nonzero(part, at, part.len() - at) == 0
+}
+
+// How many of the n bytes at `at` differ.
+fn differing(a: &[u8], b: &[u8], at: usize, n: usize) -> u8
+    requires { ⌜ (n ≤ 64) × (at + n ≤ length (now a)) × (at + n ≤ length (now b)) ⌝ }
+    ensures { λ r. ⌜ eqb r 0 ≡ sameNumbers (take n (drop at (now (a .entry)))) (take n (drop at (now (b .entry)))) ⌝ }
+{
+    let mut count: u8 = 0;
+    let mut i: usize = 0;
+    while i < n {
+        if a[at + i] != b[at + i] {
+            count += 1;
+        }
+        i += 1;
+    }
+    count
+}
+
+// Whether the 64 bytes at `at` are the same. The first byte settles most pairs.
+fn piece_same(a: &[u8], b: &[u8], at: usize) -> bool
+    requires { ⌜ (at + 64 ≤ length (now a)) × (at + 64 ≤ length (now b)) ⌝ }
+    ensures { λ r. ⌜ r ≡ sameNumbers (take 64 (drop at (now (a .entry)))) (take 64 (drop at (now (b .entry)))) ⌝ }
+{
+    if a[at] != b[at] {
+        return false;
+    }
+    differing(a, b, at, 64) == 0
+}
+
+// In pieces of 64 bytes, and what is left.
+pub fn same(a: &[u8], b: &[u8]) -> bool
+    ensures { λ r. ⌜ r ≡ sameNumbers (now (a .entry)) (now (b .entry)) ⌝ }
+{
+    if a.len() != b.len() {
+        return false;
+    }
+    let mut at: usize = 0;
+    while 64 <= a.len() - at {
+        if !piece_same(a, b, at) {
+            return false;
+        }
+        at += 64;
+    }
+    differing(a, b, at, a.len() - at) == 0
+}
+
+// The source's bytes to the front of the destination.
+pub fn copy_in(src: &[u8], dst: &mut [u8])
+    requires { ⌜ length (now src) ≤ length (now dst) ⌝ }
+    ensures { λ _. ⌜ now (dst .exit) ≡ now (src .entry) ++ drop (length (now (src .entry))) (now (dst .entry)) ⌝ }
+{
+    let mut i: usize = 0;
+    while i < src.len() {
+        dst[i] = src[i];
+        i = i + 1;
+    }
+}
+
+// n bytes of the pool, from `from` on, to the output, from `to` on.
+pub fn copy_block(pool: &[u8], from: usize, out: &mut [u8], to: usize, n: usize)
+    requires { ⌜ (from + n ≤ length (now pool)) × (to + n ≤ length (now out)) ⌝ }
+    ensures { λ _. ⌜ now (out .exit) ≡ take to (now (out .entry)) ++ (take n (drop from (now (pool .entry))) ++ drop (to + n) (now (out .entry))) ⌝ }
+{
+    let end = from + n;
+    copy_in(&pool[from..end], &mut out[to..]);
+}
+
+pub fn clear(part: &mut [u8])
+    ensures { λ _. ⌜ now (part .exit) ≡ replicate (length (now (part .entry))) 0 ⌝ }
+{
+    let mut i: usize = 0;
+    while i < part.len() {
+        part[i] = 0;
+        i = i + 1;
+    }
+}
+
+pub fn clear_cell(pool: &mut [u8], c: Cell)
+    requires { ⌜ (c .0 < 32768) × (c .0 * 64 + 64 ≤ length (now pool)) ⌝ }
+    ensures { λ _. ⌜ now (pool .exit) ≡ take (c .0 * 64) (now (pool .entry)) ++ (replicate 64 0 ++ drop (c .0 * 64 + 64) (now (pool .entry))) ⌝ }
+{
+    let at = c.byte();
+    let end = at + Block::BYTES;
+    clear(&mut pool[at..end]);
+}
+
+// Whether a block equals a part, filled up with zeros.
+pub fn same_padded(part: &[u8], block: &[u8]) -> bool
+    requires { ⌜ length (now part) ≤ length (now block) ⌝ }
+    ensures { λ r. ⌜ r ≡ sameNumbers (now (block .entry)) (fill (length (now (block .entry))) (now (part .entry))) ⌝ }
+{
+    let k = part.len();
+    if same(&block[..k], part) {
+        return all_zero(&block[k..]);
+    }
+    false
+}
+
+// Whether the image's block at a byte is all zero.
+pub fn block_zero(image: &[u8], at: usize) -> bool
+    requires { ⌜ at ≤ 131072 ⌝ }
+    ensures { λ r. ⌜ r ≡ allZero (blockFrom 64 (now (image .entry)) at) ⌝ }
+{
+    let start = least(image.len(), at);
+    let end = least(image.len(), at + Block::BYTES);
+    all_zero(&image[start..end])
+}
+
+// Whether the image's block at a byte equals a cell.
+pub fn block_same(image: &[u8], at: usize, cell: &[u8]) -> bool
+    requires { ⌜ (at ≤ 131072) × (length (now cell) ≡ 64) ⌝ }
+    ensures { λ r. ⌜ r ≡ sameNumbers (now (cell .entry)) (blockFrom 64 (now (image .entry)) at) ⌝ }
+{
+    let start = least(image.len(), at);
+    let end = least(image.len(), at + Block::BYTES);
+    same_padded(&image[start..end], cell)
+}
+
+// The image's block at a byte goes into a cell.
+pub fn put_block(image: &[u8], at: usize, cell: &mut [u8])
+    requires { ⌜ (at ≤ 131072) × (length (now cell) ≡ 64) ⌝ }
+    ensures { λ _. ⌜ now (cell .exit) ≡ blockFrom 64 (now (image .entry)) at ⌝ }
+{
+    let start = least(image.len(), at);
+    let end = least(image.len(), at + Block::BYTES);
+    let k = end - start;
+    copy_in(&image[start..end], cell);
+    clear(&mut cell[k..]);
+}
