@@ -20,4 +20,6 @@ pub mod Empty
 pub mod Named
 pub mod Bounds
 pub mod Words
+pub mod Stores
+pub mod Tills
 pub mod Calls

@@ -1,0 +1,149 @@
+-- Where the tills and the records of a state lie among its words; and a sound store, read from its buffers.
+use mathlib.Core.Path.{_≡_, refl, sym, ap, _∙_, subst}
+use mathlib.Core.Bool.{Bool, true, false, cond, false≢true}
+use mathlib.Core.Logic.{_⊎_, inl, inr}
+use mathlib.Core.List.{List, [], _∷_, _++_, append-assoc, append-nil}
+use mathlib.Core.Option.{Option, none, some}
+use Prim.Native.Nat.{ℕ, suc, _+_, _*_, _-_, _≤_, _<_}
+use native.Mathlib.Omega.{arith}
+use lib.ListN.{length, getD, set, take, drop, length-append, length-take}
+use lib.Dec.{lit<, lit≤}
+use Rattle.lists.specs.Lists.{allOf, sameNumbers}
+use Rattle.lists.specs.Rows.{rows}
+use Rattle.lists.proofs.Rows.{wide-all, length-rows}
+use Rattle.lists.proofs.Slices.{tail-is, tail-put}
+use Rattle.lists.proofs.Parts.{Part, within, rowPart, lent, returned}
+use Rattle.model.specs.Measures.{Shape, tillWords, recordsAt}
+use Rattle.model.specs.State.{Block, Segment, Till, State}
+use Rattle.model.specs.Table.{recordToWords, tillToWords, headerToWords, stateToWords, shapeOf, stateIn}
+use Rattle.model.specs.Sound.{isSound, ifSound, hasLengths, Store, storeAs, storeOf}
+use Rattle.model.specs.Calls.{emptyTill, tillOf}
+use Rattle.laws.proofs.Fits.{StateFits, state-fits, base-fit}
+use Rattle.laws.proofs.RoundTrip.{length-till, Found, store-found}
+use Rattle.laws.proofs.Serves.{Valid, sound-valid}
+
+-- ---- parts of the table
+
+-- a till's words begin here
+abbrev pub tillAt : Shape → ℕ → ℕ
+tillAt s t = 8 + t * tillWords (s .capacities .versions) (s .capacities .blocks)
+
+-- the records' words begin here
+abbrev pub recordsFrom : Shape → ℕ
+recordsFrom s = recordsAt (s .capacities .tills) (s .capacities .versions) (s .capacities .blocks)
+
+module _ (s : Shape) (st : State) where
+  tillsOf : Part (stateToWords s) (rows (tillToWords (s .capacities .versions) (s .capacities .blocks))) st
+  unfolding stateToWords
+  tillsOf = record {
+    get = st .tills;
+    put = λ ts. record { tills = ts; shelf = st .shelf };
+    before = headerToWords s;
+    after = rows recordToWords (st .shelf .records);
+    same = refl;
+    words = λ ts n. refl;
+  }
+
+  tills-front : (ts : List Till) → length (headerToWords s ++ rows (tillToWords (s .capacities .versions) (s .capacities .blocks)) ts) ≡ 8 + length ts * tillWords (s .capacities .versions) (s .capacities .blocks)
+  unfolding headerToWords
+  tills-front ts =
+      omega (
+        arith,
+        length-append (headerToWords s) (rows (tillToWords (s .capacities .versions) (s .capacities .blocks)) ts),
+        length-rows (tillToWords (s .capacities .versions) (s .capacities .blocks)) (tillWords (s .capacities .versions) (s .capacities .blocks)) ts
+        (wide-all (tillToWords (s .capacities .versions) (s .capacities .blocks)) (tillWords (s .capacities .versions) (s .capacities .blocks)) (length-till (s .capacities .versions) (s .capacities .blocks)) ts),
+      )
+
+  -- one till's
+  module _ (t : ℕ) (h : t < length (st .tills)) where
+    ofTill : Part (stateToWords s) (tillToWords (s .capacities .versions) (s .capacities .blocks)) st
+    unfolding tillsOf
+    ofTill = within tillsOf (rowPart (tillToWords (s .capacities .versions) (s .capacities .blocks)) emptyTill (st .tills) t h)
+
+    front : length (ofTill .before) ≡ tillAt s t
+    unfolding ofTill tillsOf
+    front =
+        let n : length (take t (st .tills)) ≡ t = omega (arith, length-take t (st .tills)) in
+        tills-front (take t (st .tills)) ∙ ap (tillAt s) n
+
+    pub till-is : take (tillWords (s .capacities .versions) (s .capacities .blocks)) (drop (tillAt s t) (stateToWords s st))
+        ≡ tillToWords (s .capacities .versions) (s .capacities .blocks) (tillOf st t)
+    unfolding ofTill tillsOf tillOf
+    till-is = lent ofTill (stateToWords s st) refl (tillAt s t) _ front (length-till _ _ (getD (st .tills) t emptyTill))
+
+    pub till-put : (till : Till)
+        → take (tillAt s t) (stateToWords s st) ++ (tillToWords (s .capacities .versions) (s .capacities .blocks) till ++ drop (tillWords (s .capacities .versions) (s .capacities .blocks)) (drop (tillAt s t) (stateToWords s st)))
+        ≡ stateToWords s (record { tills = set (st .tills) t till; shelf = st .shelf })
+    unfolding ofTill tillsOf
+    till-put till = returned ofTill (stateToWords s st) refl (tillAt s t) _ front (length-till _ _ (getD (st .tills) t emptyTill)) till (length-till _ _ till)
+
+  -- the records', which go to the end
+  module _ (n : length (st .tills) ≡ s .capacities .tills) where
+    words-split : (rs : List Segment) (cells : List Block) → stateToWords s (record { tills = st .tills; shelf = record { records = rs; cells = cells } })
+        ≡ (headerToWords s ++ rows (tillToWords (s .capacities .versions) (s .capacities .blocks)) (st .tills)) ++ rows recordToWords rs
+    unfolding stateToWords
+    words-split rs cells = sym (append-assoc (headerToWords s) (rows (tillToWords (s .capacities .versions) (s .capacities .blocks)) (st .tills)) (rows recordToWords rs))
+
+    records-front : length (headerToWords s ++ rows (tillToWords (s .capacities .versions) (s .capacities .blocks)) (st .tills)) ≡ (recordsFrom s)
+    records-front = tills-front (st .tills) ∙ ap (λ (k : ℕ). 8 + k * tillWords (s .capacities .versions) (s .capacities .blocks)) n
+
+    pub records-is : take (length (stateToWords s st) - (recordsFrom s)) (drop (recordsFrom s) (stateToWords s st)) ≡ rows recordToWords (st .shelf .records)
+    records-is = tail-is _ _ (stateToWords s st) (recordsFrom s) (words-split (st .shelf .records) (st .shelf .cells)) records-front
+
+    pub records-put : (rs : List Segment) (cells : List Block)
+        → take (recordsFrom s) (stateToWords s st) ++ (rows recordToWords rs ++ drop (length (stateToWords s st) - (recordsFrom s)) (drop (recordsFrom s) (stateToWords s st)))
+        ≡ stateToWords s (record { tills = st .tills; shelf = record { records = rs; cells = cells } })
+    records-put rs cells =
+        tail-put _ _ (stateToWords s st) (recordsFrom s) (words-split (st .shelf .records) (st .shelf .cells)) records-front (rows recordToWords rs)
+        ∙ sym (words-split rs cells)
+
+-- ---- a sound store
+
+abbrev pub storeRead : List ℕ → List ℕ → Store
+storeRead pool table = record { shape = shapeOf table; state = stateIn (shapeOf table) pool table }
+
+-- the buffers are a sound store, which is what they are read as
+pub record Sound (pool table : List ℕ) : Type 0 where
+  pub is : storeOf pool table ≡ some (storeRead pool table)
+
+-- whether there is a store
+unfoldable pub isStore : Option Store → Bool
+isStore none = false
+isStore (some x) = true
+
+module _ (pool table : List ℕ) where
+  read-or-none : storeOf pool table ≡ none ⊎ storeOf pool table ≡ some (storeRead pool table)
+  unfolding storeOf storeAs ifSound
+  read-or-none = go (hasLengths (shapeOf table) pool table) (allOf (sameNumbers (stateToWords (shapeOf table) (stateIn (shapeOf table) pool table)) table ∷ isSound (shapeOf table) (stateIn (shapeOf table) pool table) ∷ []))
+    where
+      go : (a b : Bool) → cond a (cond b (some (storeRead pool table)) none) none ≡ none ⊎ cond a (cond b (some (storeRead pool table)) none) none ≡ some (storeRead pool table)
+      go true true = inr refl
+      go true false = inl refl
+      go false b = inl refl
+
+  pub sound-if : true ≡ isStore (storeOf pool table) → Sound pool table
+  unfolding isStore
+  sound-if h = go read-or-none
+    where
+      go : storeOf pool table ≡ none ⊎ storeOf pool table ≡ some (storeRead pool table) → Sound pool table
+      go (inl e) = absurd (false≢true (sym (h ∙ ap isStore e)))
+      go (inr e) = record { is = e }
+
+  pub none-if : false ≡ isStore (storeOf pool table) → storeOf pool table ≡ none
+  unfolding isStore
+  none-if h = go read-or-none
+    where
+      go : storeOf pool table ≡ none ⊎ storeOf pool table ≡ some (storeRead pool table) → storeOf pool table ≡ none
+      go (inl e) = e
+      go (inr e) = absurd (false≢true (h ∙ ap isStore e))
+
+module _ {pool table : List ℕ} (h : Sound pool table) where
+  pub found : Found pool table (storeRead pool table)
+  found = store-found pool table (storeRead pool table) (h .is)
+
+  pub fits : StateFits (shapeOf table) (stateIn (shapeOf table) pool table)
+  unfolding shapeOf
+  fits = state-fits (shapeOf table) (stateIn (shapeOf table) pool table) (lit< tt) (lit≤ tt) (found .sound)
+
+  pub valid : Valid (shapeOf table) (stateIn (shapeOf table) pool table)
+  valid = sound-valid (shapeOf table) (stateIn (shapeOf table) pool table) (found .sound)

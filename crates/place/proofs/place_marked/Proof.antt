@@ -1,0 +1,50 @@
+use Prim.Native.Nat.{_/_}
+use lib.ListN.{length}
+use borrow.Author.Needs.{needs}
+use denote.Ref.{now}
+use Rattle.place.proofs.Marked.{marked-free, marked-length}
+use Rattle.place.proofs.place_marked.Statement.{statement}
+use Rattle.place.proofs.place_marked.Tie as tie
+
+take-all-requires : tie.Need-take-all-requires
+take-all-requires c κs =
+    let a = c .before .before .before .before .before .before .before .before in
+    let st = a .pre .0 .stored in
+    let n = marked-length (length (now (a .args .pool)) / 64) (now (a .args .free)) (a .pre .1) in
+    ((st .sized .mostRecords, st .sized .tableSize), λ k h. rw n (st .sized .fits k h))
+
+place-segments-requires : tie.Need-place-segments-requires
+place-segments-requires c κs =
+    let a = c .before .before .before .before .before .before .before .before .before .before .before .before .before .before .before .before in
+    (a .pre .0, marked-free (now (a .args .pool)) (now (a .args .records)) (now (a .args .free)) _ (a .pre .1) (c .before .before .before .before .before .before .before .take-all .ensures), a .pre .2)
+
+same-length : tie.Need-same-length
+same-length c = search needs
+
+same-length-2 : tie.Need-same-length-2
+same-length-2 c = search needs
+
+same-length-3 : tie.Need-same-length-3
+same-length-3 c = search needs
+
+same-length-4 : tie.Need-same-length-4
+same-length-4 c = search needs
+
+same-length-5 : tie.Need-same-length-5
+same-length-5 c = search needs
+
+returns : tie.Need-returns
+returns c = search needs
+
+pub place-marked-spec : {M : Type 1} → statement M
+place-marked-spec =
+    tie.close
+    (tie.spec
+    take-all-requires
+    place-segments-requires
+    same-length
+    same-length-2
+    same-length-3
+    same-length-4
+    same-length-5
+    returns)

@@ -1,0 +1,4 @@
+-- Laws of the searches and of the free cells.
+pub mod Better
+pub mod Seeking
+pub mod Free

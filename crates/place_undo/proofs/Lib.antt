@@ -1,0 +1,2 @@
+-- Laws of undoing.
+pub mod Undoing

@@ -1,0 +1,2 @@
+-- A placing undone.
+pub mod Undo

@@ -1,0 +1,66 @@
+use mathlib.Core.Path.{refl}
+use Prim.Native.Nat.{_+_, _-_, _<_, _≤_}
+use native.Mathlib.Omega.{arith}
+use lib.ListN.{length}
+use borrow.Author.Needs.{needs}
+use denote.Ref.{now}
+use Rattle.lists.specs.Walk.{nextOne, outPick}
+use Rattle.lists.proofs.Walks.{Walked, walk-end, walk-start, walk-step}
+use Rattle.place_words.proofs.put_places.Statement.{statement}
+use Rattle.place_words.proofs.put_places.Tie as tie
+
+abbrev Inv-loop : tie.InvT-loop
+Inv-loop words₀ mask first m₀ at₀ i₀ words m at i = (at ≤ first + i) × Walked outPick nextOne mask first words₀ m at i words
+
+abbrev μ-loop : tie.MeasureT-loop
+μ-loop words₀ mask first m₀ at₀ i₀ words m at i = length words₀ - i
+
+loop-holds : tie.Need-loop-holds Inv-loop μ-loop
+loop-holds c = (omega arith, walk-start outPick nextOne (c .before .args .mask) (c .before .args .first) (now (c .before .args .words)))
+
+picked-requires : tie.Need-picked-requires Inv-loop μ-loop
+picked-requires c κs = search needs
+
+mul-words : tie.Need-mul-words Inv-loop μ-loop
+mul-words c = search needs
+
+slice-write-words : tie.Need-slice-write-words Inv-loop μ-loop
+slice-write-words c = search needs
+
+add-at : tie.Need-add-at Inv-loop μ-loop
+add-at c = search needs
+
+add-i : tie.Need-add-i Inv-loop μ-loop
+add-i c = search needs
+
+loop-less : tie.Need-loop-less Inv-loop μ-loop
+loop-less c = search needs
+
+loop-again : tie.Need-loop-again Inv-loop μ-loop
+loop-again c =
+    let l = c .before .before .loop in
+    let h : l .i < length (now (c .before .before .before .before .args .words)) = omega (arith, l .inv .1 .same) in
+    (omega arith, walk-step outPick nextOne (l .inv .1) 0 h (c .picked .ensures) refl refl)
+
+same-length : tie.Need-same-length Inv-loop μ-loop
+same-length c = c .before .loop .inv .1 .same
+
+returns : tie.Need-returns Inv-loop μ-loop
+returns c = walk-end outPick nextOne (c .before .loop .inv .1) (omega (arith, c .before .loop .inv .1 .same))
+
+pub put-places-spec : {M : Type 1} → statement M
+put-places-spec =
+    tie.close
+    (tie.spec
+    Inv-loop
+    μ-loop
+    loop-holds
+    picked-requires
+    mul-words
+    slice-write-words
+    add-at
+    add-i
+    loop-less
+    loop-again
+    same-length
+    returns)
