@@ -8,18 +8,20 @@ use Prim.Native.Nat.{ℕ, suc, _+_, _*_, _-_, _≤_, _<_}
 use native.Mathlib.Omega.{arith}
 use lib.ListN.{length, getD, set, take, drop, length-append, length-take}
 use lib.Dec.{lit<, lit≤}
+use borrow.Author.Tests.{leb-true}
 use Rattle.lists.specs.Lists.{allOf, sameNumbers}
 use Rattle.lists.specs.Rows.{rows}
+use Rattle.lists.proofs.Tests.{clause}
 use Rattle.lists.proofs.Rows.{wide-all, length-rows}
 use Rattle.lists.proofs.Slices.{tail-is, tail-put}
 use Rattle.lists.proofs.Parts.{Part, within, rowPart, lent, returned}
-use Rattle.model.specs.Measures.{Shape, tillWords, recordsAt}
+use Rattle.model.specs.Measures.{Shape, isWithin, inRange, tillWords, recordsAt, tableWords}
 use Rattle.model.specs.State.{Block, Segment, Till, State}
 use Rattle.model.specs.Table.{recordToWords, tillToWords, headerToWords, stateToWords, shapeOf, stateIn}
 use Rattle.model.specs.Sound.{isSound, ifSound, hasLengths, Store, storeAs, storeOf}
 use Rattle.model.specs.Calls.{emptyTill, tillOf}
 use Rattle.laws.proofs.Fits.{StateFits, state-fits, base-fit}
-use Rattle.laws.proofs.RoundTrip.{length-till, Found, store-found}
+use Rattle.laws.proofs.RoundTrip.{length-till, table-length, Found, store-found}
 use Rattle.laws.proofs.Serves.{Valid, sound-valid}
 
 -- ---- parts of the table
@@ -51,7 +53,7 @@ module _ (s : Shape) (st : State) where
         arith,
         length-append (headerToWords s) (rows (tillToWords (s .capacities .versions) (s .capacities .blocks)) ts),
         length-rows (tillToWords (s .capacities .versions) (s .capacities .blocks)) (tillWords (s .capacities .versions) (s .capacities .blocks)) ts
-        (wide-all (tillToWords (s .capacities .versions) (s .capacities .blocks)) (tillWords (s .capacities .versions) (s .capacities .blocks)) (length-till (s .capacities .versions) (s .capacities .blocks)) ts),
+            (wide-all (tillToWords (s .capacities .versions) (s .capacities .blocks)) (tillWords (s .capacities .versions) (s .capacities .blocks)) (length-till (s .capacities .versions) (s .capacities .blocks)) ts),
       )
 
   -- one till's
@@ -88,13 +90,13 @@ module _ (s : Shape) (st : State) where
     records-front = tills-front (st .tills) ∙ ap (λ (k : ℕ). 8 + k * tillWords (s .capacities .versions) (s .capacities .blocks)) n
 
     pub records-is : take (length (stateToWords s st) - (recordsFrom s)) (drop (recordsFrom s) (stateToWords s st)) ≡ rows recordToWords (st .shelf .records)
-    records-is = tail-is _ _ (stateToWords s st) (recordsFrom s) (words-split (st .shelf .records) (st .shelf .cells)) records-front
+    records-is = tail-is (headerToWords s ++ rows (tillToWords (s .capacities .versions) (s .capacities .blocks)) (st .tills)) (rows recordToWords (st .shelf .records)) (stateToWords s st) (recordsFrom s) (words-split (st .shelf .records) (st .shelf .cells)) records-front
 
     pub records-put : (rs : List Segment) (cells : List Block)
         → take (recordsFrom s) (stateToWords s st) ++ (rows recordToWords rs ++ drop (length (stateToWords s st) - (recordsFrom s)) (drop (recordsFrom s) (stateToWords s st)))
         ≡ stateToWords s (record { tills = st .tills; shelf = record { records = rs; cells = cells } })
     records-put rs cells =
-        tail-put _ _ (stateToWords s st) (recordsFrom s) (words-split (st .shelf .records) (st .shelf .cells)) records-front (rows recordToWords rs)
+        tail-put (headerToWords s ++ rows (tillToWords (s .capacities .versions) (s .capacities .blocks)) (st .tills)) (rows recordToWords (st .shelf .records)) (stateToWords s st) (recordsFrom s) (words-split (st .shelf .records) (st .shelf .cells)) records-front (rows recordToWords rs)
         ∙ sym (words-split rs cells)
 
 -- ---- a sound store
@@ -105,6 +107,15 @@ storeRead pool table = record { shape = shapeOf table; state = stateIn (shapeOf 
 -- the buffers are a sound store, which is what they are read as
 pub record Sound (pool table : List ℕ) : Type 0 where
   pub is : storeOf pool table ≡ some (storeRead pool table)
+
+-- what the header says, as numbers
+pub record Header (table : List ℕ) : Type 0 where
+  pub eight : 8 ≤ length table
+  pub tills : getD table 0 0 ≤ 16
+  pub versions : getD table 1 0 ≤ 64
+  pub blocks : getD table 2 0 ≤ 1024
+  pub records : getD table 3 0 ≤ 4096
+  pub cells : getD table 4 0 ≤ 32768
 
 -- whether there is a store
 unfoldable pub isStore : Option Store → Bool
@@ -147,3 +158,17 @@ module _ {pool table : List ℕ} (h : Sound pool table) where
 
   pub valid : Valid (shapeOf table) (stateIn (shapeOf table) pool table)
   valid = sound-valid (shapeOf table) (stateIn (shapeOf table) pool table) (found .sound)
+
+  pub long : length table ≡ tableWords (shapeOf table)
+  long = ap length (sym (found .words)) ∙ table-length (shapeOf table) (stateIn (shapeOf table) pool table) fits
+
+  pub header : Header table
+  unfolding inRange isWithin shapeOf tableWords
+  header = record {
+    eight = omega (arith, long);
+    tills = leb-true _ _ (clause _ 1 (clause _ 0 (valid .range)));
+    versions = leb-true _ _ (clause _ 1 (clause _ 1 (valid .range)));
+    blocks = leb-true _ _ (clause _ 1 (clause _ 2 (valid .range)));
+    records = leb-true _ _ (clause _ 1 (clause _ 3 (valid .range)));
+    cells = leb-true _ _ (clause _ 1 (clause _ 4 (valid .range)));
+  }

@@ -3,10 +3,10 @@ use mathlib.Core.Path.{_≡_, refl, sym, ap, ap₂, _∙_, subst}
 use mathlib.Core.Bool.{Bool, true, cond}
 use mathlib.Core.List.{List, [], _∷_, map}
 use Prim.Native.Nat.{ℕ, zero, suc, _+_, _*_, _-_, _≤_, _<_}
-use native.Mathlib.Nat.{mul-le-mul-right, suc-mul}
+use native.Mathlib.Nat.{add-zero, mul-le-mul-right, suc-mul}
 use native.Mathlib.Omega.{arith}
 use lib.ListN.{length, getD, take, drop}
-use lib.Dec.{eqb, lit<}
+use lib.Seq.{getD-take, getD-drop}
 use borrow.Author.Tests.{eq-eqb, ne-eqb, leb-true}
 use Rattle.lists.specs.Lists.{counted, allOf, sameNumbers}
 use Rattle.lists.proofs.Tests.{clause, every-at}
@@ -17,8 +17,8 @@ use Rattle.model.specs.Table.{tillToWords, stateToWords, shapeOf, stateIn}
 use Rattle.model.specs.Sound.{isNumbered, areTraceable, isTill}
 use Rattle.model.specs.Calls.{emptyTill, tillOf, heldFrom, oldestNumber, newestNumber}
 use Rattle.laws.proofs.Fits.{StateFits}
-use Rattle.laws.proofs.RoundTrip.{length-till, table-length}
-use Rattle.laws.proofs.Stores.{tillAt, till-is, Sound, found, fits, valid}
+use Rattle.laws.proofs.RoundTrip.{length-till}
+use Rattle.laws.proofs.Stores.{tillAt, till-is, Sound, found, fits, valid, long}
 
 -- ---- numbers
 
@@ -86,6 +86,11 @@ module _ {pool table : List ℕ} (h : Sound pool table) (t : ℕ) (in-table : t 
       subst (λ (ws : List ℕ). take (tillWords (getD table 1 0) (getD table 2 0)) (drop (tillAt (shapeOf table) t) ws) ≡ tillToWords (getD table 1 0) (getD table 2 0) till)
       (found h .words) (till-is (shapeOf table) (stateIn (shapeOf table) pool table) t there)
 
+  -- word j of the till's
+  word-at : (j : ℕ) → j < tillWords (getD table 1 0) (getD table 2 0)
+      → getD table (tillAt (shapeOf table) t + j) 0 ≡ getD (take (tillWords (getD table 1 0) (getD table 2 0)) (drop (tillAt (shapeOf table) t) table)) j 0
+  word-at j b = sym (getD-take (tillWords (getD table 1 0) (getD table 2 0)) (drop (tillAt (shapeOf table) t) table) j 0 b ∙ getD-drop (tillAt (shapeOf table) t) table j 0)
+
   pub is-till : isTill (shapeOf table) (stateIn (shapeOf table) pool table .shelf) till ≡ true
   unfolding tillOf
   is-till = every-at _ emptyTill (stateIn (shapeOf table) pool table .tills) (valid h .tills) t there
@@ -109,6 +114,13 @@ module _ {pool table : List ℕ} (h : Sound pool table) (t : ℕ) (in-table : t 
   pub in-words : tillAt (shapeOf table) t + tillWords (getD table 1 0) (getD table 2 0) ≤ length table
   unfolding shapeOf tableWords
   in-words =
-      let n : length table ≡ tableWords (shapeOf table) = ap length (sym (found h .words)) ∙ table-length (shapeOf table) (stateIn (shapeOf table) pool table) (fits h) in
       let m : suc t * tillWords (getD table 1 0) (getD table 2 0) ≤ getD table 0 0 * tillWords (getD table 1 0) (getD table 2 0) = mul-le-mul-right (tillWords (getD table 1 0) (getD table 2 0)) in-table in
-      omega (arith, n, m, suc-mul t (tillWords (getD table 1 0) (getD table 2 0)))
+      omega (arith, long h, m, suc-mul t (tillWords (getD table 1 0) (getD table 2 0)))
+
+  pub last-word : getD table (tillAt (shapeOf table) t) 0 ≡ till .last
+  unfolding tillToWords
+  last-word = ap (λ (i : ℕ). getD table i 0) (sym (add-zero (tillAt (shapeOf table) t))) ∙ word-at 0 (omega arith) ∙ ap (λ (ws : List ℕ). getD ws 0 0) till-words
+
+  pub held-word : getD table (tillAt (shapeOf table) t + 1) 0 ≡ length (till .versions)
+  unfolding tillToWords
+  held-word = word-at 1 (omega arith) ∙ ap (λ (ws : List ℕ). getD ws 1 0) till-words
