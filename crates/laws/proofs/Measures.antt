@@ -1,8 +1,8 @@
--- Laws of `partsFor`: parts of `k` hold all, the last of them not too much, and there is one if there is anything.
+-- Laws of `partsFor`: parts of `k` hold all, the last of them not too much, and there is one if there is anything; and how many words tills have.
 use mathlib.Core.Path.{_≡_, sym, ap, subst}
 use mathlib.Core.Logic.{_↔_}
 use Prim.Native.Nat.{ℕ, zero, suc, _+_, _-_, _*_, _/_, _≤_, _<_}
-use native.Mathlib.Nat.{suc-mul, not-suc-le-zero, le-of-suc-le-suc, div-mul-le-self, lt-div-mul-add, le-div-iff-mul-le, div-lt-iff-lt-mul}
+use native.Mathlib.Nat.{suc-mul, mul-le-mul, not-suc-le-zero, le-of-suc-le-suc, div-mul-le-self, lt-div-mul-add, le-div-iff-mul-le, div-lt-iff-lt-mul}
 use native.Mathlib.Omega.{arith}
 use Rattle.model.specs.Measures.{partsFor}
 
@@ -34,3 +34,11 @@ before-last k n (suc p) h g e =
     let b : suc p * k ≡ p * k + k = suc-mul p k in
     let c : (suc p - 1) * k ≡ p * k = ap (λ (q : ℕ). q * k) (let z : suc p - 1 ≡ p = omega arith in z) in
     omega (arith, a, b, c)
+
+-- the slots of a till, and all tills
+pub sizes : (t v b : ℕ) → t ≤ 16 → v ≤ 64 → b ≤ 1024 → (v * (3 + b) ≤ 65728) × (t * (4 + v * (3 + b)) ≤ 1051712)
+sizes t v b ht hv hb =
+    let hb3 : 3 + b ≤ 1027 = omega arith in
+    let w : v * (3 + b) ≤ 65728 = mul-le-mul hv hb3 in
+    let w4 : 4 + v * (3 + b) ≤ 65732 = omega arith in
+    (w, mul-le-mul ht w4)

@@ -3,7 +3,7 @@ use mathlib.Core.Path.{_≡_, refl, sym, ap, ap₂, _∙_}
 use mathlib.Core.Bool.{Bool, true, false, not, cond, _&&_, false≢true}
 use mathlib.Core.List.{List, [], _∷_, _++_, map}
 use Prim.Native.Nat.{ℕ, zero, suc, _+_, _*_, _≤_, _<_}
-use native.Mathlib.Nat.{mul-le-mul, zero-mul, suc-mul}
+use native.Mathlib.Nat.{zero-mul, suc-mul}
 use native.Mathlib.Omega.{arith}
 use lib.ListN.{length, getD, set, replicate}
 use lib.Dec.{eqb, leb}
@@ -71,15 +71,6 @@ module _ (c : Capacities) where
     records = leb-true _ _ (clause _ 1 (clause _ 3 h));
     cells = leb-true _ _ (clause _ 1 (clause _ 4 h));
   }
-
--- ---- sizes
-
-pub sizes : (t v b : ℕ) → t ≤ 16 → v ≤ 64 → b ≤ 1024 → (v * (3 + b) ≤ 65728) × (t * (4 + v * (3 + b)) ≤ 1051712)
-sizes t v b ht hv hb =
-    let hb3 : 3 + b ≤ 1027 = omega arith in
-    let w : v * (3 + b) ≤ 65728 = mul-le-mul hv hb3 in
-    let w4 : 4 + v * (3 + b) ≤ 65732 = omega arith in
-    (w, mul-le-mul ht w4)
 
 -- ---- the empty store
 

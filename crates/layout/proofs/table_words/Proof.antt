@@ -1,7 +1,7 @@
 use Rattle.model.specs.Measures as measures
 use mathlib.Core.Path.{refl}
 use native.Mathlib.Omega.{arith}
-use Rattle.layout.proofs.Laws.{sizes}
+use Rattle.laws.proofs.Measures.{sizes}
 use borrow.Author.Needs.{needs}
 use Rattle.layout.proofs.table_words.Statement.{statement}
 use Rattle.layout.proofs.table_words.Tie as tie
