@@ -1,0 +1,87 @@
+-- The free cells, the run for a need, and the cells that a record names.
+use mathlib.Core.Path.{_≡_, refl, sym, ap, _∙_}
+use mathlib.Core.Bool.{Bool, true, false, cond, not}
+use mathlib.Core.List.{List, [], _∷_, map}
+use mathlib.Core.Option.{Option, none}
+use Prim.Native.Nat.{ℕ, zero, suc, _≤_, _<_}
+use native.Mathlib.Nat.{zero-add}
+use native.Mathlib.Omega.{arith}
+use lib.ListN.{length, getD, length-map}
+use Rattle.lists.specs.Each.{Each}
+use Rattle.lists.specs.Lists.{isIn, allZero, counted}
+use Rattle.lists.proofs.Counted.{counted-is}
+use Rattle.lists.proofs.Sets.{map-at}
+use Rattle.lists.proofs.Uses.{uses, in-uses, not-in, uses-here, uses-in}
+use Rattle.model.specs.Records.{namedCells, cellsOf, cellOf}
+use Rattle.model.specs.Runs.{freeCells, Run, scan, findRun}
+use Rattle.model.specs.State.{Block, Segment, nullPosition, held, removed, Shelf}
+use Rattle.laws.proofs.Named.{inside-any}
+use Rattle.laws.proofs.Sweep.{Exact, named-one}
+use Rattle.laws.proofs.Uses.{bit}
+use Rattle.kept.specs.Kept.{filled}
+
+-- ---- the free cells
+
+-- a cell that is named once if it is filled, and not at all if not
+pub in-filled : (c : ℕ) (xs : List ℕ) (b : Block) → uses c xs ≡ bit b → isIn c xs ≡ filled b
+unfolding bit filled
+in-filled c xs b e = go (isIn c xs) refl (allZero b) e
+  where
+    go : (i : Bool) → isIn c xs ≡ i → (z : Bool) → uses c xs ≡ cond z 0 1 → i ≡ not z
+    go true p true q = absurd (omega (arith, in-uses c xs p))
+    go true p false q = refl
+    go false p true q = refl
+    go false p false q = absurd (omega (arith, not-in c xs p))
+
+map-map : (xs : List Block) → map (λ b. not (filled b)) xs ≡ map not (map filled xs)
+map-map [] = refl
+map-map (y ∷ xs) = ap (λ (l : List Bool). not (filled y) ∷ l) (map-map xs)
+
+pub free-marks : (shelf : Shelf) → Exact shelf → freeCells shelf ≡ map not (map filled (shelf .cells))
+unfolding freeCells
+free-marks shelf x =
+    let cells : List Block = shelf .cells in
+    let named : List ℕ = namedCells (shelf .records) in
+    ap (counted (λ c. not (isIn c named)) 0) (sym (length-map cells (λ b. not (filled b))))
+    ∙ counted-is (λ c. not (isIn c named)) false 0 (map (λ b. not (filled b)) cells)
+    (λ j h. ap (λ (c : ℕ). not (isIn c named)) (zero-add j) ∙ ap not (in-filled j named (getD cells j []) (x j))
+    ∙ sym (map-at (λ b. not (filled b)) cells j [] false (omega (arith, length-map cells (λ b. not (filled b))))))
+    ∙ map-map cells
+
+-- the run that the code finds among the marks is the model's
+pub find-same : (shelf : Shelf) → Exact shelf → (need : ℕ) (marks : List Bool) → marks ≡ map filled (shelf .cells) → (o : Option Run) → o ≡ scan need (map not marks) 0 0 none
+    → findRun shelf need ≡ o
+unfolding findRun
+find-same shelf x need marks em o e =
+    ap (λ (l : List Bool). scan need l 0 0 none) (free-marks shelf x ∙ ap (map not) (sym em)) ∙ sym e
+
+-- ---- the cells that a record names
+
+pub each-used : (P : ℕ → Type 0) (xs : List ℕ) → ((c : ℕ) → 0 < uses c xs → P c) → Each P xs
+unfolding uses
+each-used P [] f = tt
+each-used P (x ∷ xs) f = (f x (omega (arith, uses-here x xs)), each-used P xs (λ c h. f c (omega arith)))
+
+pub record Named (shelf : Shelf) (c : ℕ) : Type 0 where
+  pub inside : c < length (shelf .cells)
+  pub full : filled (getD (shelf .cells) c []) ≡ true
+  pub used : 0 < uses c (namedCells (shelf .records))
+
+pub named-cell : (shelf : Shelf) → Exact shelf → (k c : ℕ) → 0 < uses c (cellsOf (getD (shelf .records) k [])) → Named shelf c
+named-cell shelf x k c h = record { inside = inside-any shelf x c used; full = full; used = used }
+  where
+    used : 0 < uses c (namedCells (shelf .records))
+    used = omega (arith, named-one c (shelf .records) k)
+
+    full : filled (getD (shelf .cells) c []) ≡ true
+    full = sym (in-filled c (namedCells (shelf .records)) (getD (shelf .cells) c []) (x c)) ∙ uses-in c (namedCells (shelf .records)) used
+
+pub cell-range : (n : ℕ) → 1 ≤ n → (seg : Segment) → Each (λ (c : ℕ). c < n) (cellsOf seg) → (j : ℕ) → getD (map cellOf seg) j 0 < n
+unfolding cellsOf
+cell-range n h [] e j = omega arith
+cell-range n h (nullPosition ∷ ps) e zero = omega arith
+cell-range n h (nullPosition ∷ ps) e (suc j) = cell-range n h ps e j
+cell-range n h (held c m ∷ ps) e zero = e .0
+cell-range n h (held c m ∷ ps) e (suc j) = cell-range n h ps (e .1) j
+cell-range n h (removed ∷ ps) e zero = omega arith
+cell-range n h (removed ∷ ps) e (suc j) = cell-range n h ps e j

@@ -1,0 +1,7 @@
+pub mod Extra
+pub mod Walks
+pub mod Frees
+pub mod Removes
+pub mod Done
+pub mod Sweeps
+pub mod Named

@@ -1,0 +1,139 @@
+-- What the code leaves of the pool, the words and the marks, for each way of removal.
+use mathlib.Core.Path.{_≡_, refl, _∙_}
+use mathlib.Core.Bool.{Bool, true}
+use mathlib.Core.List.{List, [], _∷_, _++_, map}
+use mathlib.Core.Option.{some}
+use Prim.Native.Nat.{ℕ, _+_, _-_, _*_, _≤_, _<_}
+use native.Mathlib.Omega.{arith}
+use lib.ListN.{length, getD, take, drop, length-map}
+use lib.Seq.{sets, length-sets}
+use Rattle.lists.specs.Each.{Each}
+use Rattle.lists.specs.Lists.{keep}
+use Rattle.lists.specs.Masks.{maskOf}
+use Rattle.lists.proofs.Each.{each-at, each-weaken}
+use Rattle.lists.proofs.Uses.{uses}
+use Rattle.model.specs.Measures.{baseMeasures}
+use Rattle.model.specs.Records.{cellsOf, cellOf, isHeld, cellAt, namedCells, freeSegment}
+use Rattle.model.specs.Runs.{Run}
+use Rattle.model.specs.State.{Segment, Shelf, Block, Position}
+use Rattle.model.specs.Sweep.{goes, stays, struck, moved, clearCells, freeRecord, strikeOnly, compact}
+use Rattle.model.specs.Table.{recordToWords}
+use Rattle.laws.proofs.Runs.{RunOk, Free}
+use Rattle.laws.proofs.Sweep.{Exact}
+use Rattle.laws.proofs.Uses.{going, staying, uses-split}
+use Rattle.records.proofs.Records.{length-moved}
+use Rattle.shelf.proofs.Read.{store-at}
+use Rattle.pool.specs.Pool.{along, clearAt, freeAt, copyTo, takeAt}
+use Rattle.kept.specs.Kept.{Coded, filled}
+use Rattle.kept.proofs.Frees.{Named, named-cell, each-used}
+use Rattle.kept.proofs.Walks.{picked, along-picked, fold-clear, fold-free, held-picked, goes-picked, stays-picked, sized-clear, fold-copy, fold-take, sized-sets, Source, Sized, bytes}
+
+-- a record's words put in the place of record k's
+abbrev pub rowPut : List ℕ → ℕ → Segment → List ℕ
+rowPut ws k seg = take (k * 19) ws ++ (recordToWords seg ++ drop 19 (drop (k * 19) ws))
+
+module _ (pool words : List ℕ) (marks : List Bool) (sh : Shelf) (d : Coded pool words marks sh) (x : Exact sh) (k : ℕ) (hk : k < length (sh .records)) where
+  abbrev seg : Segment
+  seg = getD (sh .records) k []
+
+  seg-8 : length seg ≡ 8
+  seg-8 = each-at (λ (s : Segment). length s ≡ 8) [] (sh .records) (d .told .records .eights) k hk
+
+  pub all-named : Each (Named sh) (cellsOf seg)
+  all-named = each-used (Named sh) (cellsOf seg) (λ c h. named-cell sh x k c h)
+
+  goes-named : Each (Named sh) (cellsOf (keep goes seg))
+  goes-named = each-used (Named sh) (cellsOf (keep goes seg)) (λ c h. named-cell sh x k c (unfold going in (omega (arith, h, uses-split c seg))))
+
+  stays-named : Each (Named sh) (cellsOf (keep stays seg))
+  stays-named = each-used (Named sh) (cellsOf (keep stays seg)) (λ c h. named-cell sh x k c (unfold staying in (omega (arith, h, uses-split c seg))))
+
+  inside : (cs : List ℕ) → Each (Named sh) cs → Each (λ (c : ℕ). c < length (sh .cells)) cs
+  inside cs e = each-weaken (Named sh) (λ (c : ℕ). c < length (sh .cells)) (λ c n. n .inside) cs e
+
+  pub cells-inside : Each (λ (c : ℕ). c < length (sh .cells)) (cellsOf seg)
+  cells-inside = inside (cellsOf seg) all-named
+
+  -- cells cleared and freed, on top of other cells
+  cleared : (f : Position → Bool) (cs : List ℕ) → cs ≡ picked f seg → Each (λ (c : ℕ). c < length (sh .cells)) cs
+      → (p : List ℕ) (os : List Bool) (cells : List Block) → length cells ≡ length (sh .cells) → Sized cells → p ≡ bytes cells → os ≡ map filled cells
+      → (along clearAt (maskOf f seg) 0 (map cellOf seg) p ≡ bytes (clearCells 64 cells cs)) × (along freeAt (maskOf f seg) 0 (map cellOf seg) os ≡ map filled (clearCells 64 cells cs))
+  cleared f cs e i p os cells l z ep eo = (
+    rw (along-picked clearAt f seg 0 p, ← e, ep) (fold-clear (length (sh .cells)) cs cells 0 l z i),
+    rw (along-picked freeAt f seg 0 os, ← e, eo) (fold-free cs cells 0),
+  )
+
+  pub free-coded : Coded (along clearAt (maskOf isHeld seg) 0 (map cellOf seg) pool) (rowPut words k (freeSegment 8))
+      (along freeAt (maskOf isHeld seg) 0 (map cellOf seg) marks) (freeRecord baseMeasures sh k seg)
+  unfolding freeRecord
+  free-coded =
+      let c = cleared isHeld (cellsOf seg) (held-picked seg) cells-inside pool marks (sh .cells) refl (d .told .cells .blocks) (d .told .cells .bytes) (d .marked) in
+      record {
+        told = record { cells = record { blocks = sized-clear (cellsOf seg) (sh .cells) (d .told .cells .blocks); bytes = c .0 }; records = store-at words (sh .records) (d .told .records) k hk (freeSegment 8) (unfold freeSegment in refl) };
+        marked = c .1;
+      }
+
+  pub strike-coded : Coded (along clearAt (maskOf goes seg) 0 (map cellOf seg) pool) (rowPut words k (map struck seg))
+      (along freeAt (maskOf goes seg) 0 (map cellOf seg) marks) (strikeOnly baseMeasures sh k seg)
+  unfolding strikeOnly
+  strike-coded =
+      let cs : List ℕ = cellsOf (keep goes seg) in
+      let c = cleared goes cs (goes-picked seg) (inside cs goes-named) pool marks (sh .cells) refl (d .told .cells .blocks) (d .told .cells .bytes) (d .marked) in
+      record {
+        told = record { cells = record { blocks = sized-clear cs (sh .cells) (d .told .cells .blocks); bytes = c .0 }; records = store-at words (sh .records) (d .told .records) k hk (map struck seg) (length-map seg struck ∙ seg-8) };
+        marked = c .1;
+      }
+
+  module _ (run : Run) (ok : RunOk (Free sh) (length (cellsOf (keep stays seg))) run) (some-stay : 0 < length (cellsOf (keep stays seg))) where
+    abbrev cs : List ℕ
+    cs = cellsOf (keep stays seg)
+
+    abbrev first : List Block
+    first = map (λ c. getD (sh .cells) c []) cs
+
+    pub run-room : run .start + length cs ≤ length (sh .cells)
+    run-room =
+        let f : Free sh (run .start + (length cs - 1)) = ok .free (length cs - 1) (omega (arith, ok .enough)) in
+        omega (arith, f .inside)
+
+    source : (c : ℕ) → Named sh c → Source (sh .cells) (sh .cells) (run .start) (length cs) c
+    source c n = record {
+      inside = n .inside;
+      same = refl;
+      apart = λ j h e.
+          let f : Free sh (run .start + j) = ok .free j (omega (arith, ok .enough)) in
+          let g : uses c (namedCells (sh .records)) ≡ 0 = rw e (f .unnamed) in
+          omega (arith, n .used, g);
+    }
+
+    sized-first : (ds : List ℕ) → Each (Named sh) ds → Sized (map (λ c. getD (sh .cells) c []) ds)
+    sized-first [] e = tt
+    sized-first (c ∷ ds) e = (each-at (λ (b : Block). length b ≡ 64) [] (sh .cells) (d .told .cells .blocks) c (e .0 .inside), sized-first ds (e .1))
+
+    full-first : (ds : List ℕ) → Each (Named sh) ds → Each (λ (b : Block). filled b ≡ true) (map (λ c. getD (sh .cells) c []) ds)
+    full-first [] e = tt
+    full-first (c ∷ ds) e = (e .0 .full, full-first ds (e .1))
+
+    copied : along copyTo (maskOf stays seg) (run .start) (map cellOf seg) pool ≡ bytes (sets (sh .cells) (run .start) first)
+    copied =
+        rw (along-picked copyTo stays seg (run .start) pool, ← stays-picked seg, d .told .cells .bytes)
+        (fold-copy (sh .cells) cs (sh .cells) (run .start) (d .told .cells .blocks)
+        (each-weaken (Named sh) (Source (sh .cells) (sh .cells) (run .start) (length cs)) source cs stays-named) run-room)
+
+    taken : along takeAt (maskOf stays seg) (run .start) (map cellOf seg) marks ≡ map filled (sets (sh .cells) (run .start) first)
+    taken =
+        rw (along-picked takeAt stays seg (run .start) marks, ← stays-picked seg, d .marked)
+        (fold-take cs first (sh .cells) (run .start) (length-map cs (λ c. getD (sh .cells) c [])) (full-first cs stays-named))
+
+    pub move-coded : Coded (along clearAt (maskOf isHeld seg) 0 (map cellOf seg) (along copyTo (maskOf stays seg) (run .start) (map cellOf seg) pool))
+        (rowPut words k (moved (run .start) seg))
+        (along freeAt (maskOf isHeld seg) 0 (map cellOf seg) (along takeAt (maskOf stays seg) (run .start) (map cellOf seg) marks)) (compact baseMeasures sh k seg (some run))
+    unfolding compact cellAt
+    move-coded =
+        let new : List Block = sets (sh .cells) (run .start) first in
+        let z : Sized new = sized-sets first (sh .cells) (run .start) (d .told .cells .blocks) (sized-first cs stays-named) in
+        let c = cleared isHeld (cellsOf seg) (held-picked seg) cells-inside _ _ new (length-sets (sh .cells) (run .start) first) z copied taken in
+        record {
+          told = record { cells = record { blocks = sized-clear (cellsOf seg) new z; bytes = c .0 }; records = store-at words (sh .records) (d .told .records) k hk (moved (run .start) seg) (length-moved (run .start) seg ∙ seg-8) };
+          marked = c .1;
+        }

@@ -1,0 +1,3 @@
+pub mod Shelf
+pub mod Slots
+pub mod Pointers

@@ -1,0 +1,191 @@
+-- A sound till's slots are what tracing requires.
+use mathlib.Core.Path.{_≡_, refl, sym, ap, _∙_, subst}
+use mathlib.Core.Bool.{Bool, true, not, false≢true}
+use mathlib.Core.List.{List, [], _∷_, _++_, map, append-nil}
+use Prim.Native.Nat.{ℕ, zero, suc, _+_, _-_, _*_, _≤_, _<_}
+use native.Mathlib.Nat.{mul-le-mul-right}
+use native.Mathlib.Omega.{arith}
+use lib.ListN.{length, getD, take, drop, length-drop}
+use lib.Seq.{take-at, drop-drop, drop-append-le}
+use Rattle.lists.specs.Each.{Each}
+use Rattle.lists.specs.Lists.{every}
+use Rattle.lists.specs.Rows.{rows, fill, parts, joined}
+use Rattle.lists.proofs.Cuts.{parts-rows}
+use Rattle.lists.proofs.Each.{each-at, each-drop, each-weaken}
+use Rattle.lists.proofs.Rows.{Wide, wide-all, length-rows, fill-split, drop-rows}
+use Rattle.lists.proofs.Tests.{every-head, every-tail, clause, every-at}
+use Rattle.model.specs.Measures.{partsFor, Capacities, shapeFor}
+use Rattle.model.specs.Records.{positionAt}
+use Rattle.model.specs.Sound.{nextPointers, isNull, leads, areTraceable, isSound, isTill}
+use Rattle.model.specs.State.{Shelf, Version, Pointer, nullPointer, direct, indirect, State, Till, Segment}
+use Rattle.model.specs.Table.{versionIn, versionToWords, tillToWords, versionsIn}
+use Rattle.laws.proofs.Fits.{record-in, held-in, TillFits, VersionFits}
+use Rattle.laws.proofs.RoundTrip.{length-version, version-back}
+use Rattle.shelf.specs.Fits.{Fits}
+use Rattle.trace.specs.Versions.{pointersAt, LeadsTo, Traceable, Direct}
+use Rattle.meets.proofs.Shelf.{fits, few-versions, few-blocks, wordsOf, words-length}
+
+none-pointers : versionIn 64 [] .pointers ≡ []
+unfolding versionIn partsFor
+none-pointers = refl
+
+-- ---- pointers that lead somewhere
+
+module _ (shelf : Shelf) (eight : (k : ℕ) → length (getD (shelf .records) k []) ≤ 8) where
+  next-length : (vs : List Version) → length (nextPointers vs) ≡ length (pointersAt vs 0)
+  unfolding nextPointers
+  next-length [] = ap length (sym none-pointers)
+  next-length (v ∷ vs) = refl
+
+  -- what an indirect pointer names is there
+  there : (ps : List Pointer) (n : ℕ) → not (isNull (getD ps n nullPointer)) ≡ true → n < length ps
+  there [] n e = absurd (false≢true e)
+  there (p ∷ ps) zero e = omega arith
+  there (p ∷ ps) (suc n) e = omega (arith, there ps n e)
+
+  one-leads : (ps : List Pointer) (p : Pointer) → leads shelf ps p ≡ true → LeadsTo (length ps) p
+  unfolding LeadsTo
+  one-leads ps nullPointer e = tt
+  one-leads ps (direct k i) e = tt
+  one-leads ps (indirect n) e = there ps n e
+
+  one-fits : (next : List Pointer) (p : Pointer) → leads shelf next p ≡ true → Fits (length (shelf .records) * 19) p
+  unfolding Fits positionAt
+  one-fits next nullPointer e = tt
+  one-fits next (direct k i) e = (omega (arith, record-in (shelf .records) k i e), omega (arith, held-in (getD (shelf .records) k []) i e, eight k))
+  one-fits next (indirect n) e = tt
+
+  -- of each pointer, and past the end
+  by-place : (P : Pointer → Type 0) → P nullPointer → (f : Pointer → Bool) → ((p : Pointer) → f p ≡ true → P p) → (ps : List Pointer) → every f ps ≡ true
+      → (j : ℕ) → P (getD ps j nullPointer)
+  by-place P z f g [] e j = z
+  by-place P z f g (p ∷ ps) e zero = g p (every-head f p ps e)
+  by-place P z f g (p ∷ ps) e (suc j) = by-place P z f g ps (every-tail f p ps e) j
+
+  module _ (bytes b : ℕ) where
+    all-lead : (vs : List Version) → areTraceable bytes b shelf vs ≡ true → (i j : ℕ) → LeadsTo (length (pointersAt vs (suc i))) (getD (pointersAt vs i) j nullPointer)
+    unfolding areTraceable
+    all-lead [] e i j = subst (λ (ps : List Pointer). LeadsTo (length ps) (getD ps j nullPointer)) (sym none-pointers) (unfold LeadsTo in tt)
+    all-lead (v ∷ vs) e zero j =
+        subst (λ (n : ℕ). LeadsTo n (getD (v .pointers) j nullPointer)) (next-length vs)
+        (by-place (LeadsTo (length (nextPointers vs))) (unfold LeadsTo in tt) (leads shelf (nextPointers vs)) (one-leads (nextPointers vs)) (v .pointers) (clause _ 1 e) j)
+    all-lead (v ∷ vs) e (suc i) j = all-lead vs (clause _ 3 e) i j
+
+    all-fit : (vs : List Version) → areTraceable bytes b shelf vs ≡ true → (i j : ℕ) → Fits (length (shelf .records) * 19) (getD (pointersAt vs i) j nullPointer)
+    unfolding areTraceable
+    all-fit [] e i j = subst (λ (ps : List Pointer). Fits (length (shelf .records) * 19) (getD ps j nullPointer)) (sym none-pointers) (unfold Fits in tt)
+    all-fit (v ∷ vs) e zero j =
+        by-place (Fits (length (shelf .records) * 19)) (unfold Fits in tt) (leads shelf (nextPointers vs)) (one-fits (nextPointers vs)) (v .pointers) (clause _ 1 e) j
+    all-fit (v ∷ vs) e (suc i) j = all-fit vs (clause _ 3 e) i j
+
+    -- the newer ones are traceable too
+    traceable-from : (i : ℕ) (vs : List Version) → areTraceable bytes b shelf vs ≡ true → areTraceable bytes b shelf (drop i vs) ≡ true
+    unfolding areTraceable
+    traceable-from zero vs e = e
+    traceable-from (suc i) [] e = refl
+    traceable-from (suc i) (v ∷ vs) e = traceable-from i vs (clause _ 3 e)
+
+-- ---- a sound store's till
+
+module _ (c : Capacities) (st : State) (sound : isSound (shapeFor c) st ≡ true) (t : ℕ) (ht : t < length (st .tills)) where
+  abbrev b : ℕ
+  b = c .blocks
+
+  abbrev noTill : Till
+  noTill = record { last = 0; versions = [] }
+
+  abbrev pub till : Till
+  till = getD (st .tills) t noTill
+
+  traceable : areTraceable 64 b (st .shelf) (till .versions) ≡ true
+  unfolding isSound isTill
+  traceable = clause _ 1 (every-at (isTill (shapeFor c) (st .shelf)) noTill (st .tills) (clause _ 4 sound) t ht)
+
+  pub till-fits : TillFits (shapeFor c) till
+  till-fits = each-at (TillFits (shapeFor c)) noTill (st .tills) (fits c st sound .tills) t ht
+
+  eight : (k : ℕ) → length (getD (st .shelf .records) k []) ≤ 8
+  eight k = go (st .shelf .records) (fits c st sound .records) k
+    where
+      go : (segs : List Segment) → Each (λ (s : Segment). length s ≡ 8) segs → (k : ℕ) → length (getD segs k []) ≤ 8
+      go [] e k = omega arith
+      go (s ∷ segs) e zero = omega (arith, e .0)
+      go (s ∷ segs) e (suc k) = go segs (e .1) k
+
+  -- each pointer of a version names what is there
+  pub pointers-fit : (i j : ℕ) → Fits (length (st .shelf .records) * 19) (getD (pointersAt (till .versions) i) j nullPointer)
+  pointers-fit i j = all-fit (st .shelf) eight 64 b (till .versions) traceable i j
+
+  -- the versions from the i-th oldest on
+  module _ (i : ℕ) (hi : i < length (till .versions)) where
+    abbrev pub vs : List Version
+    vs = drop i (till .versions)
+
+    pub held-versions : length vs ≡ length (till .versions) - i
+    held-versions = length-drop i (till .versions)
+
+    vs-fit : Each (VersionFits (shapeFor c)) vs
+    vs-fit = each-drop (VersionFits (shapeFor c)) i (till .versions) (till-fits .versions)
+
+    wide : (us : List Version) → Wide (versionToWords b) (3 + b) us
+    wide us = wide-all (versionToWords b) (3 + b) (length-version b) us
+
+    -- their slots, within the till's words
+    pub slots-are : take (length vs * (3 + b)) (drop (4 + i * (3 + b)) (tillToWords (c .versions) b till)) ≡ rows (versionToWords b) vs
+    unfolding tillToWords
+    slots-are =
+        let all : List ℕ = rows (versionToWords b) (till .versions) in
+        let la : length all ≡ length (till .versions) * (3 + b) = length-rows (versionToWords b) (3 + b) (till .versions) (wide (till .versions)) in
+        let lv : length (rows (versionToWords b) vs) ≡ length vs * (3 + b) = length-rows (versionToWords b) (3 + b) vs (wide vs) in
+        let most : length (till .versions) * (3 + b) ≤ c .versions * (3 + b) = mul-le-mul-right (3 + b) (till-fits .most) in
+        let low : i * (3 + b) ≤ length (till .versions) * (3 + b) = mul-le-mul-right (3 + b) (omega arith) in
+        let rest : List ℕ = fill (c .versions * (3 + b) - length all) [] in
+        ap (take (length vs * (3 + b)))
+        (sym (drop-drop (i * (3 + b)) 4 (tillToWords (c .versions) b till))
+        ∙ ap (drop (i * (3 + b))) (fill-split (c .versions * (3 + b)) all (omega (arith, la)))
+        ∙ drop-append-le (i * (3 + b)) all rest (omega (arith, la))
+        ∙ ap (λ (l : List ℕ). l ++ rest) (drop-rows (versionToWords b) (3 + b) i (till .versions) (wide (till .versions))))
+        ∙ take-at (rows (versionToWords b) vs) rest (length vs * (3 + b)) lv
+
+    pub slots-read : versionsIn 64 b (length vs) (rows (versionToWords b) vs) ≡ vs
+    unfolding versionsIn
+    slots-read =
+        ap (λ (ws : List ℕ). map (versionIn 64) (parts (3 + b) (length vs) ws)) (sym (append-nil (rows (versionToWords b) vs)))
+        ∙ parts-rows (versionToWords b) (versionIn 64) (3 + b) vs (wide vs) (each-weaken (VersionFits (shapeFor c)) _ (version-back (shapeFor c)) vs vs-fit) []
+
+    most-blocks : (us : List Version) → Each (VersionFits (shapeFor c)) us → (j : ℕ) → length (pointersAt us j) ≤ b
+    most-blocks [] e j = omega (arith, ap length none-pointers)
+    most-blocks (u ∷ us) e zero = e .0 .most
+    most-blocks (u ∷ us) e (suc j) = most-blocks us (e .1) j
+
+    pub sound-traceable : Traceable b (length vs) (rows (versionToWords b) vs)
+    sound-traceable = record {
+      rows = length-rows (versionToWords b) (3 + b) vs (wide vs);
+      some = omega (arith, held-versions);
+      few = omega (arith, held-versions, till-fits .most, few-versions c st sound);
+      small = few-blocks c st sound;
+      fits = subst (λ (us : List Version). (j : ℕ) → length (pointersAt us j) ≤ b) (sym slots-read) (most-blocks vs vs-fit);
+      leads =
+          subst (λ (us : List Version). (k j : ℕ) → LeadsTo (length (pointersAt us (suc k))) (getD (pointersAt us k) j nullPointer)) (sym slots-read)
+          (all-lead (st .shelf) eight 64 b vs (traceable-from (st .shelf) eight 64 b i (till .versions) traceable));
+    }
+
+    pub sound-direct : Direct b (length vs) (rows (versionToWords b) vs) (length (wordsOf c st sound))
+    sound-direct = record {
+      fit =
+          subst (λ (us : List Version). (k j : ℕ) → Fits (length (wordsOf c st sound)) (getD (pointersAt us k) j nullPointer)) (sym slots-read)
+          (subst (λ (n : ℕ). (k j : ℕ) → Fits n (getD (pointersAt vs k) j nullPointer)) (sym (words-length c st sound))
+          (all-fit (st .shelf) eight 64 b vs (traceable-from (st .shelf) eight 64 b i (till .versions) traceable)));
+    }
+
+    -- the first version's length, and as many pointers as it has blocks
+    first : (us : List Version) → 0 < length us → Each (VersionFits (shapeFor c)) us
+        → (getD (rows (versionToWords b) us) 1 0 ≡ getD us 0 (versionIn 64 []) .length) × (length (pointersAt us 0) ≡ partsFor 64 (getD us 0 (versionIn 64 []) .length))
+    unfolding joined versionToWords
+    first [] h e = absurd (omega arith)
+    first (u ∷ us) h e = (refl, e .0 .blocks)
+
+    pub sound-blocks : length (pointersAt (versionsIn 64 b (length vs) (rows (versionToWords b) vs)) 0) ≡ partsFor 64 (getD (rows (versionToWords b) vs) 1 0)
+    sound-blocks =
+        let (l, n) = first vs (omega (arith, held-versions)) vs-fit in
+        ap (λ (us : List Version). length (pointersAt us 0)) slots-read ∙ n ∙ ap (partsFor 64) (sym l)

@@ -1,0 +1,201 @@
+// A segment record by value: the mask of its held positions, that of its removed ones, and the cell and the count of each position.
+ghost use mathlib.Core.Path.{_≡_};
+ghost use mathlib.Core.Bool.{true, cond};
+ghost use mathlib.Core.List.{List, map, _++_};
+ghost use mathlib.Core.Option.{some};
+ghost use Prim.Native.Nat.{ℕ, _+_, _*_, _%_, _≤_, _<_};
+ghost use lib.ListN.{length, getD, set, take, drop};
+ghost use Rattle.lists.specs.Lists.{count, firstFrom};
+ghost use Rattle.lists.specs.Masks.{maskOf};
+ghost use Rattle.model.specs.State.{nullPosition, removed};
+ghost use Rattle.model.specs.Records.{isHeld, freeSegment};
+ghost use Rattle.model.specs.Table.{positionOf, recordToWords};
+ghost use Rattle.model.specs.Sweep.{goes, struck, moved};
+ghost use Rattle.records.specs.Records.{positions, recordOf, recordIn, Formed};
+use numbers::Cell;
+use numbers::RecordNumber;
+
+pub struct Record {
+    pub held: u32,
+    pub removed: u32,
+    pub cells: [u32; 8],
+    pub counts: [u32; 8],
+}
+
+impl Record {
+    pub const POSITIONS: usize = 8;
+
+    // Its words in the table: the two masks, a zero, the cells, the counts.
+    pub const WORDS: usize = 19;
+
+    pub fn free() -> Record
+        ensures { λ r. ⌜ r ≡ recordOf (freeSegment 8) ⌝ }
+    {
+        Record {
+            held: 0,
+            removed: 0,
+            cells: [0; 8],
+            counts: [0; 8],
+        }
+    }
+
+    // How many positions are held.
+    pub fn size(self) -> u32
+        requires { ⌜ Formed self ⌝ }
+        ensures { λ r. ⌜ r ≡ count isHeld (positions self) ⌝ }
+    {
+        u32::count_ones(self.held)
+    }
+
+    // The first held position.
+    pub fn first(self) -> u32
+        requires { ⌜ Formed self ⌝ }
+        requires { ⌜ 0 < count isHeld (positions self) ⌝ }
+        ensures { λ r. ⌜ firstFrom isHeld 0 (positions self) ≡ some r ⌝ }
+    {
+        u32::trailing_zeros(self.held)
+    }
+
+    // The mask of the held positions whose count is 0, from the last position down.
+    pub fn going(self) -> u32
+        requires { ⌜ Formed self ⌝ }
+        ensures { λ r. ⌜ r ≡ maskOf goes (positions self) ⌝ }
+    {
+        let mut mask: u32 = 0;
+        let mut i: usize = 8;
+        while i > 0 {
+            i = i - 1;
+            mask = 2 * mask + unused(self.held >> i, self.counts[i]);
+        }
+        mask
+    }
+
+    // One position struck. The other seven stay.
+    pub fn strike(mut self, position: usize) -> Record
+        requires { ⌜ Formed self ⌝ }
+        requires { ⌜ (position < 8) × (isHeld (getD (positions self) position nullPosition) ≡ true) ⌝ }
+        ensures { λ r. ⌜ r ≡ recordOf (set (positions self) position removed) ⌝ }
+    {
+        let bit = 1u32 << position;
+        self.held = self.held - bit;
+        self.removed = self.removed + bit;
+        self.cells[position] = 0;
+        self.counts[position] = 0;
+        self
+    }
+
+    // The positions that go struck, where `going` is their mask.
+    pub fn strike_all(self, going: u32) -> Record
+        requires { ⌜ Formed self ⌝ }
+        requires { ⌜ going ≡ maskOf goes (positions self) ⌝ }
+        ensures { λ r. ⌜ r ≡ recordOf (map struck (positions self)) ⌝ }
+    {
+        let mut now = self;
+        let mut left = going;
+        while left != 0 {
+            let p = u32::trailing_zeros(left);
+            let i = p as usize;
+            now = now.strike(i);
+            left = left - (1u32 << p);
+        }
+        now
+    }
+
+    // The held positions, none of which goes, take consecutive cells from `start`.
+    pub fn renumber(mut self, start: Cell) -> Record
+        requires { ⌜ Formed self ⌝ }
+        requires { ⌜ (maskOf goes (positions self) ≡ 0) × (start .0 < 65536) ⌝ }
+        ensures { λ r. ⌜ r ≡ recordOf (moved (start .0) (positions self)) ⌝ }
+    {
+        let mut left = self.held;
+        let mut at = start.0;
+        while left != 0 {
+            let p = u32::trailing_zeros(left);
+            let i = p as usize;
+            self.cells[i] = at;
+            at = at + 1;
+            left = left - (1u32 << p);
+        }
+        self
+    }
+
+    // Written into its row among the records' words.
+    pub fn store(self, words: &mut [u32], number: RecordNumber)
+        requires { ⌜ Formed self ⌝ }
+        requires { ⌜ number .0 * 19 + 19 ≤ length (now words) ⌝ }
+        ensures { λ _. ⌜ now (words .exit) ≡ take (number .0 * 19) (now (words .entry)) ++ (recordToWords (positions self) ++ drop 19 (drop (number .0 * 19) (now (words .entry)))) ⌝ }
+    {
+        let k = number.0;
+        let at = k as usize * Record::WORDS;
+        let head = [self.held, self.removed, 0];
+        let cells = self.cells;
+        let counts = self.counts;
+        put_at(&head, words, at);
+        put_at(&cells, words, at + 3);
+        put_at(&counts, words, at + 11);
+    }
+}
+
+// 1 for a held position whose count is 0; `held` is the mask from that position on.
+fn unused(held: u32, count: u32) -> u32
+    ensures { λ r. ⌜ (r ≡ cond (goes (positionOf (held % 2) 0 0 count)) 1 0) × (r ≤ 1) ⌝ }
+{
+    if held % 2 == 0 {
+        return 0;
+    }
+    if count == 0 {
+        return 1;
+    }
+    0
+}
+
+// The record in a row of the records' words.
+pub fn load(words: &[u32], number: RecordNumber) -> Record
+    requires { ⌜ number .0 * 19 + 19 ≤ length (now words) ⌝ }
+    ensures { λ r. ⌜ r ≡ recordIn (take 19 (drop (number .0 * 19) (now (words .entry)))) ⌝ }
+{
+    let k = number.0;
+    let at = k as usize * Record::WORDS;
+    let cells = eight(words, at + 3);
+    let counts = eight(words, at + 11);
+    Record {
+        held: words[at],
+        removed: words[at + 1],
+        cells,
+        counts,
+    }
+}
+
+// Eight of the words.
+fn eight(words: &[u32], at: usize) -> [u32; 8]
+    requires { ⌜ at + 8 ≤ length (now words) ⌝ }
+    ensures { λ r. ⌜ r ≡ take 8 (drop at (now (words .entry))) ⌝ }
+{
+    let mut a = [0u32; 8];
+    let mut i: usize = 0;
+    while i < 8 {
+        a[i] = words[at + i];
+        i = i + 1;
+    }
+    a
+}
+
+// Words to the front of a part.
+fn put(words: &[u32], part: &mut [u32])
+    requires { ⌜ length (now words) ≤ length (now part) ⌝ }
+    ensures { λ _. ⌜ now (part .exit) ≡ now (words .entry) ++ drop (length (now (words .entry))) (now (part .entry)) ⌝ }
+{
+    let mut i: usize = 0;
+    while i < words.len() {
+        part[i] = words[i];
+        i = i + 1;
+    }
+}
+
+// Words to a place.
+fn put_at(words: &[u32], table: &mut [u32], at: usize)
+    requires { ⌜ at + length (now words) ≤ length (now table) ⌝ }
+    ensures { λ _. ⌜ now (table .exit) ≡ take at (now (table .entry)) ++ (now (words .entry) ++ drop (at + length (now (words .entry))) (now (table .entry))) ⌝ }
+{
+    put(words, &mut table[at..]);
+}

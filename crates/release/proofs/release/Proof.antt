@@ -1,0 +1,64 @@
+use mathlib.Core.Path.{refl}
+use Prim.Native.Nat.{_-_, _<_}
+use native.Mathlib.Omega.{arith}
+use lib.ListN.{length}
+use borrow.Author.Needs.{needs}
+use Rattle.shelf.proofs.Lowers.{Lowering, lowering-next, lowering-all}
+use Rattle.release.proofs.release.Statement.{statement}
+use Rattle.release.proofs.release.Tie as tie
+
+abbrev Inv-loop : tie.InvT-loop
+Inv-loop words₀ pointers i₀ words i = Lowering words₀ pointers words i
+
+abbrev μ-loop : tie.MeasureT-loop
+μ-loop words₀ pointers i₀ words i = length pointers - i
+
+loop-holds : tie.Need-loop-holds Inv-loop μ-loop
+loop-holds c = record { inside = omega arith; long = refl; told = c .before .before .pre .0; rest = refl }
+
+mul-lower : tie.Need-mul-lower Inv-loop μ-loop
+mul-lower c = search needs
+
+shared-slice-read-lower : tie.Need-shared-slice-read-lower Inv-loop μ-loop
+shared-slice-read-lower c = search needs
+
+lower-requires : tie.Need-lower-requires Inv-loop μ-loop
+lower-requires c κs =
+    let a = c .before .before .before .before .before .before in
+    let l = c .before .before .before .loop in
+    (l .inv .told, rw (l .inv .long) (a .pre .1 (l .i) (search needs)))
+
+add-i : tie.Need-add-i Inv-loop μ-loop
+add-i c = search needs
+
+loop-less : tie.Need-loop-less Inv-loop μ-loop
+loop-less c = search needs
+
+loop-again : tie.Need-loop-again Inv-loop μ-loop
+loop-again c =
+    let a = c .before .before .before .before .before .before .before .before .before in
+    let l = c .before .before .before .before .before .before .loop in
+    let h : l .i < length (a .args .pointers .now) = search needs in
+    lowering-next _ _ _ (l .i) h (l .inv) _ (c .before .before .lower .kept .0) (c .before .before .lower .ensures)
+
+same-length : tie.Need-same-length Inv-loop μ-loop
+same-length c = c .before .loop .inv .long
+
+returns : tie.Need-returns Inv-loop μ-loop
+returns c = lowering-all _ _ _ _ (c .before .loop .inv) (omega arith)
+
+pub release-spec : {M : Type 1} → statement M
+release-spec =
+    tie.close
+    (tie.spec
+    Inv-loop
+    μ-loop
+    loop-holds
+    mul-lower
+    shared-slice-read-lower
+    lower-requires
+    add-i
+    loop-less
+    loop-again
+    same-length
+    returns)

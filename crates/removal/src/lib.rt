@@ -1,0 +1,140 @@
+// Step 3 for one record. Its positions whose count is 0 are removed, in one of four ways.
+ghost use mathlib.Core.Path.{_≡_};
+ghost use Prim.Native.Nat.{_*_, _≤_, _<_};
+ghost use lib.ListN.{length};
+ghost use Rattle.model.specs.Measures.{baseMeasures};
+ghost use Rattle.model.specs.Table.{recordsIn, shelfIn};
+ghost use Rattle.model.specs.Sweep.{sweepRecord};
+ghost use Rattle.kept.specs.Kept.{Coded, Kept, Loaded};
+ghost use Rattle.kept.specs.Ways.{goingAt, heldAt, stayingAt, freed, struckOnly, compacted, removedAt, Chosen};
+use numbers::Cell;
+use numbers::RecordNumber;
+use records::Record;
+
+// All of the record goes.
+pub fn free_record(
+    pool: &mut [u8],
+    words: &mut [u32],
+    occupied: &mut [bool],
+    number: RecordNumber,
+    old: Record,
+    going: u32,
+)
+    requires { ⌜ Kept (now pool) (now words) (now occupied) ⌝ }
+    requires { ⌜ Loaded (now words) (number .0) old going ⌝ }
+    ensures { λ _. ⌜ Coded (now (pool .exit)) (now (words .exit)) (now (occupied .exit)) (freed (now (pool .entry)) (now (words .entry)) (number .0)) ⌝ }
+{
+    let cells = old.cells;
+    pool::clear_marked(pool, occupied, old.held, cells);
+    let new = Record::free();
+    new.store(words, number);
+}
+
+// Only the freed cells are cleared.
+pub fn strike_record(
+    pool: &mut [u8],
+    words: &mut [u32],
+    occupied: &mut [bool],
+    number: RecordNumber,
+    old: Record,
+    going: u32,
+)
+    requires { ⌜ Kept (now pool) (now words) (now occupied) ⌝ }
+    requires { ⌜ Loaded (now words) (number .0) old going ⌝ }
+    ensures { λ _. ⌜ Coded (now (pool .exit)) (now (words .exit)) (now (occupied .exit)) (struckOnly (now (pool .entry)) (now (words .entry)) (number .0)) ⌝ }
+{
+    let cells = old.cells;
+    pool::clear_marked(pool, occupied, going, cells);
+    let new = old.strike_all(going);
+    new.store(words, number);
+}
+
+// The blocks that stay are copied into a run, and all old cells are cleared.
+pub fn move_record(
+    pool: &mut [u8],
+    words: &mut [u32],
+    occupied: &mut [bool],
+    number: RecordNumber,
+    old: Record,
+    going: u32,
+    start: Cell,
+)
+    requires { ⌜ Kept (now pool) (now words) (now occupied) ⌝ }
+    requires { ⌜ Loaded (now words) (number .0) old going ⌝ }
+    requires { ⌜ Chosen (now pool) (now words) (number .0) (start .0) ⌝ }
+    ensures { λ _. ⌜ Coded (now (pool .exit)) (now (words .exit)) (now (occupied .exit)) (compacted (now (pool .entry)) (now (words .entry)) (number .0)) ⌝ }
+{
+    let cells = old.cells;
+    let keep = old.held - going;
+    pool::copy_marked(pool, occupied, keep, cells, start);
+    pool::clear_marked(pool, occupied, old.held, cells);
+    let new = old.strike_all(going).renumber(start);
+    new.store(words, number);
+}
+
+// The same if there is a run; else only the freed cells are cleared. The record's old cells still count as occupied.
+pub fn compact_record(
+    pool: &mut [u8],
+    words: &mut [u32],
+    occupied: &mut [bool],
+    number: RecordNumber,
+    old: Record,
+    going: u32,
+)
+    requires { ⌜ Kept (now pool) (now words) (now occupied) ⌝ }
+    requires { ⌜ Loaded (now words) (number .0) old going ⌝ }
+    requires { ⌜ 0 < stayingAt (now words) (number .0) ⌝ }
+    ensures { λ _. ⌜ Coded (now (pool .exit)) (now (words .exit)) (now (occupied .exit)) (compacted (now (pool .entry)) (now (words .entry)) (number .0)) ⌝ }
+{
+    let keep = old.held - going;
+    let need = u32::count_ones(keep) as usize;
+    let run = runs::best_run(occupied, need);
+    if run.size == 0 {
+        strike_record(pool, words, occupied, number, old, going);
+        return;
+    }
+    let start = run.start;
+    move_record(pool, words, occupied, number, old, going, start);
+}
+
+// r positions of the record go, and s are held.
+pub fn remove_from(
+    pool: &mut [u8],
+    words: &mut [u32],
+    occupied: &mut [bool],
+    number: RecordNumber,
+    old: Record,
+    going: u32,
+    r: u32,
+    s: u32,
+)
+    requires { ⌜ Kept (now pool) (now words) (now occupied) ⌝ }
+    requires { ⌜ Loaded (now words) (number .0) old going ⌝ }
+    requires { ⌜ (r ≡ goingAt (now words) (number .0)) × (s ≡ heldAt (now words) (number .0)) × (r ≤ s) × (s ≤ 8) ⌝ }
+    ensures { λ _. ⌜ Coded (now (pool .exit)) (now (words .exit)) (now (occupied .exit)) (removedAt (now (pool .entry)) (now (words .entry)) (number .0)) ⌝ }
+{
+    if r == 0 {
+        return;
+    }
+    if r == s {
+        free_record(pool, words, occupied, number, old, going);
+        return;
+    }
+    if 100 * r < 20 * s {
+        strike_record(pool, words, occupied, number, old, going);
+        return;
+    }
+    compact_record(pool, words, occupied, number, old, going);
+}
+
+pub fn sweep_record(pool: &mut [u8], words: &mut [u32], occupied: &mut [bool], number: RecordNumber)
+    requires { ⌜ Kept (now pool) (now words) (now occupied) ⌝ }
+    requires { ⌜ number .0 < length (recordsIn 8 (now words)) ⌝ }
+    ensures { λ _. ⌜ Coded (now (pool .exit)) (now (words .exit)) (now (occupied .exit)) (sweepRecord baseMeasures (shelfIn baseMeasures (now (pool .entry)) (now (words .entry))) (number .0)) ⌝ }
+{
+    let old = records::load(words, number);
+    let going = old.going();
+    let r = u32::count_ones(going);
+    let s = old.size();
+    remove_from(pool, words, occupied, number, old, going, r, s);
+}

@@ -1,0 +1,4 @@
+pub mod Extra
+pub mod Traces
+pub mod Images
+pub mod Restores

@@ -1,0 +1,95 @@
+-- The loop of a restore.
+use mathlib.Core.Path.{_≡_, refl, sym, ap, _∙_}
+use mathlib.Core.List.{List, _++_, append-assoc}
+use Prim.Native.Nat.{ℕ, suc, _+_, _-_, _*_, _≤_, _<_, max, min}
+use native.Mathlib.Nat.{zero-mul}
+use native.Mathlib.Numerals.{add-one}
+use native.Mathlib.Omega.{arith}
+use lib.ListN.{length, take, drop}
+use lib.Seq.{drop-drop, take-at, drop-at, take-add, length-take-le}
+use lib.Arith.{digits-lt}
+use borrow.Rule.Slice.PartMut.{midOf, putMid, mid-len, same-len-mid}
+use Rattle.lists.specs.Lists.{largest, counted}
+use Rattle.trace.specs.Versions.{Traceable}
+
+-- ---- the bytes
+
+-- one more piece of an image
+piece-more : (img out : List ℕ) (b : List ℕ) (d m : ℕ) → d ≤ length img → take m (drop d img) ≡ b
+    → (let o = take d img ++ drop d out in take d o ++ (b ++ drop (d + m) o)) ≡ take (d + m) img ++ drop (d + m) out
+piece-more img out b d m h e =
+    let l = length-take-le d img h in
+    let f : take d (take d img ++ drop d out) ≡ take d img = take-at (take d img) (drop d out) d l in
+    let g : drop (d + m) (take d img ++ drop d out) ≡ drop (d + m) out =
+    sym (drop-drop m d (take d img ++ drop d out)) ∙ ap (λ (x : List ℕ). drop m x) (drop-at (take d img) (drop d out) d l) ∙ drop-drop m d out in
+    rw (f, g, ← e, take-add d m img) (sym (append-assoc (take d img) (take m (drop d img)) (drop (d + m) out)))
+
+-- the part from byte 64 n on was lent, and has come back with the front of block n
+restore-turn : (img out₀ out ys block : List ℕ) (n len count at end : ℕ) → length img ≡ count * 64 → n < count → count * 64 < len + 64 → len ≤ length out
+    → at ≡ n * 64 → end ≡ min (at + 64) len → ((m : ℕ) → m ≤ 64 → take m (drop (n * 64) img) ≡ take m block)
+    → out ≡ take (min (n * 64) len) img ++ drop (min (n * 64) len) out₀
+    → ys ≡ take (length (midOf at (end - at) out)) block
+    → putMid at (end - at) out ys ≡ take (min ((n + 1) * 64) len) img ++ drop (min ((n + 1) * 64) len) out₀
+restore-turn img out₀ out ys block n len count at end li l h o ea ee f e ey =
+    let m : ℕ = end - at in
+    let d : min (n * 64) len ≡ at = omega arith in
+    let d′ : min ((n + 1) * 64) len ≡ at + m = omega arith in
+    let lm : length (midOf at (end - at) out) ≡ m = mid-len at end out (omega arith) in
+    let by : ys ≡ take m (drop at img) = ey ∙ ap (λ (i : ℕ). take i block) lm ∙ sym (f m (omega arith)) ∙ ap (λ (i : ℕ). take m (drop i img)) (sym ea) in
+    let o′ : out ≡ take at img ++ drop at out₀ = e ∙ ap (λ (i : ℕ). take i img ++ drop i out₀) d in
+    ap (λ (x : List ℕ). take at out ++ (ys ++ x)) (drop-drop m at out)
+    ∙ ap (λ (x : List ℕ). take at x ++ (ys ++ drop (at + m) x)) o′
+    ∙ piece-more img out₀ ys at m (omega (arith, li)) (sym by)
+    ∙ ap (λ (i : ℕ). take i img ++ drop i out₀) (sym d′)
+
+-- ---- the chains
+
+chain-next : (f : ℕ → ℕ) (count most n : ℕ) → n < count → max (max most (f n)) (largest (counted f (n + 1) (count - (n + 1)))) ≡ max most (largest (counted f n (count - n)))
+unfolding counted largest
+chain-next f count most n h =
+    let e : count - n ≡ suc (count - (n + 1)) = omega arith in
+    rw (e, add-one n) (omega arith)
+
+-- ---- the loop
+
+pub record Restoring (img : List ℕ) (f : ℕ → ℕ) (out₀ : List ℕ) (len count : ℕ) (out : List ℕ) (most n : ℕ) : Type 0 where
+  pub inside : n ≤ count
+  pub long : length out ≡ length out₀
+  pub bytes : out ≡ take (min (n * 64) len) img ++ drop (min (n * 64) len) out₀
+  pub chain : max most (largest (counted f n (count - n))) ≡ largest (counted f 0 count)
+
+module _ (img : List ℕ) (f : ℕ → ℕ) (out₀ : List ℕ) (len count : ℕ) where
+  pub restore-start : Restoring img f out₀ len count out₀ 0 0
+  restore-start =
+      let e : min 0 len ≡ 0 = omega arith in
+      let q : count - 0 ≡ count = omega arith in
+      record { inside = omega arith; long = refl; bytes = rw e; chain = rw q (omega arith) }
+
+  module _ (out : List ℕ) (most n : ℕ) (s : Restoring img f out₀ len count out most n) where
+    pub restore-next : (ys block : List ℕ) (at end most′ hop : ℕ) → length img ≡ count * 64 → n < count → count * 64 < len + 64 → len ≤ length out₀
+        → at ≡ n * 64 → end ≡ min (at + 64) len → ((m : ℕ) → m ≤ 64 → take m (drop (n * 64) img) ≡ take m block)
+        → ys ≡ take (length (midOf at (end - at) out)) block → length ys ≡ length (midOf at (end - at) out) → most′ ≡ max most hop → hop ≡ f n
+        → Restoring img f out₀ len count (putMid at (end - at) out ys) most′ (n + 1)
+    restore-next ys block at end most′ hop li h k o ea ee eb ey ly em eh = record {
+      inside = omega arith;
+      long = same-len-mid at (end - at) out ys ly ∙ s .long;
+      bytes = restore-turn img out₀ out ys block n len count at end li h k (omega (arith, s .long)) ea ee eb (s .bytes) ey;
+      chain = rw (em, eh) (chain-next f count most n h) ∙ s .chain;
+    }
+
+    pub restore-bytes : count ≤ n → len ≤ count * 64 → out ≡ take len img ++ drop len out₀
+    restore-bytes h k =
+        let d : min (n * 64) len ≡ len = omega (arith, s .inside) in
+        rw d at (s .bytes)
+
+    pub restore-chain : count ≤ n → most ≡ largest (counted f 0 count)
+    unfolding counted largest
+    restore-chain h =
+        let e : count - n ≡ 0 = omega arith in
+        let q : max most (largest (counted f n 0)) ≡ largest (counted f 0 count) = rw e at (s .chain) in
+        omega (arith, q)
+
+pub slots-long : (b h : ℕ) (slots : List ℕ) → Traceable b h slots → 2 < length slots
+slots-long b h slots ok =
+    let d : 0 * (3 + b) + 2 < h * (3 + b) = digits-lt {c = 3 + b} (ok .some) (omega arith) in
+    omega (arith, zero-mul (3 + b), ok .rows)

@@ -1,0 +1,107 @@
+// A block's chain, and a version's image, which is put together in the output.
+ghost use mathlib.Core.Path.{_≡_};
+ghost use mathlib.Core.List.{List, [], _++_};
+ghost use Prim.Native.Nat.{ℕ, _+_, _*_, _≤_, _<_, max};
+ghost use lib.ListN.{length, take, drop, getD};
+ghost use Rattle.model.specs.Measures.{baseMeasures, partsFor};
+ghost use Rattle.model.specs.State.{nullPosition};
+ghost use Rattle.model.specs.Records.{cellOf};
+ghost use Rattle.model.specs.Table.{wordToPointer, recordsIn, shelfIn, versionsIn};
+ghost use Rattle.model.specs.Trace.{blockAt, imageOf, longestChain};
+ghost use Rattle.shelf.specs.Stored.{RecordsTold, Stored};
+ghost use Rattle.shelf.specs.Fits.{Fits};
+ghost use Rattle.trace.specs.Versions.{pointersAt, Traceable, Direct, Traces};
+use numbers::Block;
+use numbers::Cell;
+use numbers::RecordNumber;
+
+// The word at which the tracing of a block ends, and how many pointers it followed.
+pub struct Traced {
+    pub word: u32,
+    pub hops: u32,
+}
+
+// A block of the first of h slots is traced through the newer ones; a slot is for images of b blocks.
+pub fn trace(slots: &[u32], b: usize, h: usize, block: Block) -> Traced
+    requires { ⌜ Traceable b h (now slots) ⌝ }
+    requires { ⌜ block .0 < length (pointersAt (versionsIn 64 b h (now slots)) 0) ⌝ }
+    ensures { λ r. ⌜ Traces (versionsIn 64 b h (now (slots .entry))) (block .0) r ⌝ }
+{
+    let mut v: usize = 0;
+    let mut n = block.0;
+    let mut w = slots[3 + n as usize];
+    while w / 16777216 == 2 {
+        n = w % 16777216;
+        v = v + 1;
+        w = slots[v * (3 + b) + (3 + n as usize)];
+    }
+    Traced {
+        word: w,
+        hops: v as u32,
+    }
+}
+
+// The cell of a position.
+pub fn cell_of(words: &[u32], number: RecordNumber, position: u32) -> Cell
+    requires { ⌜ RecordsTold (now words) (recordsIn 8 (now words)) ⌝ }
+    requires { ⌜ (number .0 * 19 + 19 ≤ length (now words)) × (position < 8) × (number .0 < 1048576) ⌝ }
+    ensures { λ r. ⌜ r .0 ≡ cellOf (getD (getD (recordsIn 8 (now (words .entry))) (number .0) []) position nullPosition) ⌝ }
+{
+    let k = number.0;
+    let at = (k * 19 + (3 + position)) as usize;
+    Cell(words[at])
+}
+
+// A part of the output is filled with the front of the block that a pointer's word, which is not indirect, leads to.
+pub fn put_block(pool: &[u8], words: &[u32], pointer: u32, part: &mut [u8])
+    requires { ⌜ Stored (now pool) (now words) ⌝ }
+    requires { ⌜ Fits (length (now words)) (wordToPointer pointer) × (length (now part) ≤ 64) ⌝ }
+    ensures { λ _. ⌜ now (part .exit) ≡ take (length (now (part .entry))) (blockAt 64 (shelfIn baseMeasures (now (pool .entry)) (now (words .entry))) (wordToPointer pointer)) ⌝ }
+{
+    if pointer / 16777216 == 1 {
+        let rest = pointer % 16777216;
+        let cell = cell_of(words, RecordNumber(rest / 16), rest % 16);
+        let from = cell.byte();
+        let end = from + part.len();
+        blocks::copy_in(&pool[from..end], part);
+        return;
+    }
+    blocks::clear(part);
+}
+
+fn larger(a: u32, b: u32) -> u32
+    ensures { λ r. ⌜ r ≡ max a b ⌝ }
+{
+    if a < b { b } else { a }
+}
+
+// The image of the first of h slots, and the longest chain. The output's part from byte 64 n on is lent to the block copier.
+pub fn restore_image(
+    pool: &[u8],
+    words: &[u32],
+    slots: &[u32],
+    b: usize,
+    h: usize,
+    out: &mut [u8],
+) -> u32
+    requires { ⌜ Stored (now pool) (now words) ⌝ }
+    requires { ⌜ Traceable b h (now slots) × Direct b h (now slots) (length (now words)) ⌝ }
+    requires { ⌜ (length (pointersAt (versionsIn 64 b h (now slots)) 0) ≡ partsFor 64 (getD (now slots) 1 0)) × (getD (now slots) 1 0 ≤ length (now out)) ⌝ }
+    ensures bytes { λ r. ⌜ now (out .exit) ≡ imageOf 64 (shelfIn baseMeasures (now (pool .entry)) (now (words .entry))) (versionsIn 64 b h (now (slots .entry))) ++ drop (getD (now (slots .entry)) 1 0) (now (out .entry)) ⌝ }
+    ensures hops { λ r. ⌜ r ≡ longestChain (versionsIn 64 b h (now (slots .entry))) ⌝ }
+{
+    let len = slots[1] as usize;
+    let count = (len + 63) / 64;
+    let mut most: u32 = 0;
+    let mut n: usize = 0;
+    while n < count {
+        let block = Block(n as u32);
+        let traced = trace(slots, b, h, block);
+        let at = block.byte();
+        let end = blocks::least(at + Block::BYTES, len);
+        put_block(pool, words, traced.word, &mut out[at..end]);
+        most = larger(most, traced.hops);
+        n = n + 1;
+    }
+    most
+}

@@ -1,0 +1,59 @@
+use mathlib.Core.Path.{_∙_, ap}
+use Prim.Native.Nat.{_/_}
+use native.Mathlib.Omega.{arith}
+use lib.ListN.{length}
+use borrow.Author.Needs.{needs}
+use denote.Ref.{now}
+use Rattle.lists.specs.Over.{over}
+use Rattle.turn.specs.Turn.{releasedOf, targetOf, turnWord}
+use Rattle.turn.proofs.Turning.{released-all, target-ok, targets-ok, turned-all}
+use Rattle.turn.proofs.turn_pointers.Statement.{statement}
+use Rattle.turn.proofs.turn_pointers.Tie as tie
+
+find-targets-requires : tie.Need-find-targets-requires
+find-targets-requires c κs = search needs
+
+list-released-requires : tie.Need-list-released-requires
+list-released-requires c κs = search needs
+
+turn-words-requires : tie.Need-turn-words-requires
+turn-words-requires c κs =
+    let a = c .before .before .before .before .before .before .before .before .before .before .before .before .before .before .before .before .before .before .before in
+    let image = now (a .args .image) in
+    let pool = now (a .args .pool) in
+    let ws = now (a .args .records) in
+    (omega arith, λ b h. targets-ok (targetOf image pool ws) (target-ok image pool ws (a .pre .0)) (now (a .args .pointers)) _ (c .before .before .before .before .before .before .before .before .before .before .find-targets .ensures) b h)
+
+same-length : tie.Need-same-length
+same-length c = search needs
+
+same-length-2 : tie.Need-same-length-2
+same-length-2 c = search needs
+
+same-length-3 : tie.Need-same-length-3
+same-length-3 c = search needs
+
+returns : tie.Need-returns
+returns c =
+    let a = c .before .before .before .before .before .before .before .before .before .before .before .before .before .before .before .before .before .before .before .before .before .before in
+    let image = now (a .args .image) in
+    let pool = now (a .args .pool) in
+    let ws = now (a .args .records) in
+    let ps = now (a .args .pointers) in
+    let t = c .before .before .before .before .before .before .before .before .before .before .before .before .before .find-targets .ensures in (
+      c .before .before .turn-words .ensures ∙ ap (over turnWord ps) t ∙ turned-all image pool ws (a .pre .0) (length ws / 19) ps (a .pre .4),
+      c .before .before .before .before .before .before .before .list-released .ensures .0 ∙ ap (releasedOf ps) t ∙ released-all image pool ws (a .pre .0) (length ws / 19) ps (a .pre .4),
+      c .before .before .before .before .before .before .before .list-released .ensures .1,
+    )
+
+pub turn-pointers-spec : {M : Type 1} → statement M
+turn-pointers-spec =
+    tie.close
+    (tie.spec
+    find-targets-requires
+    list-released-requires
+    turn-words-requires
+    same-length
+    same-length-2
+    same-length-3
+    returns)

@@ -1,0 +1,2 @@
+-- The words of pointers that turn.
+pub mod Turn

@@ -1,0 +1,44 @@
+-- The words of pointers that turn.
+use mathlib.Core.Path.{_≡_}
+use mathlib.Core.Bool.{cond}
+use mathlib.Core.List.{List, [], _∷_}
+use mathlib.Core.Option.{Option, none, some}
+use Prim.Native.Nat.{_%_, _+_, _/_, _<_, _≤_, ℕ}
+use lib.Dec.{eqb}
+use Rattle.model.specs.Image.{imageBlocks}
+use Rattle.model.specs.Measures.{baseMeasures}
+use Rattle.model.specs.Table.{pointerWord, shelfIn, wordToPointer}
+use Rattle.model.specs.Turn.{target}
+
+-- the word is that of a pointer, and a direct one names a position of the `n` records
+pub record WordFits (n w : ℕ) : Type 0 where
+  pub says : pointerWord (wordToPointer w) ≡ w
+  pub record-in : w / 16777216 ≡ 1 → w % 16777216 / 16 < n
+  pub position-in : w / 16777216 ≡ 1 → w % 16777216 % 16 < 8
+
+abbrev pub noTarget : ℕ
+noTarget = 4294967295
+
+unfoldable pub targetWord : Option ℕ → ℕ
+targetWord none = noTarget
+targetWord (some n) = n
+
+-- the target of a word, as a word
+unfoldable pub targetOf : List ℕ → List ℕ → List ℕ → ℕ → ℕ
+targetOf image pool ws w = targetWord (target (shelfIn baseMeasures pool ws) (imageBlocks 64 image) (wordToPointer w))
+
+abbrev pub turnWord : ℕ → ℕ → ℕ
+turnWord w t = cond (eqb t 4294967295) w (33554432 + t)
+
+-- those of the words whose target is one
+unfoldable pub releasedOf : List ℕ → List ℕ → List ℕ
+releasedOf [] ts = []
+releasedOf (w ∷ ws) [] = []
+releasedOf (w ∷ ws) (t ∷ ts) = let r = releasedOf ws ts in cond (eqb t 4294967295) r (w ∷ r)
+
+-- a target is none, or a small block number
+abbrev pub TargetOk : ℕ → Type 0
+TargetOk t = (t ≡ 4294967295 → ⊥) → t ≤ 65536
+
+abbrev pub keptWord : ℕ → ℕ → List ℕ
+keptWord w t = cond (eqb t 4294967295) [] (w ∷ [])
