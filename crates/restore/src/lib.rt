@@ -1,0 +1,107 @@
+// A version is restored from a sound store.
+ghost use mathlib.Core.Path.{_≡_};
+ghost use Prim.Native.Nat.{ℕ, _+_, _-_, _<_};
+ghost use lib.ListN.{length, getD, drop};
+ghost use Rattle.model.specs.Measures.{baseMeasures};
+ghost use Rattle.model.specs.Table.{shapeOf, stateIn, shelfIn, versionsIn};
+ghost use Rattle.model.specs.Calls.{tillOf, restoreFrom, restoreOf};
+ghost use Rattle.laws.proofs.Stores.{Sound};
+ghost use Rattle.tills.specs.Answers.{HeadOf};
+ghost use Rattle.restore.specs.Answers.{Lent, restoreAnswer};
+use tills::Head;
+
+// Refusal 0 is an accepted call.
+pub struct Restored {
+    pub refusal: u32,
+    pub length: u32,
+    pub hops: u32,
+}
+
+fn refused(refusal: u32) -> Restored
+    ensures { λ r. ⌜ r ≡ record { refusal = refusal; length = 0; hops = 0 } ⌝ }
+{
+    Restored {
+        refusal: refusal,
+        length: 0,
+        hops: 0,
+    }
+}
+
+// The first of h versions in slots for images of b blocks.
+fn restore_slots(
+    pool: &[u8],
+    words: &[u32],
+    slots: &[u32],
+    b: usize,
+    h: usize,
+    output: &mut [u8],
+) -> Restored
+    requires { ⌜ Lent b h (now pool) (now words) (now slots) ⌝ }
+    ensures { λ r. ⌜ restoreAnswer r (now (output .exit)) ≡ restoreFrom 64 (shelfIn baseMeasures (now (pool .entry)) (now (words .entry))) (versionsIn 64 b h (now (slots .entry))) (now (output .entry)) ⌝ }
+{
+    let length = slots[1];
+    if output.len() < length as usize {
+        return refused(5);
+    }
+    let hops = trace::restore_image(pool, words, slots, b, h, output);
+    Restored {
+        refusal: 0,
+        length: length,
+        hops: hops,
+    }
+}
+
+// The version at place j of those held, the oldest first.
+fn restore_held(
+    pool: &[u8],
+    table: &[u32],
+    till: u32,
+    head: Head,
+    j: usize,
+    output: &mut [u8],
+) -> Restored
+    requires { ⌜ Sound (now pool) (now table) × (till < getD (now table) 0 0) × HeadOf (now pool) (now table) till head × (j < head .held) ⌝ }
+    ensures { λ r. ⌜ restoreAnswer r (now (output .exit)) ≡ restoreFrom 64 (stateIn (shapeOf (now (table .entry))) (now (pool .entry)) (now (table .entry)) .shelf) (drop j (tillOf (stateIn (shapeOf (now (table .entry))) (now (pool .entry)) (now (table .entry))) till .versions)) (now (output .entry)) ⌝ }
+{
+    let records = tills::records_at(table);
+    let blocks = table[2] as usize;
+    let width = 3 + blocks;
+    let held = head.held as usize;
+    let slots = head.at + 4;
+    let slot = slots + j * width;
+    let end = slots + held * width;
+    restore_slots(
+        pool,
+        &table[records..],
+        &table[slot..end],
+        blocks,
+        held - j,
+        output,
+    )
+}
+
+pub fn restore_version(
+    pool: &[u8],
+    table: &[u32],
+    till: u32,
+    version: u32,
+    output: &mut [u8],
+) -> Restored
+    requires { ⌜ Sound (now pool) (now table) ⌝ }
+    ensures { λ r. ⌜ restoreAnswer r (now (output .exit)) ≡ restoreOf (now (pool .entry)) (now (table .entry)) till version (now (output .entry)) ⌝ }
+{
+    if table[0] <= till {
+        return refused(3);
+    }
+    let head = tills::till_head(pool, table, till);
+    let end = head.last + 1;
+    let first = end - head.held;
+    if version < first {
+        return refused(15);
+    }
+    if end <= version {
+        return refused(15);
+    }
+    let j = (version - first) as usize;
+    restore_held(pool, table, till, head, j, output)
+}
