@@ -1,0 +1,5 @@
+pub mod Extra
+pub mod Slots
+pub mod Tills
+pub mod Ranges
+pub mod Whole

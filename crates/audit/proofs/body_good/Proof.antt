@@ -1,0 +1,112 @@
+use native.Mathlib.Omega.{arith}
+use mathlib.Core.Bool.{Bool}
+use mathlib.Core.Path.{_≡_}
+use mathlib.Core.List.{List}
+use Prim.Native.Nat.{ℕ, _+_, _*_, _-_, _/_}
+use lib.ListN.{length, getD, take, drop}
+use denote.Ref.{now}
+use Rattle.lists.specs.Tells.{Tells}
+use Rattle.lists.proofs.Slices.{tail-all}
+use Rattle.model.specs.Measures.{recordsAt}
+use Rattle.model.specs.Table.{shapeOf, tillsPart, recordsPart}
+use Rattle.audit.specs.Good.{Body}
+use borrow.Author.Needs.{needs}
+use Rattle.audit.proofs.body_good.Statement.{statement}
+use Rattle.audit.proofs.body_good.Tie as tie
+use Rattle.audit.proofs.body_good.Reads as reads
+use Rattle.audit.proofs.body_good.Lts as lts
+use Rattle.audit.proofs.parts_good.Reads as parts-good-reads
+use Rattle.audit.proofs.records_at.Reads as records-at-reads
+
+parts : {r : Bool} (pool ws : List ℕ) (base : ℕ) → base ≡ recordsAt (getD ws 0 0) (getD ws 1 0) (getD ws 2 0)
+    → Tells r (Body pool (take (base - 8) (drop 8 ws)) (take (length ws - base) (drop base ws)) (getD ws 0 0) (getD ws 1 0) (getD ws 2 0))
+    → Tells r (Body pool (tillsPart (shapeOf ws .capacities) ws) (recordsPart (shapeOf ws .capacities) ws) (getD ws 0 0) (getD ws 1 0) (getD ws 2 0))
+unfolding shapeOf
+parts pool ws base e t =
+    let n : base - 8 ≡ getD ws 0 0 * (4 + getD ws 1 0 * (3 + getD ws 2 0)) = omega (arith, e) in
+    rw (n, tail-all ws base, e) at t
+
+-- src/lib.rt:51:17
+shared-slice-read-tills : tie.Need-shared-slice-read-tills
+shared-slice-read-tills c = search needs
+
+-- src/lib.rt:51:17
+cast-tills : tie.Need-cast-tills
+cast-tills c = search needs
+
+-- src/lib.rt:52:20
+shared-slice-read-versions : tie.Need-shared-slice-read-versions
+shared-slice-read-versions c = search needs
+
+-- src/lib.rt:52:20
+cast-versions : tie.Need-cast-versions
+cast-versions c = search needs
+
+-- src/lib.rt:53:18
+shared-slice-read-blocks : tie.Need-shared-slice-read-blocks
+shared-slice-read-blocks c = search needs
+
+-- src/lib.rt:53:18
+cast-blocks : tie.Need-cast-blocks
+cast-blocks c = search needs
+
+-- src/lib.rt:54:9
+records-at-requires : tie.Need-records-at-requires
+records-at-requires c κs = search needs
+
+-- src/lib.rt:55:22
+sub-parts-good : tie.Need-sub-parts-good
+sub-parts-good c = search needs
+
+-- src/lib.rt:55:22
+part-parts-good-start : tie.Need-part-parts-good-start
+part-parts-good-start c = search needs
+
+-- src/lib.rt:55:22
+part-parts-good-end : tie.Need-part-parts-good-end
+part-parts-good-end c = search needs
+
+-- src/lib.rt:55:39
+mul-parts-good : tie.Need-mul-parts-good
+mul-parts-good c = search needs
+
+-- src/lib.rt:55:39
+sub-parts-good-2 : tie.Need-sub-parts-good-2
+sub-parts-good-2 c = search needs
+
+-- src/lib.rt:55:39
+part-parts-good-start-2 : tie.Need-part-parts-good-start-2
+part-parts-good-start-2 c = search needs
+
+-- src/lib.rt:55:39
+part-parts-good-end-2 : tie.Need-part-parts-good-end-2
+part-parts-good-end-2 c = search needs
+
+-- src/lib.rt:55:5
+parts-good-requires : tie.Need-parts-good-requires
+parts-good-requires c κs = search needs
+
+-- src/lib.rt:47:1
+returns : tie.Need-returns
+returns c = parts (c .before .before .before .before .before .before .before .before .before .args .pool .now) (c .before .before .before .before .before .before .before .before .before .args .table .now) _ (c .before .before .before .records-at .ensures .0) (c .parts-good .ensures)
+
+pub body-good-spec : {M : Type 1} → statement M
+body-good-spec =
+    tie.close
+    (tie.spec
+    shared-slice-read-tills
+    cast-tills
+    shared-slice-read-versions
+    cast-versions
+    shared-slice-read-blocks
+    cast-blocks
+    records-at-requires
+    sub-parts-good
+    part-parts-good-start
+    part-parts-good-end
+    mul-parts-good
+    sub-parts-good-2
+    part-parts-good-start-2
+    part-parts-good-end-2
+    parts-good-requires
+    returns)

@@ -1,0 +1,34 @@
+-- Counting direct pointers.
+use mathlib.Core.Bool.{cond}
+use mathlib.Core.Path.{_≡_}
+use mathlib.Core.List.{List, [], _∷_}
+use Prim.Native.Nat.{ℕ, _+_, _*_, _/_, _%_, _≤_, _<_}
+use lib.Dec.{eqb}
+use lib.ListN.{length, getD, set, take, drop}
+use Rattle.lists.specs.Lists.{count}
+use Rattle.model.specs.Table.{kindUnit}
+use Rattle.audit_words.specs.Words.{bitOf}
+
+-- the counters after one more word: a direct pointer (kind 1) adds 1 to the counter of its position, if there is one
+unfoldable pub bumped : ℕ → List ℕ → List ℕ
+bumped w cs = cond (eqb (w / kindUnit) 1) (set cs (w % kindUnit) (getD cs (w % kindUnit) 0 + 1)) cs
+
+unfoldable pub tallied : List ℕ → List ℕ → List ℕ
+tallied [] cs = cs
+tallied (w ∷ ws) cs = tallied ws (bumped w cs)
+
+-- how many words are direct pointers to the position `p`, 16 * record + place
+unfoldable pub pointersTo : ℕ → List ℕ → ℕ
+pointersTo p ws = count (λ w. eqb w (kindUnit + p)) ws
+
+-- the count word of position `i` in a record's 19 words, if it is held, is `n` and at least 1
+abbrev pub CountSays : List ℕ → ℕ → ℕ → Type 0
+CountSays row i n = bitOf (getD row 0 0) i ≡ 1 → (1 ≤ getD row (11 + i) 0) × (getD row (11 + i) 0 ≡ n)
+
+-- of all records, by the count of each position
+abbrev pub RecordCounts : (ℕ → ℕ) → List ℕ → Type 0
+RecordCounts counts ws = (k : ℕ) → k < length ws / 19 → (i : ℕ) → i < 8 → CountSays (take 19 (drop (k * 19) ws)) i (counts (k * 16 + i))
+
+-- the counts in the records' words are the numbers of direct pointers among the tills' words
+abbrev pub CountsSay : List ℕ → List ℕ → Type 0
+CountsSay tills ws = RecordCounts (λ p. pointersTo p tills) ws

@@ -1,0 +1,93 @@
+// Counts: each is the number of direct pointers to its position. One pass over the tills' words counts them all.
+ghost use mathlib.Core.Bool.{true, false};
+ghost use mathlib.Core.Path.{_≡_};
+ghost use Prim.Native.Nat.{ℕ, _+_, _*_, _/_, _^_, _≤_, _<_};
+ghost use lib.ListN.{length, getD};
+ghost use Rattle.lists.specs.Tells.{Tells};
+ghost use Rattle.audit_counts.specs.Counters.{bumped, tallied, CountSays, RecordCounts, CountsSay};
+
+// One word is counted: a direct pointer adds 1 to its position's counter.
+fn bump(counts: &mut [u32], w: u32)
+    requires { ⌜ ((k : ℕ) → getD (now counts) k 0 + 1 < 2 ^ 32) ⌝ }
+    ensures { λ _. ⌜ now (counts .exit) ≡ bumped w (now (counts .entry)) ⌝ }
+{
+    let kind = w / 0x100_0000;
+    let at = (w % 0x100_0000) as usize;
+    if kind == 1 {
+        if at < counts.len() {
+            let n = counts[at];
+            counts[at] = n + 1;
+        }
+    }
+}
+
+// Every word is counted. Numbers, lengths and zeros are words of no direct pointer.
+fn tally(words: &[u32], counts: &mut [u32])
+    requires { ⌜ ((k : ℕ) → getD (now counts) k 0 + length (now words) < 2 ^ 32) ⌝ }
+    ensures { λ _. ⌜ now (counts .exit) ≡ tallied (now (words .entry)) (now (counts .entry)) ⌝ }
+{
+    let mut i: usize = 0;
+    while i < words.len() {
+        bump(counts, words[i]);
+        i += 1;
+    }
+}
+
+// Whether a position's count word, if it is held, is the count and at least 1.
+fn count_says(row: &[u32], i: usize, count: u32) -> bool
+    requires { ⌜ (i < 8) × (length (now row) ≡ 19) ⌝ }
+    ensures { λ r. ⌜ Tells r (CountSays (now (row .entry)) i count) ⌝ }
+{
+    if audit_words::bit(row[0], i) != 1 {
+        return true;
+    }
+    let n = row[11 + i];
+    if n < 1 {
+        return false;
+    }
+    n == count
+}
+
+// Whether those of a record are, by its counters.
+fn record_counts(row: &[u32], counts: &[u32]) -> bool
+    requires { ⌜ (length (now row) ≡ 19) × (8 ≤ length (now counts)) ⌝ }
+    ensures { λ r. ⌜ Tells r ((i : ℕ) → i < 8 → CountSays (now (row .entry)) i (getD (now (counts .entry)) i 0)) ⌝ }
+{
+    let mut i: usize = 0;
+    while i < 8 {
+        if !count_says(row, i, counts[i]) {
+            return false;
+        }
+        i += 1;
+    }
+    true
+}
+
+// Whether those of all records are.
+fn records_counts(records: &[u32], counts: &[u32]) -> bool
+    requires { ⌜ (length (now records) ≤ 77824) × (length (now counts) ≡ 65536) ⌝ }
+    ensures { λ r. ⌜ Tells r (RecordCounts (λ p. getD (now (counts .entry)) p 0) (now (records .entry))) ⌝ }
+{
+    let n = records.len() / 19;
+    let mut k: usize = 0;
+    while k < n {
+        let at = k * 19;
+        let end = at + 19;
+        let from = k * 16;
+        if !record_counts(&records[at..end], &counts[from..]) {
+            return false;
+        }
+        k += 1;
+    }
+    true
+}
+
+// Whether the counts are the numbers of direct pointers among the tills' words.
+pub fn counts_say(tills: &[u32], records: &[u32]) -> bool
+    requires { ⌜ (length (now tills) ≤ 2000000) × (length (now records) ≤ 77824) ⌝ }
+    ensures { λ r. ⌜ Tells r (CountsSay (now (tills .entry)) (now (records .entry))) ⌝ }
+{
+    let mut counts = [0u32; 65536];
+    tally(tills, &mut counts);
+    records_counts(records, &counts)
+}

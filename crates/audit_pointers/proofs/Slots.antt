@@ -1,0 +1,94 @@
+-- Versions of slots, and tracing through them.
+use mathlib.Core.Path.{_≡_, refl, sym, ap, ap₂, _∙_}
+use mathlib.Core.Bool.{Bool, true, false}
+use mathlib.Core.List.{List, [], _∷_, map}
+use Prim.Native.Nat.{ℕ, zero, suc, _+_, _-_, _*_, _/_, _%_, _≤_, _<_, min}
+use native.Mathlib.Nat.{zero-mul, suc-mul}
+use native.Mathlib.Numerals.{add-one}
+use native.Mathlib.Omega.{arith}
+use borrow.Author.Tests.{eqb-true, eqb-false}
+use lib.Arith.{digits-lt}
+use lib.Dec.{eqb}
+use lib.ListN.{length, getD, take, drop, length-take, length-drop, length-map}
+use lib.Seq.{drop-drop}
+use Rattle.lists.specs.Rows.{parts}
+use Rattle.model.specs.Measures.{partsFor}
+use Rattle.model.specs.State.{Pointer, nullPointer}
+use Rattle.model.specs.Table.{kindUnit, wordToPointer, pointerOf, versionIn, versionsIn}
+use Rattle.model.specs.Trace.{endVia, endOf}
+use Rattle.audit_words.proofs.Extra.{take-length}
+use Rattle.audit_words.proofs.Pointers.{read-direct, read-indirect, read-other}
+
+-- ---- a slot's pointers
+
+module _ (row : List ℕ) where
+  -- as many as there are
+  pub pointers-are : (n : ℕ) → n ≡ length (versionIn 64 row .pointers) → versionIn 64 row .pointers ≡ map wordToPointer (take n (drop 3 row))
+  unfolding versionIn
+  pointers-are n e =
+      ap (map wordToPointer)
+      (sym (ap (λ (m : ℕ). take m (drop 3 row)) (e ∙ length-map (take (partsFor 64 (getD row 1 0)) (drop 3 row)) wordToPointer) ∙ take-length (partsFor 64 (getD row 1 0)) (drop 3 row)))
+
+  pub pointers-count : (b : ℕ) → length row ≡ 3 + b → length (versionIn 64 row .pointers) ≡ min ((getD row 1 0 + 63) / 64) b
+  unfolding versionIn partsFor
+  pointers-count b l =
+      length-map (take ((getD row 1 0 + 63) / 64) (drop 3 row)) wordToPointer ∙ length-take ((getD row 1 0 + 63) / 64) (drop 3 row)
+      ∙ ap (min ((getD row 1 0 + 63) / 64)) (let e : length (drop 3 row) ≡ b = omega (arith, length-drop 3 row, l) in e)
+
+-- ---- slots
+
+-- slot i of n lies within the words
+pub slot-inside : (i n b l : ℕ) → i < n → n * (3 + b) ≤ l → i * (3 + b) + (3 + b) ≤ l
+slot-inside i n b l h g = omega (arith, digits-lt {r = 2 + b} {c = 3 + b} h (omega arith))
+
+-- what follows slot i
+pub slots-next : (b : ℕ) (ws : List ℕ) (i : ℕ) → drop (3 + b) (drop (i * (3 + b)) ws) ≡ drop ((i + 1) * (3 + b)) ws
+slots-next b ws i =
+    drop-drop (3 + b) (i * (3 + b)) ws
+    ∙ ap (λ (m : ℕ). drop m ws) (let e : i * (3 + b) + (3 + b) ≡ (i + 1) * (3 + b) = rw (add-one i) (omega (arith, suc-mul i (3 + b))) in e)
+
+-- the versions from slot i on: the one there, and the newer ones
+pub versions-cons : (b n : ℕ) (ws : List ℕ) → 0 < n → versionsIn 64 b n ws ≡ versionIn 64 (take (3 + b) ws) ∷ versionsIn 64 b (n - 1) (drop (3 + b) ws)
+unfolding versionsIn parts
+versions-cons b zero ws h = absurd (omega arith)
+versions-cons b (suc n) ws h = let e : suc n - 1 ≡ n = omega arith in rw e
+
+pub versions-next : (b n i : ℕ) (ws : List ℕ) → i < n
+    → versionsIn 64 b (n - i) (drop (i * (3 + b)) ws) ≡ versionIn 64 (take (3 + b) (drop (i * (3 + b)) ws)) ∷ versionsIn 64 b (n - (i + 1)) (drop ((i + 1) * (3 + b)) ws)
+versions-next b n i ws h =
+    versions-cons b (n - i) (drop (i * (3 + b)) ws) (omega arith)
+    ∙ ap₂ (λ (m : ℕ) (l : List ℕ). versionIn 64 (take (3 + b) (drop (i * (3 + b)) ws)) ∷ versionsIn 64 b m l) (let e : n - i - 1 ≡ n - (i + 1) = omega arith in e) (slots-next b ws i)
+
+pub versions-end : (b n i : ℕ) (ws : List ℕ) → n ≤ i → versionsIn 64 b (n - i) ws ≡ []
+unfolding versionsIn parts
+versions-end b n i ws h = let e : n - i ≡ 0 = omega arith in rw e
+
+-- ---- tracing
+
+via-stop : (w : ℕ) (next : ℕ → Pointer) → (w / kindUnit ≡ 2 → ⊥) → endVia (wordToPointer w) next ≡ wordToPointer w
+unfolding endVia
+via-stop w next n = go (eqb (w / kindUnit) 1) refl
+  where
+    go : (t : Bool) → eqb (w / kindUnit) 1 ≡ t → endVia (wordToPointer w) next ≡ wordToPointer w
+    go true e = rw (read-direct w (eqb-true _ _ e))
+    go false e = rw (read-other w (eqb-false _ _ e) n)
+
+module _ (bl n : ℕ) (ws : List ℕ) (i b w : ℕ) (h : i < n)
+    (e : wordToPointer w ≡ getD (versionIn 64 (take (3 + bl) (drop (i * (3 + bl)) ws)) .pointers) b nullPointer) where
+  first : endOf (versionsIn 64 bl (n - i) (drop (i * (3 + bl)) ws)) b ≡ endVia (wordToPointer w) (λ k. endOf (versionsIn 64 bl (n - (i + 1)) (drop ((i + 1) * (3 + bl)) ws)) k)
+  unfolding endOf
+  first = rw (versions-next bl n i ws h, e)
+
+  pub end-stop : (w / kindUnit ≡ 2 → ⊥) → wordToPointer w ≡ endOf (versionsIn 64 bl (n - i) (drop (i * (3 + bl)) ws)) b
+  end-stop g = sym (first ∙ via-stop w _ g)
+
+  pub end-go : w / kindUnit ≡ 2 → endOf (versionsIn 64 bl (n - i) (drop (i * (3 + bl)) ws)) b ≡ endOf (versionsIn 64 bl (n - (i + 1)) (drop ((i + 1) * (3 + bl)) ws)) (w % kindUnit)
+  unfolding endVia
+  end-go g = first ∙ rw (read-indirect w g)
+
+pub end-none : (bl n i : ℕ) (ws : List ℕ) (b : ℕ) → n ≤ i → endOf (versionsIn 64 bl (n - i) ws) b ≡ wordToPointer 0
+unfolding endOf wordToPointer pointerOf
+end-none bl n i ws b h = rw (versions-end bl n i ws h)
+
+pub end-start : (bl n : ℕ) (ws : List ℕ) (b : ℕ) → endOf (versionsIn 64 bl (n - 0) (drop (0 * (3 + bl)) ws)) b ≡ endOf (versionsIn 64 bl n ws) b
+end-start bl n ws b = let e : n - 0 ≡ n = omega arith in rw (e, zero-mul (3 + bl))

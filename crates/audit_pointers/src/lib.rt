@@ -1,0 +1,141 @@
+// Pointers: where each leads, and where the tracing of a block ends.
+ghost use mathlib.Core.Bool.{true, false, not};
+ghost use mathlib.Core.Path.{_≡_};
+ghost use mathlib.Core.List.{List, map};
+ghost use Prim.Native.Nat.{ℕ, _+_, _*_, _≤_, _<_};
+ghost use lib.ListN.{length, getD};
+ghost use Rattle.lists.specs.Lists.{every};
+ghost use Rattle.model.specs.State.{nullPointer};
+ghost use Rattle.model.specs.Measures.{baseMeasures};
+ghost use Rattle.model.specs.Records.{isHeld, cellOf, positionAt};
+ghost use Rattle.model.specs.Table.{wordToPointer, shelfIn, versionIn, versionsIn};
+ghost use Rattle.model.specs.Trace.{endOf};
+ghost use Rattle.model.specs.Sound.{isNull, leads};
+use numbers::Block;
+use numbers::Cell;
+use numbers::RecordNumber;
+
+// Whether a position is held, whatever the pool.
+fn held_at(records: &[u32], k: RecordNumber, i: usize) -> bool
+    ensures { λ r. ⌜ ((pool : List ℕ) → r ≡ isHeld (positionAt (shelfIn baseMeasures pool (now (records .entry))) (k .0) i)) ⌝ }
+{
+    let n = k.0;
+    let at = n as usize * 19;
+    if records.len() < at + 19 {
+        return false;
+    }
+    if 8 <= i {
+        return false;
+    }
+    audit_words::bit(records[at], i) == 1
+}
+
+// The cell of a position; 0 if it is not held.
+pub fn cell_at(records: &[u32], k: RecordNumber, i: usize) -> Cell
+    ensures { λ r. ⌜ ((pool : List ℕ) → r .0 ≡ cellOf (positionAt (shelfIn baseMeasures pool (now (records .entry))) (k .0) i)) ⌝ }
+{
+    let n = k.0;
+    let at = n as usize * 19;
+    if records.len() < at + 19 {
+        return Cell(0);
+    }
+    if 8 <= i {
+        return Cell(0);
+    }
+    if audit_words::bit(records[at], i) != 1 {
+        return Cell(0);
+    }
+    let c = records[at + 3 + i];
+    Cell(c)
+}
+
+// Whether a block is there and its pointer not null, by a version's pointer words.
+fn not_null(words: &[u32], b: Block) -> bool
+    ensures { λ r. ⌜ r ≡ not (isNull (getD (map wordToPointer (now (words .entry))) (b .0) nullPointer)) ⌝ }
+{
+    let n = b.0;
+    let at = n as usize;
+    if words.len() <= at {
+        return false;
+    }
+    let kind = words[at] / 0x100_0000;
+    if kind == 1 {
+        return true;
+    }
+    kind == 2
+}
+
+// Whether a pointer leads to a held position, or to a block of the next newer version that is not null.
+fn pointer_leads(records: &[u32], newer: &[u32], w: u32) -> bool
+    ensures { λ r. ⌜ ((pool : List ℕ) → r ≡ leads (shelfIn baseMeasures pool (now (records .entry))) (map wordToPointer (now (newer .entry))) (wordToPointer w)) ⌝ }
+{
+    let kind = w / 0x100_0000;
+    let low = w % 0x100_0000;
+    if kind == 1 {
+        return held_at(records, RecordNumber(low / 16), (low % 16) as usize);
+    }
+    if kind == 2 {
+        return not_null(newer, Block(low));
+    }
+    true
+}
+
+// Whether each of some pointers does.
+pub fn pointers_lead(records: &[u32], newer: &[u32], words: &[u32]) -> bool
+    ensures { λ r. ⌜ ((pool : List ℕ) → r ≡ every (leads (shelfIn baseMeasures pool (now (records .entry))) (map wordToPointer (now (newer .entry)))) (map wordToPointer (now (words .entry)))) ⌝ }
+{
+    let mut i: usize = 0;
+    while i < words.len() {
+        if !pointer_leads(records, newer, words[i]) {
+            return false;
+        }
+        i += 1;
+    }
+    true
+}
+
+// How many pointers a slot has.
+pub fn pointer_count(slot: &[u32], blocks: usize) -> usize
+    requires { ⌜ (blocks ≤ 1024) × (length (now slot) ≡ 3 + blocks) ⌝ }
+    ensures { λ r. ⌜ (r ≡ length (versionIn 64 (now (slot .entry)) .pointers)) × (r ≤ blocks) ⌝ }
+{
+    let bytes = slot[1] as usize;
+    let n = (bytes + 63) / 64;
+    if n < blocks {
+        return n;
+    }
+    blocks
+}
+
+// The word of a slot's pointer; 0 past the last.
+fn word_at(slot: &[u32], blocks: usize, b: Block) -> u32
+    requires { ⌜ (blocks ≤ 1024) × (length (now slot) ≡ 3 + blocks) ⌝ }
+    ensures { λ r. ⌜ wordToPointer r ≡ getD (versionIn 64 (now (slot .entry)) .pointers) (b .0) nullPointer ⌝ }
+{
+    let n = b.0;
+    let at = n as usize;
+    if pointer_count(slot, blocks) <= at {
+        return 0;
+    }
+    slot[3 + at]
+}
+
+// The pointer word at which the tracing of a block ends: a block of the first of some slots, of which the others are newer.
+pub fn end_of(slots: &[u32], blocks: usize, count: usize, block: Block) -> u32
+    requires { ⌜ (blocks ≤ 1024) × (count ≤ 64) × (count * (3 + blocks) ≤ length (now slots)) ⌝ }
+    ensures { λ r. ⌜ wordToPointer r ≡ endOf (versionsIn 64 blocks count (now (slots .entry))) (block .0) ⌝ }
+{
+    let mut b = block.0;
+    let mut i: usize = 0;
+    while i < count {
+        let at = i * (3 + blocks);
+        let end = at + (3 + blocks);
+        let w = word_at(&slots[at..end], blocks, Block(b));
+        if w / 0x100_0000 != 2 {
+            return w;
+        }
+        b = w % 0x100_0000;
+        i += 1;
+    }
+    0
+}

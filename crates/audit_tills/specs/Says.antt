@@ -1,0 +1,27 @@
+-- What a till's words say, slot by slot.
+use Prim.Native.Nat.{ℕ, _+_, _*_, _-_, _≤_, _<_}
+use mathlib.Core.Bool.{true}
+use mathlib.Core.Path.{_≡_}
+use mathlib.Core.List.{List}
+use lib.ListN.{getD, take, drop}
+use Rattle.lists.specs.Lists.{every, allZero}
+use Rattle.model.specs.State.{Shelf}
+use Rattle.model.specs.Table.{versionIn, versionsIn}
+use Rattle.model.specs.Sound.{leads, nextPointers, endsZero}
+use Rattle.audit_words.specs.Words.{SlotForm}
+
+-- the first of `count` slots, of which the others are newer: its number and its words, its pointers lead, and its last block ends in zeros
+pub record SlotSays (shelf : Shelf) (b count number : ℕ) (slots : List ℕ) : Type 0 where
+  pub numbered : getD slots 0 0 ≡ number
+  pub form : SlotForm b (take (3 + b) slots)
+  pub leading : every (leads shelf (nextPointers (versionsIn 64 b (count - 1) (drop (3 + b) slots)))) (versionIn 64 (take (3 + b) slots) .pointers) ≡ true
+  pub ends : endsZero 64 shelf (versionIn 64 (take (3 + b) slots)) (versionsIn 64 b (count - 1) (drop (3 + b) slots)) ≡ true
+
+-- a till's words, for `v` versions of `b` blocks
+pub record TillSays (shelf : Shelf) (v b : ℕ) (row : List ℕ) : Type 0 where
+  pub few : getD row 1 0 ≤ v
+  pub upto : getD row 1 0 ≤ getD row 0 0
+  pub most : getD row 0 0 ≤ 65535
+  pub zeros : allZero (take 2 (drop 2 row)) ≡ true
+  pub slots : (i : ℕ) → i < getD row 1 0 → SlotSays shelf b (getD row 1 0 - i) (1 + getD row 0 0 - getD row 1 0 + i) (drop (i * (3 + b)) (drop 4 row))
+  pub rest : allZero (drop (4 + getD row 1 0 * (3 + b)) row) ≡ true

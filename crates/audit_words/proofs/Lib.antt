@@ -1,0 +1,5 @@
+pub mod Extra
+pub mod Pointers
+pub mod Positions
+pub mod Records
+pub mod Sizes

@@ -1,0 +1,92 @@
+-- The positions that a record's words are read as.
+use mathlib.Core.Path.{_≡_, refl, sym, ap, ap₂, _∙_}
+use mathlib.Core.Bool.{false}
+use mathlib.Core.List.{List, [], _∷_}
+use Prim.Native.Nat.{ℕ, zero, suc, _+_, _-_, _/_, _≤_, _<_}
+use native.Mathlib.Nat.{not-suc-le-zero, le-of-suc-le-suc, suc-inj}
+use native.Mathlib.Omega.{arith}
+use lib.ListN.{length, getD, take, drop, length-drop, List·getD-eq-default}
+use lib.Seq.{getD-take, getD-drop, length-take-le}
+use Rattle.lists.proofs.Masks.{bit-zero, half-bit}
+use Rattle.model.specs.State.{nullPosition, held}
+use Rattle.model.specs.Records.{isHeld, cellOf, cellsOf}
+use Rattle.model.specs.Table.{positionOf, positionsIn, segmentIn}
+use Rattle.audit_words.specs.Words.{bitOf}
+
+-- ---- positionOf
+
+pub position-held : (a b c n : ℕ) → a ≡ 1 → positionOf a b c n ≡ held c n
+unfolding positionOf
+position-held zero b c n e = absurd (omega arith)
+position-held (suc a) b c n e = refl
+
+-- a bit is 0 or 1
+pub bit-off : (m i : ℕ) → (bitOf m i ≡ 1 → ⊥) → bitOf m i ≡ 0
+bit-off m i h = omega arith
+
+module _ (a b c n : ℕ) (e : a ≡ 0) where
+  pub other-held : isHeld (positionOf a b c n) ≡ false
+  unfolding positionOf
+  other-held = rw e (go b)
+    where
+      go : (b : ℕ) → isHeld (positionOf 0 b c n) ≡ false
+      go zero = refl
+      go (suc b) = refl
+
+  pub other-cell : cellOf (positionOf a b c n) ≡ 0
+  unfolding positionOf
+  other-cell = rw e (go b)
+    where
+      go : (b : ℕ) → cellOf (positionOf 0 b c n) ≡ 0
+      go zero = refl
+      go (suc b) = refl
+
+  pub other-cells : cellsOf (positionOf a b c n ∷ []) ≡ []
+  unfolding positionOf cellsOf
+  other-cells = rw e (go b)
+    where
+      go : (b : ℕ) → cellsOf (positionOf 0 b c n ∷ []) ≡ []
+      go zero = refl
+      go (suc b) = refl
+
+-- ---- positionsIn
+
+pub length-positions : (h r : ℕ) (cs ns : List ℕ) → length cs ≡ length ns → length (positionsIn h r cs ns) ≡ length cs
+unfolding positionsIn
+length-positions h r [] ns e = refl
+length-positions h r (c ∷ cs) [] e = absurd (omega arith)
+length-positions h r (c ∷ cs) (n ∷ ns) e = ap suc (length-positions (h / 2) (r / 2) cs ns (suc-inj e))
+
+pub positions-at : (h r : ℕ) (cs ns : List ℕ) → length cs ≡ length ns → (i : ℕ) → i < length cs
+    → getD (positionsIn h r cs ns) i nullPosition ≡ positionOf (bitOf h i) (bitOf r i) (getD cs i 0) (getD ns i 0)
+unfolding positionsIn
+positions-at h r [] ns e i l = absurd (not-suc-le-zero l)
+positions-at h r (c ∷ cs) [] e i l = absurd (omega arith)
+positions-at h r (c ∷ cs) (n ∷ ns) e zero l = ap₂ (λ (a b : ℕ). positionOf a b c n) (sym (bit-zero h)) (sym (bit-zero r))
+positions-at h r (c ∷ cs) (n ∷ ns) e (suc i) l =
+    positions-at (h / 2) (r / 2) cs ns (suc-inj e) i (le-of-suc-le-suc l)
+    ∙ ap₂ (λ (a b : ℕ). positionOf a b (getD cs i 0) (getD ns i 0)) (half-bit h i) (half-bit r i)
+
+-- ---- segmentIn, of 19 words
+
+module _ (row : List ℕ) (l : length row ≡ 19) where
+  pub cells-long : length (take 8 (drop 3 row)) ≡ 8
+  cells-long = length-take-le 8 (drop 3 row) (omega (arith, length-drop 3 row))
+
+  pub counts-long : length (take 8 (drop 11 row)) ≡ 8
+  counts-long = length-take-le 8 (drop 11 row) (omega (arith, length-drop 11 row))
+
+  pub segment-long : length (segmentIn 8 row) ≡ 8
+  unfolding segmentIn
+  segment-long = length-positions _ _ (take 8 (drop 3 row)) (take 8 (drop 11 row)) (cells-long ∙ sym counts-long) ∙ cells-long
+
+  pub segment-at : (i : ℕ) → i < 8
+      → getD (segmentIn 8 row) i nullPosition ≡ positionOf (bitOf (getD row 0 0) i) (bitOf (getD row 1 0) i) (getD row (3 + i) 0) (getD row (11 + i) 0)
+  unfolding segmentIn
+  segment-at i h =
+      positions-at _ _ (take 8 (drop 3 row)) (take 8 (drop 11 row)) (cells-long ∙ sym counts-long) i (rw cells-long h)
+      ∙ ap₂ (positionOf (bitOf (getD row 0 0) i) (bitOf (getD row 1 0) i))
+      (getD-take 8 (drop 3 row) i 0 h ∙ getD-drop 3 row i 0) (getD-take 8 (drop 11 row) i 0 h ∙ getD-drop 11 row i 0)
+
+  pub segment-past : (i : ℕ) → 8 ≤ i → getD (segmentIn 8 row) i nullPosition ≡ nullPosition
+  segment-past i h = List·getD-eq-default (segmentIn 8 row) nullPosition {n = i} (omega (arith, segment-long))

@@ -1,0 +1,62 @@
+-- When words are in order, word by word, as the checks read them.
+use Prim.Native.Nat.{ℕ, _+_, _*_, _/_, _%_, _^_, _≤_, _<_}
+use mathlib.Core.Bool.{true}
+use mathlib.Core.Path.{_≡_}
+use mathlib.Core.List.{List}
+use lib.ListN.{length, getD, take, drop}
+use Rattle.lists.specs.Lists.{allZero}
+use Rattle.lists.specs.Each.{Each}
+use Rattle.model.specs.Measures.{partsFor, recordsAt}
+use Rattle.model.specs.Table.{pointerWord, wordToPointer}
+
+-- the word is that of the pointer it is read as
+abbrev pub PointerSays : ℕ → Type 0
+PointerSays w = pointerWord (wordToPointer w) ≡ w
+
+-- a slot of 3 + `b` words, in use: a length in range, its pointers, and zeros behind them
+pub record SlotForm (b : ℕ) (row : List ℕ) : Type 0 where
+  pub some : 1 ≤ getD row 1 0
+  pub most : getD row 1 0 ≤ 64 * b
+  pub third : getD row 2 0 ≡ 0
+  pub pointers : Each PointerSays (take (partsFor 64 (getD row 1 0)) (drop 3 row))
+  pub rest : allZero (drop (3 + partsFor 64 (getD row 1 0)) row) ≡ true
+
+-- bit `i` of a mask
+abbrev pub bitOf : ℕ → ℕ → ℕ
+bitOf m i = m / 2 ^ i % 2
+
+-- position `i` of a record's 19 words: not both held and removed; the cell and the count of one that is not held are zero
+pub record PositionForm (row : List ℕ) (i : ℕ) : Type 0 where
+  pub one : bitOf (getD row 0 0) i ≡ 1 → bitOf (getD row 1 0) i ≡ 0
+  pub cell : bitOf (getD row 0 0) i ≡ 0 → getD row (3 + i) 0 ≡ 0
+  pub count : bitOf (getD row 0 0) i ≡ 0 → getD row (11 + i) 0 ≡ 0
+
+-- a record's 19 words; in use, the record holds a position
+pub record RecordForm (row : List ℕ) : Type 0 where
+  pub helds : getD row 0 0 < 256
+  pub removeds : getD row 1 0 < 256
+  pub third : getD row 2 0 ≡ 0
+  pub positions : (i : ℕ) → i < 8 → PositionForm row i
+  pub used : getD row 0 0 ≡ 0 → getD row 1 0 ≡ 0
+
+-- the capacities are in range
+pub record Ranges (ws : List ℕ) : Type 0 where
+  pub someTills : 1 ≤ getD ws 0 0
+  pub tills : getD ws 0 0 ≤ 16
+  pub someVersions : 1 ≤ getD ws 1 0
+  pub versions : getD ws 1 0 ≤ 64
+  pub someBlocks : 1 ≤ getD ws 2 0
+  pub blocks : getD ws 2 0 ≤ 1024
+  pub someRecords : 1 ≤ getD ws 3 0
+  pub records : getD ws 3 0 ≤ 4096
+  pub someCells : 1 ≤ getD ws 4 0
+  pub cells : getD ws 4 0 ≤ 32768
+
+pub record Lengths (pool ws : List ℕ) : Type 0 where
+  pub bytes : length pool ≡ getD ws 4 0 * 64
+  pub words : length ws ≡ recordsAt (getD ws 0 0) (getD ws 1 0) (getD ws 2 0) + getD ws 3 0 * 19
+
+pub record Header (pool ws : List ℕ) : Type 0 where
+  pub ranges : Ranges ws
+  pub lengths : Lengths pool ws
+  pub zeros : allZero (take 3 (drop 5 ws)) ≡ true

@@ -1,0 +1,223 @@
+// Whether the words of a header, a slot, a record and a pointer are in order. Each check's contract says exactly when it is true.
+ghost use mathlib.Core.Bool.{true, false};
+ghost use mathlib.Core.Path.{_≡_};
+ghost use Prim.Native.Nat.{ℕ, _+_, _*_, _/_, _%_, _≤_, _<_};
+ghost use lib.ListN.{length};
+ghost use Rattle.lists.specs.Tells.{Tells};
+ghost use Rattle.lists.specs.Lists.{allZero};
+ghost use Rattle.lists.specs.Rows.{chunks};
+ghost use Rattle.lists.specs.Each.{Each};
+ghost use Rattle.audit_words.specs.Words.{bitOf, PointerSays, SlotForm, PositionForm, RecordForm, Ranges, Lengths, Header};
+
+// Whether a word says a pointer.
+fn pointer_form(w: u32) -> bool
+    ensures { λ r. ⌜ Tells r (PointerSays w) ⌝ }
+{
+    let kind = w / 0x100_0000;
+    if kind == 1 {
+        return true;
+    }
+    if kind == 2 {
+        return true;
+    }
+    w == 0
+}
+
+// Whether each word says a pointer.
+fn pointers_form(words: &[u32]) -> bool
+    ensures { λ r. ⌜ Tells r (Each PointerSays (now (words .entry))) ⌝ }
+{
+    let mut i: usize = 0;
+    while i < words.len() {
+        if !pointer_form(words[i]) {
+            return false;
+        }
+        i += 1;
+    }
+    true
+}
+
+// Whether all words are zero.
+pub fn zeros(words: &[u32]) -> bool
+    ensures { λ r. ⌜ r ≡ allZero (now (words .entry)) ⌝ }
+{
+    let mut i: usize = 0;
+    while i < words.len() {
+        if words[i] != 0 {
+            return false;
+        }
+        i += 1;
+    }
+    true
+}
+
+// Whether a slot in use has a version's words.
+pub fn slot_form(row: &[u32], blocks: usize) -> bool
+    requires { ⌜ (blocks ≤ 1024) × (length (now row) ≡ 3 + blocks) ⌝ }
+    ensures { λ r. ⌜ Tells r (SlotForm blocks (now (row .entry))) ⌝ }
+{
+    let bytes = row[1] as usize;
+    if bytes < 1 {
+        return false;
+    }
+    if 64 * blocks < bytes {
+        return false;
+    }
+    if row[2] != 0 {
+        return false;
+    }
+    let end = 3 + (bytes + 63) / 64;
+    if !pointers_form(&row[3..end]) {
+        return false;
+    }
+    zeros(&row[end..])
+}
+
+// A bit of a mask.
+pub fn bit(m: u32, i: usize) -> u32
+    requires { ⌜ i < 32 ⌝ }
+    ensures { λ r. ⌜ r ≡ bitOf m i ⌝ }
+{
+    (m >> i) % 2
+}
+
+// Whether a position's words are in order.
+fn position_form(row: &[u32], i: usize) -> bool
+    requires { ⌜ (i < 8) × (length (now row) ≡ 19) ⌝ }
+    ensures { λ r. ⌜ Tells r (PositionForm (now (row .entry)) i) ⌝ }
+{
+    if bit(row[0], i) == 1 {
+        return bit(row[1], i) == 0;
+    }
+    if row[3 + i] != 0 {
+        return false;
+    }
+    row[11 + i] == 0
+}
+
+// Whether the words of all positions are.
+fn positions_form(row: &[u32]) -> bool
+    requires { ⌜ length (now row) ≡ 19 ⌝ }
+    ensures { λ r. ⌜ Tells r ((i : ℕ) → i < 8 → PositionForm (now (row .entry)) i) ⌝ }
+{
+    let mut i: usize = 0;
+    while i < 8 {
+        if !position_form(row, i) {
+            return false;
+        }
+        i += 1;
+    }
+    true
+}
+
+// Whether a record that holds no position has none removed.
+fn in_use(helds: u32, removeds: u32) -> bool
+    ensures { λ r. ⌜ Tells r (helds ≡ 0 → removeds ≡ 0) ⌝ }
+{
+    if helds == 0 {
+        return removeds == 0;
+    }
+    true
+}
+
+// Whether a record's words are in order.
+fn record_form(row: &[u32]) -> bool
+    requires { ⌜ length (now row) ≡ 19 ⌝ }
+    ensures { λ r. ⌜ Tells r (RecordForm (now (row .entry))) ⌝ }
+{
+    let helds = row[0];
+    let removeds = row[1];
+    if 255 < helds {
+        return false;
+    }
+    if 255 < removeds {
+        return false;
+    }
+    if row[2] != 0 {
+        return false;
+    }
+    if !in_use(helds, removeds) {
+        return false;
+    }
+    positions_form(row)
+}
+
+// Whether the words of all records are.
+pub fn records_form(records: &[u32]) -> bool
+    ensures { λ r. ⌜ Tells r (Each RecordForm (chunks 19 (now (records .entry)))) ⌝ }
+{
+    let n = records.len() / 19;
+    let mut k: usize = 0;
+    while k < n {
+        let at = k * 19;
+        let end = at + 19;
+        if !record_form(&records[at..end]) {
+            return false;
+        }
+        k += 1;
+    }
+    true
+}
+
+// Whether a number lies between two others.
+fn within(low: u32, high: u32, n: u32) -> bool
+    ensures { λ r. ⌜ Tells r ((low ≤ n) × (n ≤ high)) ⌝ }
+{
+    if n < low {
+        return false;
+    }
+    n <= high
+}
+
+// Whether the capacities are in range.
+fn ranges(table: &[u32]) -> bool
+    requires { ⌜ 8 ≤ length (now table) ⌝ }
+    ensures { λ r. ⌜ Tells r (Ranges (now (table .entry))) ⌝ }
+{
+    if !within(1, 16, table[0]) {
+        return false;
+    }
+    if !within(1, 64, table[1]) {
+        return false;
+    }
+    if !within(1, 1024, table[2]) {
+        return false;
+    }
+    if !within(1, 4096, table[3]) {
+        return false;
+    }
+    within(1, 32768, table[4])
+}
+
+// Whether the lengths are those of the capacities.
+fn lengths(pool: &[u8], table: &[u32]) -> bool
+    requires { ⌜ (8 ≤ length (now table)) × Ranges (now table) ⌝ }
+    ensures { λ r. ⌜ Tells r (Lengths (now (pool .entry)) (now (table .entry))) ⌝ }
+{
+    let tills = table[0] as usize;
+    let versions = table[1] as usize;
+    let blocks = table[2] as usize;
+    let records = table[3] as usize;
+    let cells = table[4] as usize;
+    if pool.len() != cells * 64 {
+        return false;
+    }
+    let width = 4 + versions * (3 + blocks);
+    table.len() == 8 + tills * width + records * 19
+}
+
+// Whether header and lengths are those of a store.
+pub fn header(pool: &[u8], table: &[u32]) -> bool
+    ensures { λ r. ⌜ Tells r (Header (now (pool .entry)) (now (table .entry))) ⌝ }
+{
+    if table.len() < 8 {
+        return false;
+    }
+    if !ranges(table) {
+        return false;
+    }
+    if !zeros(&table[5..8]) {
+        return false;
+    }
+    lengths(pool, table)
+}

@@ -1,0 +1,49 @@
+// The calls, on lent buffers. No call has a premise: what is no sound store is refused with 10.
+ghost use mathlib.Core.Path.{_≡_};
+ghost use Rattle.model.specs.Calls.{tableLengthOf, layoutOf, listingOf, restoreOf};
+ghost use Rattle.layout.specs.Layout.{capacities, lengthAnswer, layoutAnswer};
+ghost use Rattle.tills.specs.Answers.{listingAnswer};
+ghost use Rattle.restore.specs.Answers.{restoreAnswer};
+use layout::Capacities;
+use layout::TableLength;
+use restore::Restored;
+use tills::Listing;
+
+pub fn table_length(c: Capacities) -> TableLength
+    ensures { λ r. ⌜ lengthAnswer r ≡ tableLengthOf (capacities c) ⌝ }
+{
+    layout::table_length(c)
+}
+
+pub fn lay_out(pool: &mut [u8], table: &mut [u32], c: Capacities) -> u32
+    ensures { λ r. ⌜ layoutAnswer r (now (pool .exit)) (now (table .exit)) ≡ layoutOf (capacities c) (now (pool .entry)) (now (table .entry)) ⌝ }
+{
+    layout::lay_out(pool, table, c)
+}
+
+pub fn restore(pool: &[u8], table: &[u32], till: u32, version: u32, output: &mut [u8]) -> Restored
+    ensures { λ r. ⌜ restoreAnswer r (now (output .exit)) ≡ restoreOf (now (pool .entry)) (now (table .entry)) till version (now (output .entry)) ⌝ }
+{
+    if !audit::sound(pool, table) {
+        return Restored {
+            refusal: 10,
+            length: 0,
+            hops: 0,
+        };
+    }
+    restore::restore_version(pool, table, till, version, output)
+}
+
+pub fn listing(pool: &[u8], table: &[u32], till: u32) -> Listing
+    ensures { λ r. ⌜ listingAnswer r ≡ listingOf (now (pool .entry)) (now (table .entry)) till ⌝ }
+{
+    if !audit::sound(pool, table) {
+        return Listing {
+            refusal: 10,
+            oldest: 0,
+            newest: 0,
+            last: 0,
+        };
+    }
+    tills::list_till(pool, table, till)
+}
