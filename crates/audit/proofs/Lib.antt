@@ -1,4 +1,3 @@
-pub mod Extra
 pub mod Slots
 pub mod Tills
 pub mod Ranges

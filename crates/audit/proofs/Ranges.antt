@@ -9,7 +9,7 @@ use Rattle.lists.proofs.Tests.{clause, all-true}
 use Rattle.model.specs.Measures.{isWithin, inRange, tableWords, poolBytes}
 use Rattle.model.specs.Table.{shapeOf}
 use Rattle.model.specs.Sound.{hasLengths}
-use Rattle.audit_words.specs.Words.{Ranges, Lengths}
+use Rattle.audit_header.specs.Header.{Ranges, Lengths}
 
 within-of : (l h n : ℕ) → l ≤ n → n ≤ h → isWithin l h n ≡ true
 unfolding isWithin

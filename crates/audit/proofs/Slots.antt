@@ -16,7 +16,7 @@ use Rattle.model.specs.Measures.{isWithin, partsFor}
 use Rattle.model.specs.Table.{pointerWord, wordToPointer, versionIn, versionToWords}
 use Rattle.model.specs.Sound.{hasLength}
 use Rattle.audit_words.specs.Words.{SlotForm}
-use Rattle.audit.proofs.Extra.{fill-back, back-fill, fill-front, map-fixed}
+use Rattle.lists.proofs.Filled.{fill-back, back-fill, fill-front, map-fixed}
 
 module _ (b : ℕ) (row : List ℕ) (l : length row ≡ 3 + b) where
   abbrev blocks : ℕ

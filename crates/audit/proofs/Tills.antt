@@ -29,7 +29,7 @@ use Rattle.audit_words.proofs.Pointers.{read-direct, read-indirect, read-other}
 use Rattle.audit_pointers.proofs.Slots.{pointers-count}
 use Rattle.audit_counts.proofs.Pointers.{SmallVersion, SmallTill}
 use Rattle.audit_tills.specs.Says.{SlotSays, TillSays}
-use Rattle.audit.proofs.Extra.{fill-back, back-fill, fill-front, rows-fixed}
+use Rattle.lists.proofs.Filled.{fill-back, back-fill, fill-front, rows-fixed}
 use Rattle.audit.proofs.Slots.{form-same, form-length, length-at, same-form}
 
 -- ---- slots, one after the other

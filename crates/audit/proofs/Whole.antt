@@ -9,7 +9,7 @@ use borrow.Author.Tests.{eq-eqb}
 use lib.Dec.{eqb, lit<}
 use lib.ListN.{length, getD, take, drop, length-drop, length-map, take-append-drop}
 use lib.Seq.{take-at, drop-at, drop-drop, take-all, length-take-le}
-use Rattle.lists.specs.Lists.{every, allZero, count, sameNumbers}
+use Rattle.lists.specs.Lists.{every, allZero, count, sameNumbers, isSome}
 use Rattle.lists.specs.Rows.{rows, parts, chunks}
 use Rattle.lists.specs.Each.{Each}
 use Rattle.lists.specs.Tells.{Tells}
@@ -25,8 +25,9 @@ use Rattle.model.specs.State.{Block, Shelf, State, Segment}
 use Rattle.model.specs.Table.{shapeOf, headerToWords, recordToWords, tillToWords, stateToWords, segmentIn, recordsIn, cellsIn, shelfIn, tillIn, tillsIn, tillsPart, recordsPart, stateIn}
 use Rattle.model.specs.Sound.{isShaped, isUsed, isTill, leadsTo, allPointers, allCounted, isSound, ifSound, hasLengths, storeAs, storeOf}
 use Rattle.laws.proofs.RoundTrip.{length-till, length-record}
-use Rattle.audit_words.specs.Words.{RecordForm, Ranges, Lengths, Header}
-use Rattle.audit_words.proofs.Extra.{every-map}
+use Rattle.audit_words.specs.Words.{RecordForm}
+use Rattle.audit_header.specs.Header.{Ranges, Lengths, Header}
+use Rattle.lists.proofs.Answers.{every-map}
 use Rattle.audit_words.proofs.Positions.{segment-long}
 use Rattle.audit_words.proofs.Records.{RecordSays, record-says, says-record}
 use Rattle.audit_cells.specs.Cells.{CellsSay}
@@ -34,8 +35,8 @@ use Rattle.audit_counts.specs.Counters.{pointersTo}
 use Rattle.audit_counts.proofs.Pointers.{SmallTill, tills-count}
 use Rattle.audit_counts.proofs.Counts.{counts-sound, sound-counts}
 use Rattle.audit_tills.specs.Says.{TillSays}
-use Rattle.audit.specs.Good.{isSome, Body}
-use Rattle.audit.proofs.Extra.{rows-fixed, parts-wide, with-long}
+use Rattle.audit.specs.Good.{Body}
+use Rattle.lists.proofs.Filled.{rows-fixed, parts-wide, with-long}
 use Rattle.audit.proofs.Ranges.{range-of, lengths-of, lengths-at}
 use Rattle.audit.proofs.Tills.{TillFine, till-fine, fine-till, till-small}
 

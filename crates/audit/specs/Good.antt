@@ -1,8 +1,6 @@
 -- What the whole check tells, part by part.
 use Prim.Native.Nat.{ℕ, _*_, _<_}
-use mathlib.Core.Bool.{Bool, true, false}
 use mathlib.Core.List.{List}
-use mathlib.Core.Option.{Option, none, some}
 use lib.ListN.{take, drop}
 use Rattle.lists.specs.Rows.{chunks}
 use Rattle.lists.specs.Each.{Each}
@@ -12,10 +10,6 @@ use Rattle.audit_words.specs.Words.{RecordForm}
 use Rattle.audit_cells.specs.Cells.{CellsSay}
 use Rattle.audit_counts.specs.Counters.{CountsSay}
 use Rattle.audit_tills.specs.Says.{TillSays}
-
-unfoldable pub isSome {ℓ} : {A : Type ℓ} → Option A → Bool
-isSome none = false
-isSome (some x) = true
 
 -- the words of `count` tills of `v` versions of `b` blocks, and those of the records
 pub record Body (pool tills records : List ℕ) (count v b : ℕ) : Type 0 where

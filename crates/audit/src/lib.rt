@@ -3,12 +3,13 @@ ghost use mathlib.Core.Bool.{false};
 ghost use mathlib.Core.Path.{_≡_};
 ghost use Prim.Native.Nat.{_+_, _*_, _≤_};
 ghost use lib.ListN.{length, getD};
+ghost use Rattle.lists.specs.Lists.{isSome};
 ghost use Rattle.lists.specs.Tells.{Tells};
 ghost use Rattle.model.specs.Measures.{tillWords, recordsAt};
 ghost use Rattle.model.specs.Table.{shapeOf, tillsPart, recordsPart};
 ghost use Rattle.model.specs.Sound.{storeOf};
-ghost use Rattle.audit_words.specs.Words.{Header};
-ghost use Rattle.audit.specs.Good.{isSome, Body};
+ghost use Rattle.audit_header.specs.Header.{Header};
+ghost use Rattle.audit.specs.Good.{Body};
 
 // Whether the tills' and the records' words and the pool's bytes are those of a sound store.
 fn parts_good(
@@ -66,7 +67,7 @@ fn body_good(pool: &[u8], table: &[u32]) -> bool
 pub fn sound(pool: &[u8], table: &[u32]) -> bool
     ensures { λ r. ⌜ r ≡ isSome (storeOf (now (pool .entry)) (now (table .entry))) ⌝ }
 {
-    if !audit_words::header(pool, table) {
+    if !audit_header::header(pool, table) {
         return false;
     }
     body_good(pool, table)

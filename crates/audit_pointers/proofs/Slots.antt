@@ -16,7 +16,7 @@ use Rattle.model.specs.Measures.{partsFor}
 use Rattle.model.specs.State.{Pointer, nullPointer}
 use Rattle.model.specs.Table.{kindUnit, wordToPointer, pointerOf, versionIn, versionsIn}
 use Rattle.model.specs.Trace.{endVia, endOf}
-use Rattle.audit_words.proofs.Extra.{take-length}
+use Rattle.lists.proofs.Answers.{take-length}
 use Rattle.audit_words.proofs.Pointers.{read-direct, read-indirect, read-other}
 
 -- ---- a slot's pointers

@@ -11,7 +11,7 @@ use lib.ListN.{length, getD, take, drop, drop-of-length-le, length-take, List·g
 use lib.Seq.{drop-drop, drop-nil, getD-take, length-take-le}
 use Rattle.lists.specs.Lists.{every, allZero}
 use Rattle.lists.proofs.Same.{zeros-zero}
-use Rattle.lists.proofs.Slices.{drop-same}
+use Rattle.lists.proofs.Slices.{drop-same, drop-take}
 use Rattle.lists.proofs.Cuts.{length-chunks, chunk-at}
 use Rattle.model.specs.Measures.{baseMeasures}
 use Rattle.model.specs.State.{Shelf, Version}
@@ -20,7 +20,6 @@ use Rattle.model.specs.Records.{cellOf, cellAt, positionAt}
 use Rattle.model.specs.Table.{kindUnit, wordToPointer, cellsIn, shelfIn, versionIn, versionsIn}
 use Rattle.model.specs.Trace.{endOf, blockAt, tracedBlock}
 use Rattle.model.specs.Sound.{endsZero}
-use Rattle.audit_words.proofs.Extra.{drop-take}
 use Rattle.audit_words.proofs.Pointers.{read-direct, read-indirect, read-other}
 use Rattle.audit_pointers.proofs.Slots.{versions-cons}
 

@@ -8,12 +8,12 @@ use native.Mathlib.Omega.{arith}
 use lib.Arith.{digits-lt}
 use lib.ListN.{length, take, drop, length-drop}
 use lib.Seq.{take-take, drop-drop}
-use Rattle.lists.proofs.Slices.{tail-all}
+use Rattle.lists.proofs.Slices.{tail-all, drop-take}
 use Rattle.lists.specs.Lists.{every}
 use Rattle.model.specs.Measures.{baseMeasures}
 use Rattle.model.specs.Table.{wordToPointer, shelfIn, versionIn, versionsIn}
 use Rattle.model.specs.Sound.{leads, nextPointers}
-use Rattle.audit_words.proofs.Extra.{part-is, drop-take}
+use Rattle.lists.proofs.Answers.{part-is}
 use Rattle.audit_pointers.proofs.Slots.{pointers-are, versions-cons, versions-end}
 use Rattle.audit_tails.proofs.Blocks.{first-slot}
 

@@ -1,4 +1,3 @@
-pub mod Extra
 pub mod Pointers
 pub mod Positions
 pub mod Records

@@ -1,4 +1,4 @@
-// Whether the words of a header, a slot, a record and a pointer are in order. Each check's contract says exactly when it is true.
+// Whether the words of a slot, a record and a pointer are in order. Each check's contract says exactly when it is true.
 ghost use mathlib.Core.Bool.{true, false};
 ghost use mathlib.Core.Path.{_≡_};
 ghost use Prim.Native.Nat.{ℕ, _+_, _*_, _/_, _%_, _≤_, _<_};
@@ -7,7 +7,7 @@ ghost use Rattle.lists.specs.Tells.{Tells};
 ghost use Rattle.lists.specs.Lists.{allZero};
 ghost use Rattle.lists.specs.Rows.{chunks};
 ghost use Rattle.lists.specs.Each.{Each};
-ghost use Rattle.audit_words.specs.Words.{bitOf, PointerSays, SlotForm, PositionForm, RecordForm, Ranges, Lengths, Header};
+ghost use Rattle.audit_words.specs.Words.{bitOf, PointerSays, SlotForm, PositionForm, RecordForm};
 
 // Whether a word says a pointer.
 fn pointer_form(w: u32) -> bool
@@ -157,67 +157,4 @@ pub fn records_form(records: &[u32]) -> bool
         k += 1;
     }
     true
-}
-
-// Whether a number lies between two others.
-fn within(low: u32, high: u32, n: u32) -> bool
-    ensures { λ r. ⌜ Tells r ((low ≤ n) × (n ≤ high)) ⌝ }
-{
-    if n < low {
-        return false;
-    }
-    n <= high
-}
-
-// Whether the capacities are in range.
-fn ranges(table: &[u32]) -> bool
-    requires { ⌜ 8 ≤ length (now table) ⌝ }
-    ensures { λ r. ⌜ Tells r (Ranges (now (table .entry))) ⌝ }
-{
-    if !within(1, 16, table[0]) {
-        return false;
-    }
-    if !within(1, 64, table[1]) {
-        return false;
-    }
-    if !within(1, 1024, table[2]) {
-        return false;
-    }
-    if !within(1, 4096, table[3]) {
-        return false;
-    }
-    within(1, 32768, table[4])
-}
-
-// Whether the lengths are those of the capacities.
-fn lengths(pool: &[u8], table: &[u32]) -> bool
-    requires { ⌜ (8 ≤ length (now table)) × Ranges (now table) ⌝ }
-    ensures { λ r. ⌜ Tells r (Lengths (now (pool .entry)) (now (table .entry))) ⌝ }
-{
-    let tills = table[0] as usize;
-    let versions = table[1] as usize;
-    let blocks = table[2] as usize;
-    let records = table[3] as usize;
-    let cells = table[4] as usize;
-    if pool.len() != cells * 64 {
-        return false;
-    }
-    let width = 4 + versions * (3 + blocks);
-    table.len() == 8 + tills * width + records * 19
-}
-
-// Whether header and lengths are those of a store.
-pub fn header(pool: &[u8], table: &[u32]) -> bool
-    ensures { λ r. ⌜ Tells r (Header (now (pool .entry)) (now (table .entry))) ⌝ }
-{
-    if table.len() < 8 {
-        return false;
-    }
-    if !ranges(table) {
-        return false;
-    }
-    if !zeros(&table[5..8]) {
-        return false;
-    }
-    lengths(pool, table)
 }

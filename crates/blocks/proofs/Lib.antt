@@ -1,4 +1,3 @@
 -- Laws that the proofs of the functions use.
-pub mod Extra
 pub mod Pieces
 pub mod Parts

@@ -12,7 +12,7 @@ use Rattle.lists.specs.Rows.{fill}
 use Rattle.lists.proofs.Slices.{drop-end, tail-all, tail-put, cut-small, cut-is}
 use Rattle.lists.proofs.Rows.{fill-split, fill-zeros, zero-fill}
 use Rattle.model.specs.Image.{blockFrom}
-use Rattle.blocks.proofs.Extra.{same-append}
+use Rattle.lists.proofs.Appends.{same-append}
 
 -- the whole, whose n elements from a on were filled
 pub filled-part : (a n v : ℕ) (xs ys : List ℕ) → a + n ≤ length xs → ys ≡ replicate (length (midOf a ((a + n) - a) xs)) v

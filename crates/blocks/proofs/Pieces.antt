@@ -11,7 +11,7 @@ use lib.ListN.{length, getD, take, drop, length-take, length-drop, take-append-d
 use lib.Seq.{take-suc, drop-cons, getD-drop, length-take-le, drop-drop}
 use Rattle.lists.specs.Lists.{every, allZero, sameNumbers}
 use Rattle.lists.proofs.Slices.{drop-next, take-next}
-use Rattle.blocks.proofs.Extra.{zero-append, same-append}
+use Rattle.lists.proofs.Appends.{zero-append, same-append}
 
 -- ---- a count that is 0 just where a test holds so far
 

@@ -1,4 +1,3 @@
-pub mod Extra
 pub mod Walks
 pub mod Frees
 pub mod Removes

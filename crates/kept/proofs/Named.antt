@@ -135,9 +135,6 @@ module _ (words : List ℕ) (k : ℕ) (h : k < length words / 19) (r : Record) (
   hk : k < length (recordsIn 8 words)
   hk = omega (arith, records-count words)
 
-  pub marked-room : k * 19 + 19 ≤ length words
-  marked-room = omega arith
-
   pub marking-next : (os₀ : List Bool) (n : ℕ) (os : List Bool) → RecordsTold words (recordsIn 8 words) → Marking words os₀ n os k
       → (os′ : List Bool) → length os′ ≡ length os → os′ ≡ along markAt (r .held) 0 (r .cells) os → Marking words os₀ n os′ (k + 1)
   unfolding recordOf

@@ -21,7 +21,7 @@ use Rattle.model.specs.State.{Block, Position, nullPosition, held, removed, Seg
 use Rattle.model.specs.Sweep.{goes, stays, clearCells}
 use Rattle.pool.specs.Pool.{copyTo, clearAt, takeAt, freeAt, choose, along}
 use Rattle.kept.specs.Kept.{filled}
-use Rattle.kept.proofs.Extra.{row-joined, paste-joined}
+use Rattle.lists.proofs.Joins.{row-joined, paste-joined}
 
 -- the cells of the positions that pass a test
 unfoldable pub picked : (Position → Bool) → Segment → List ℕ

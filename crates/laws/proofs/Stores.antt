@@ -9,7 +9,7 @@ use native.Mathlib.Omega.{arith}
 use lib.ListN.{length, getD, set, take, drop, length-append, length-take}
 use lib.Dec.{lit<, lit≤}
 use borrow.Author.Tests.{leb-true}
-use Rattle.lists.specs.Lists.{allOf, sameNumbers}
+use Rattle.lists.specs.Lists.{allOf, sameNumbers, isSome}
 use Rattle.lists.specs.Rows.{rows}
 use Rattle.lists.proofs.Tests.{clause}
 use Rattle.lists.proofs.Rows.{wide-all, length-rows}
@@ -117,11 +117,6 @@ pub record Header (table : List ℕ) : Type 0 where
   pub records : getD table 3 0 ≤ 4096
   pub cells : getD table 4 0 ≤ 32768
 
--- whether there is a store
-unfoldable pub isStore : Option Store → Bool
-isStore none = false
-isStore (some x) = true
-
 module _ (pool table : List ℕ) where
   read-or-none : storeOf pool table ≡ none ⊎ storeOf pool table ≡ some (storeRead pool table)
   unfolding storeOf storeAs ifSound
@@ -132,21 +127,21 @@ module _ (pool table : List ℕ) where
       go true false = inl refl
       go false b = inl refl
 
-  pub sound-if : true ≡ isStore (storeOf pool table) → Sound pool table
-  unfolding isStore
+  pub sound-if : true ≡ isSome (storeOf pool table) → Sound pool table
+  unfolding isSome
   sound-if h = go read-or-none
     where
       go : storeOf pool table ≡ none ⊎ storeOf pool table ≡ some (storeRead pool table) → Sound pool table
-      go (inl e) = absurd (false≢true (sym (h ∙ ap isStore e)))
+      go (inl e) = absurd (false≢true (sym (h ∙ ap isSome e)))
       go (inr e) = record { is = e }
 
-  pub none-if : false ≡ isStore (storeOf pool table) → storeOf pool table ≡ none
-  unfolding isStore
+  pub none-if : false ≡ isSome (storeOf pool table) → storeOf pool table ≡ none
+  unfolding isSome
   none-if h = go read-or-none
     where
       go : storeOf pool table ≡ none ⊎ storeOf pool table ≡ some (storeRead pool table) → storeOf pool table ≡ none
       go (inl e) = e
-      go (inr e) = absurd (false≢true (h ∙ ap isStore e))
+      go (inr e) = absurd (false≢true (h ∙ ap isSome e))
 
 module _ {pool table : List ℕ} (h : Sound pool table) where
   pub found : Found pool table (storeRead pool table)

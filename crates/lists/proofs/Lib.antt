@@ -18,3 +18,10 @@ pub mod Masks
 pub mod Walks
 pub mod Marks
 pub mod Checkers
+pub mod Filled
+pub mod Answers
+pub mod Appends
+pub mod Joins
+pub mod Puts
+pub mod Written
+pub mod Maps

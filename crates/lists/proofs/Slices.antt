@@ -3,11 +3,11 @@ use mathlib.Core.Path.{_≡_, refl, sym, ap, _∙_}
 use mathlib.Core.Bool.{Bool, true, false}
 use mathlib.Core.List.{List, [], _∷_, _++_, append-nil}
 use Prim.Native.Nat.{ℕ, zero, suc, zero-le, min, _+_, _-_, _≤_, _<_}
-use native.Mathlib.Nat.{sub-zero}
+use native.Mathlib.Nat.{sub-zero, suc-sub-suc}
 use native.Mathlib.Numerals.{add-one}
 use native.Mathlib.Omega.{arith}
 use lib.ListN.{length, getD, take, drop, replicate, length-drop, drop-of-length-le}
-use lib.Seq.{drop-cons, drop-nil, drop-length, take-all, take-suc, take-at, drop-at, length-take-le}
+use lib.Seq.{drop-cons, drop-nil, drop-length, take-all, take-suc, take-nil, take-at, drop-at, length-take-le}
 use lib.Dec.{leb, eqb}
 use borrow.Author.Tests.{leb-true, leb-false, eq-eqb, ne-eqb}
 use Rattle.lists.specs.Lists.{every, allZero}
@@ -51,6 +51,20 @@ module _ (l : List ℕ) (i : ℕ) (h : i < length l) where
   pub zero-not : (getD l i 0 ≡ 0 → ⊥) → allZero (drop i l) ≡ false
   unfolding allZero
   zero-not e = every-stop (λ x. eqb x 0) l i 0 h (ne-eqb (getD l i 0) 0 e)
+
+-- ---- a part of a part, and of equal elements
+
+module _ {ℓ} {A : Type ℓ} where
+  pub drop-take : (j n : ℕ) (l : List A) → drop j (take n l) ≡ take (n - j) (drop j l)
+  drop-take zero n l = rw sub-zero
+  drop-take (suc j) zero l = let e : 0 - suc j ≡ 0 = omega arith in rw e
+  drop-take (suc j) (suc n) [] = sym (take-nil (suc n - suc j))
+  drop-take (suc j) (suc n) (x ∷ l) = rw suc-sub-suc (drop-take j n l)
+
+  pub take-replicate : (m n : ℕ) (v : A) → m ≤ n → take m (replicate n v) ≡ replicate m v
+  take-replicate zero n v h = refl
+  take-replicate (suc m) zero v h = absurd (omega arith)
+  take-replicate (suc m) (suc n) v h = ap (λ (l : List A). v ∷ l) (take-replicate m n v (omega arith))
 
 -- ---- a part that was lent and has come back
 

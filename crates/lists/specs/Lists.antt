@@ -28,6 +28,10 @@ module _ {ℓ} {A : Type ℓ} where
   total f [] = 0
   total f (x ∷ xs) = f x + total f xs
 
+  unfoldable pub isSome : Option A → Bool
+  isSome none = false
+  isSome (some x) = true
+
   -- the place of the first that passes the test, where the list's first place is numbered `i`
   unfoldable pub firstFrom : (A → Bool) → ℕ → List A → Option ℕ
   firstFrom f i [] = none

@@ -12,17 +12,18 @@ use Rattle.lists.specs.Lists.{every}
 use Rattle.lists.specs.Rows.{rows, fill, parts, joined}
 use Rattle.lists.proofs.Cuts.{parts-rows}
 use Rattle.lists.proofs.Each.{each-at, each-drop, each-weaken}
-use Rattle.lists.proofs.Rows.{Wide, wide-all, length-rows, fill-split, drop-rows}
+use Rattle.lists.proofs.Rows.{Wide, wide-all, length-rows, fill-split, drop-rows, row-append}
 use Rattle.lists.proofs.Tests.{every-head, every-tail, clause, every-at}
-use Rattle.model.specs.Measures.{partsFor, Capacities, shapeFor}
+use Rattle.model.specs.Measures.{partsFor, Capacities, shapeFor, tillWords, headerWords}
 use Rattle.model.specs.Records.{positionAt}
 use Rattle.model.specs.Sound.{nextPointers, isNull, leads, areTraceable, isSound, isTill}
 use Rattle.model.specs.State.{Shelf, Version, Pointer, nullPointer, direct, indirect, State, Till, Segment}
-use Rattle.model.specs.Table.{versionIn, versionToWords, tillToWords, versionsIn}
+use Rattle.model.specs.Table.{versionIn, versionToWords, tillToWords, versionsIn, stateToWords, headerToWords, recordToWords}
 use Rattle.laws.proofs.Fits.{record-in, held-in, TillFits, VersionFits}
-use Rattle.laws.proofs.RoundTrip.{length-version, version-back}
+use Rattle.laws.proofs.RoundTrip.{length-version, version-back, length-till}
 use Rattle.shelf.specs.Fits.{Fits}
 use Rattle.trace.specs.Versions.{pointersAt, LeadsTo, Traceable, Direct}
+use Rattle.slots.proofs.Slots.{till-long}
 use Rattle.meets.proofs.Shelf.{fits, few-versions, few-blocks, wordsOf, words-length}
 
 none-pointers : versionIn 64 [] .pointers ≡ []
@@ -111,6 +112,21 @@ module _ (c : Capacities) (st : State) (sound : isSound (shapeFor c) st ≡ true
       go [] e k = omega arith
       go (s ∷ segs) e zero = omega (arith, e .0)
       go (s ∷ segs) e (suc k) = go segs (e .1) k
+
+  -- its words among the table's
+  pub till-row : take (tillWords (c .versions) b) (drop (headerWords + t * tillWords (c .versions) b) (stateToWords (shapeFor c) st)) ≡ tillToWords (c .versions) b till
+  unfolding stateToWords headerToWords
+  till-row =
+      ap (take (tillWords (c .versions) b)) (sym (drop-drop (t * tillWords (c .versions) b) 8 (stateToWords (shapeFor c) st)))
+      ∙ row-append (tillToWords (c .versions) b) (tillWords (c .versions) b) noTill (st .tills)
+      (wide-all (tillToWords (c .versions) b) (tillWords (c .versions) b) (length-till (c .versions) b) (st .tills)) (rows recordToWords (st .shelf .records)) t ht
+
+  -- a held version can be dropped from them
+  pub sound-oldest : 0 < length (till .versions)
+      → (7 + b ≤ length (tillToWords (c .versions) b till)) × (0 < getD (tillToWords (c .versions) b till) 1 0) × (b ≤ 1024)
+  sound-oldest h =
+      let (room, some) = till-long (c .versions) b till (tillToWords (c .versions) b till) h (till-fits .most) refl in
+      (room, some, few-blocks c st sound)
 
   -- each pointer of a version names what is there
   pub pointers-fit : (i j : ℕ) → Fits (length (st .shelf .records) * 19) (getD (pointersAt (till .versions) i) j nullPointer)

@@ -28,7 +28,7 @@ use Rattle.place_words.specs.Marks.{marks}
 use Rattle.place_words.specs.Stored.{SegmentFits, Stored, Whole, bytesOf}
 use Rattle.place_words.specs.Words.{RowFits, asOption}
 use Rattle.place_seek.proofs.Free.{free-new, free-same, length-free}
-use Rattle.place_words.proofs.Extra.{first-found}
+use Rattle.lists.proofs.Puts.{first-found}
 use Rattle.place_words.proofs.Reading.{as-none, as-some, length-cells-in}
 use Rattle.place_words.proofs.Rowing.{new-row-is, pointer-words}
 use Rattle.place_words.proofs.Storing.{bytes-back, count-is, pool-back, row-is, seg-cell, table-put, words-back}

@@ -12,6 +12,7 @@ use borrow.Author.Tests.{le-ltb, lt-ltb, ne-eqb}
 use Rattle.lists.specs.Lists.{allZero, every}
 use Rattle.lists.specs.Masks.{maskOf}
 use Rattle.lists.specs.Walk.{placed}
+use Rattle.lists.proofs.Slices.{drop-take}
 use Rattle.lists.proofs.Each.{each-at}
 use Rattle.model.specs.Image.{zeroBlock}
 use Rattle.model.specs.Measures.{baseMeasures}
@@ -76,12 +77,6 @@ less-cells (removed ∷ ps) = less-cells ps
 free-words : recordToWords (freeSegment 8) ≡ replicate 19 0
 unfolding recordToWords freeSegment maskOf
 free-words = refl
-
-drop-take : (n k : ℕ) (l : List ℕ) → drop n (take k l) ≡ take (k - n) (drop n l)
-drop-take zero k l = rw (sub-zero k)
-drop-take (suc n) zero l = let e : 0 - suc n ≡ 0 = omega arith in rw e
-drop-take (suc n) (suc k) [] = sym (take-nil (suc k - suc n))
-drop-take (suc n) (suc k) (x ∷ l) = let e : suc k - suc n ≡ k - n = omega arith in rw e (drop-take n k l)
 
 cut : (l : List ℕ) (a : ℕ) → take 8 (drop 11 (take 19 (drop a l))) ≡ take 8 (drop (a + 11) l)
 cut l a = rw (drop-take 11 19 (drop a l), drop-drop 11 a l) (take-take 8 8 (drop (a + 11) l) (omega arith))

@@ -1,6 +1,5 @@
 -- Laws of the relations of specs/, and of what the functions do to a row.
 
-pub mod Extra
 pub mod Reading
 pub mod Cells
 pub mod Marks

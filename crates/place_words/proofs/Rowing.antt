@@ -20,7 +20,7 @@ use Rattle.model.specs.Sweep.{oneLess}
 use Rattle.model.specs.Table.{kindUnit, pointerWord, recordToWords, segmentIn}
 use Rattle.laws.proofs.RoundTrip.{positions-back}
 use Rattle.place_words.specs.Marks.{marks}
-use Rattle.place_words.proofs.Extra.{map-then}
+use Rattle.lists.proofs.Puts.{map-then}
 use Rattle.place_words.proofs.Marks.{marks-div, marks-mod}
 
 pub row-words : (ps : Segment) → length (recordToWords ps) ≡ 3 + (length ps + length ps)

@@ -16,7 +16,7 @@ use Rattle.model.specs.State.{Block, Position, Segment, Shelf, held, nullPositi
 use Rattle.model.specs.Table.{cellsIn, recordToWords, recordsIn, segmentIn, shelfIn}
 use Rattle.laws.proofs.RoundTrip.{length-record, segment-back}
 use Rattle.place_words.specs.Stored.{PositionFits, SegmentFits, Stored, Wf, Whole, bytesOf, wordsOf}
-use Rattle.place_words.proofs.Extra.{getD-any, parts-put}
+use Rattle.lists.proofs.Puts.{getD-any, parts-put}
 use Rattle.place_words.proofs.Reading.{cell-word, cellWords, count-word, countWords, length-records, record-at}
 use Rattle.place_words.proofs.Rowing.{words-cells, words-counts}
 

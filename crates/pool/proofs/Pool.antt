@@ -8,7 +8,7 @@ use lib.ListN.{length, drop, getD}
 use borrow.Rule.Slice.PartMut.{midOf, putMid, mid-len}
 use Rattle.lists.proofs.Masks.{First, here, later, first-le}
 use Rattle.lists.proofs.Slices.{drop-end}
-use Rattle.records.proofs.Extra.{copied-part}
+use Rattle.lists.proofs.Written.{copied-part}
 use Rattle.pool.specs.Pool.{copyTo, along}
 
 -- a block copied by way of a buffer z of its size

@@ -1,4 +1,3 @@
 -- Laws of records as the code has them.
-pub mod Extra
 pub mod Records
 pub mod Words

@@ -12,7 +12,8 @@ use Rattle.model.specs.Table.{recordToWords, segmentIn}
 use Rattle.laws.proofs.RoundTrip.{length-record}
 use Rattle.records.specs.Records.{recordOf, positions, recordIn, Formed}
 use Rattle.records.specs.declared.Record.{Record}
-use Rattle.records.proofs.Extra.{drop-take, written, written-written}
+use Rattle.lists.proofs.Slices.{drop-take}
+use Rattle.lists.proofs.Written.{written, written-written}
 use Rattle.records.proofs.Records.{same-record, cells-map, counts-map}
 
 -- ---- recordToWords

@@ -10,8 +10,7 @@ use lib.Seq.{drop-drop, take-take, getD-take, getD-drop}
 use borrow.Author.Tests.{le-ltb, lt-ltb}
 use lib.Dec.{ltb, lit<}
 use Rattle.lists.specs.Rows.{parts, rows}
-use Rattle.lists.proofs.Slices.{tail-all}
-use Rattle.records.proofs.Extra.{drop-take}
+use Rattle.lists.proofs.Slices.{tail-all, drop-take}
 use Rattle.model.specs.Measures.{Capacities, shapeFor, baseMeasures, partsFor, tillWords, tableWords}
 use Rattle.model.specs.State.{Shelf, Version, Till, State}
 use Rattle.model.specs.Table.{shapeOf, stateIn, shelfIn, versionIn, versionsIn, versionToWords, tillToWords, recordsPart, stateToWords, stateToBytes}

@@ -73,14 +73,16 @@ pub shelf-read : (pool ws : List ℕ) (sh : Shelf) → Told pool ws sh → shelf
 unfolding shelfIn
 shelf-read pool ws sh d = λ i. record { records = records-read ws (sh .records) (d .records) i; cells = cells-read pool (sh .cells) (d .cells) i }
 
--- the shelf's two parts
+-- the shelf's records
 pub records-of : (pool ws : List ℕ) → shelfIn baseMeasures pool ws .records ≡ recordsIn 8 ws
 unfolding shelfIn
 records-of pool ws = refl
 
-pub cells-of : (pool ws : List ℕ) → shelfIn baseMeasures pool ws .cells ≡ cellsIn 64 pool
+-- ---- Stored
+
+pub stored-records : {pool words : List ℕ} → Stored pool words → RecordsTold words (recordsIn 8 words)
 unfolding shelfIn
-cells-of pool ws = refl
+stored-records s = s .told .records
 
 -- a step's result is stored again
 pub stored-again : (pool ws p w : List ℕ) (sh : Shelf) → Stored pool ws → Told p w sh → Exact sh → length p ≡ length pool → length w ≡ length ws → Stored p w

@@ -1,12 +1,16 @@
 // The calls, on lent buffers. No call has a premise: what is no sound store is refused with 10.
 ghost use mathlib.Core.Path.{_≡_};
-ghost use Rattle.model.specs.Calls.{tableLengthOf, layoutOf, listingOf, restoreOf};
+ghost use Rattle.model.specs.Calls.{tableLengthOf, layoutOf, listingOf, restoreOf, retireOf, tallyOf};
 ghost use Rattle.layout.specs.Layout.{capacities, lengthAnswer, layoutAnswer};
 ghost use Rattle.tills.specs.Answers.{listingAnswer};
 ghost use Rattle.restore.specs.Answers.{restoreAnswer};
+ghost use Rattle.retire.specs.Answers.{retireAnswer};
+ghost use Rattle.tally.specs.Answers.{tallyAnswer};
 use layout::Capacities;
 use layout::TableLength;
 use restore::Restored;
+use retire::Retired;
+use tally::Tally;
 use tills::Listing;
 
 pub fn table_length(c: Capacities) -> TableLength
@@ -34,6 +38,18 @@ pub fn restore(pool: &[u8], table: &[u32], till: u32, version: u32, output: &mut
     restore::restore_version(pool, table, till, version, output)
 }
 
+pub fn retire(pool: &mut [u8], table: &mut [u32], till: u32, version: u32) -> Retired
+    ensures { λ r. ⌜ retireAnswer r (now (pool .exit)) (now (table .exit)) ≡ retireOf (now (pool .entry)) (now (table .entry)) till version ⌝ }
+{
+    if !audit::sound(pool, table) {
+        return Retired {
+            refusal: 10,
+            length: 0,
+        };
+    }
+    retire::retire_version(pool, table, till, version)
+}
+
 pub fn listing(pool: &[u8], table: &[u32], till: u32) -> Listing
     ensures { λ r. ⌜ listingAnswer r ≡ listingOf (now (pool .entry)) (now (table .entry)) till ⌝ }
 {
@@ -46,4 +62,18 @@ pub fn listing(pool: &[u8], table: &[u32], till: u32) -> Listing
         };
     }
     tills::list_till(pool, table, till)
+}
+
+pub fn tally(pool: &[u8], table: &[u32]) -> Tally
+    ensures { λ r. ⌜ tallyAnswer r ≡ tallyOf (now (pool .entry)) (now (table .entry)) ⌝ }
+{
+    if !audit::sound(pool, table) {
+        return Tally {
+            refusal: 10,
+            cells: 0,
+            records: 0,
+            counts: 0,
+        };
+    }
+    tally::tally_store(pool, table)
 }

@@ -31,7 +31,3 @@ module _ (pool words : List ℕ) (s : Stored pool words) (ps : List Pointer) (w 
 
 pub told-as : {pool words : List ℕ} {a b : Shelf} → b ≡ a → Told pool words a → Told pool words b
 told-as {pool} {words} e t = subst (λ (x : Shelf). Told pool words x) (sym e) t
-
-pub stored-records : {pool words : List ℕ} → Stored pool words → RecordsTold words (recordsIn 8 words)
-unfolding shelfIn
-stored-records s = s .told .records

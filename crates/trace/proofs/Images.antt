@@ -13,7 +13,7 @@ use Rattle.lists.specs.Rows.{joined}
 use Rattle.lists.proofs.Counted.{length-counted, counted-at}
 use Rattle.lists.proofs.Each.{each-counted}
 use Rattle.lists.proofs.Rows.{getD-rows, length-joined}
-use Rattle.lists.proofs.Slices.{drop-end}
+use Rattle.lists.proofs.Slices.{drop-end, take-replicate}
 use Rattle.model.specs.Image.{zeroBlock}
 use Rattle.model.specs.Measures.{baseMeasures, partsFor}
 use Rattle.model.specs.Records.{cellOf, countOf, cellAt, positionAt}
@@ -23,11 +23,10 @@ use Rattle.model.specs.Trace.{blockAt, endOf, tracedBlock, tracedBlocks, imageO
 use Rattle.shelf.specs.Fits.{Fits}
 use Rattle.shelf.specs.Stored.{RecordsTold, Stored}
 use Rattle.shelf.proofs.Lowers.{fits-direct, direct-word}
-use Rattle.shelf.proofs.Read.{records-length, wide-of, eight-at, cells-length}
-use Rattle.kept.proofs.Extra.{row-joined}
+use Rattle.shelf.proofs.Read.{records-length, wide-of, eight-at, cells-length, stored-records}
+use Rattle.lists.proofs.Joins.{row-joined}
 use Rattle.kept.proofs.Named.{named-in, whole-cells}
 use Rattle.trace.specs.Versions.{Traceable, Direct, pointersAt}
-use Rattle.trace.proofs.Extra.{take-replicate}
 use Rattle.trace.proofs.Traces.{ends-fit, length-versions, version-row}
 
 -- ---- the cell of a position
@@ -52,13 +51,9 @@ module _ (pool words : List ℕ) (s : Stored pool words) where
   abbrev sh : Shelf
   sh = shelfIn baseMeasures pool words
 
-  pub stored-records : RecordsTold words (recordsIn 8 words)
-  unfolding shelfIn
-  stored-records = s .told .records
-
   pub cell-below : (k i : ℕ) → k * 19 + 19 ≤ length words → i < 8 → cellOf (getD (getD (recordsIn 8 words) k []) i nullPosition) < length pool / 64
   cell-below k i h l =
-      let hk : k < length (recordsIn 8 words) = omega (arith, records-length words (recordsIn 8 words) stored-records) in
+      let hk : k < length (recordsIn 8 words) = omega (arith, records-length words (recordsIn 8 words) (stored-records s)) in
       let e : getD (map cellOf (getD (recordsIn 8 words) k [])) i 0 ≡ cellOf (getD (getD (recordsIn 8 words) k []) i nullPosition) =
       List·getD-map cellOf (getD (recordsIn 8 words) k []) i nullPosition in
       rw (← e) (named-in pool words s (length pool / 64) (whole-cells pool words s) .inside k i hk)

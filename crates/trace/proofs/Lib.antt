@@ -1,4 +1,3 @@
-pub mod Extra
 pub mod Traces
 pub mod Images
 pub mod Restores

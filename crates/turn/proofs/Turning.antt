@@ -26,7 +26,7 @@ use Rattle.laws.proofs.Image.{length-blocks}
 use Rattle.laws.proofs.RoundTrip.{length-record}
 use Rattle.place_words.specs.Stored.{SegmentFits, Stored}
 use Rattle.place_words.specs.Words.{asOption}
-use Rattle.place_words.proofs.Extra.{first-found}
+use Rattle.lists.proofs.Puts.{first-found}
 use Rattle.place_words.proofs.Reading.{as-none, as-some, blocks-next, cell-at, cell-word, cellWords}
 use Rattle.place_words.proofs.Rowing.{words-cells}
 use Rattle.place_words.proofs.Storing.{count-is, row-is}

@@ -9,7 +9,7 @@ use Rattle.audit.proofs.sound.Tie as tie
 use Rattle.audit.proofs.sound.Reads as reads
 use Rattle.audit.proofs.sound.Lts as lts
 use Rattle.audit.proofs.body_good.Reads as body-good-reads
-use Rattle.audit_words.proofs.header.Reads as header-reads
+use Rattle.audit_header.proofs.header.Reads as header-reads
 
 -- src/lib.rt:62:9
 header-requires : tie.Need-header-requires

@@ -12,7 +12,7 @@ use Rattle.lists.specs.Marks.{Marks, marked}
 use Rattle.model.specs.Measures.{baseMeasures}
 use Rattle.model.specs.Records.{namedCells}
 use Rattle.model.specs.Table.{recordsIn, shelfIn}
-use Rattle.audit_words.proofs.Extra.{answer-no}
+use Rattle.lists.proofs.Answers.{answer-no}
 use Rattle.audit_cells.specs.Cells.{CellsSay}
 use Rattle.audit_cells.proofs.Cells.{marked-say, say-marked}
 use borrow.Author.Needs.{needs}

@@ -11,7 +11,7 @@ use Rattle.lists.specs.Marks.{Marks, collect}
 use Rattle.lists.proofs.Marks.{Going, starts, again, fails, ends}
 use Rattle.model.specs.Records.{cellsOf, namedCells}
 use Rattle.model.specs.Table.{segmentIn, recordsIn}
-use Rattle.audit_words.proofs.Extra.{part-is, part-long}
+use Rattle.lists.proofs.Answers.{part-is, part-long}
 use Rattle.audit_cells.proofs.Cells.{cells-in, all-cells}
 use Rattle.audit_cells.proofs.mark_all.Statement.{statement}
 use Rattle.audit_cells.proofs.mark_all.Tie as tie

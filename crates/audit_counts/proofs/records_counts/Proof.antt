@@ -11,7 +11,7 @@ use Rattle.lists.specs.Tells.{Tells}
 use Rattle.lists.proofs.Checkers.{is-so, is-not, same-as, refutes, proves}
 use Rattle.lists.proofs.Slices.{tail-all}
 use lib.Seq.{getD-drop}
-use Rattle.audit_words.proofs.Extra.{part-is, part-long}
+use Rattle.lists.proofs.Answers.{part-is, part-long}
 use Rattle.audit_counts.specs.Counters.{CountSays}
 use Rattle.audit_counts.proofs.records_counts.Statement.{statement}
 use Rattle.audit_counts.proofs.records_counts.Tie as tie

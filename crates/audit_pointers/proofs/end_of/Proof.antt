@@ -9,7 +9,7 @@ use Rattle.lists.specs.Lists.{count}
 use Rattle.model.specs.State.{nullPointer}
 use Rattle.model.specs.Table.{wordToPointer, versionIn, versionsIn}
 use Rattle.model.specs.Trace.{endOf}
-use Rattle.audit_words.proofs.Extra.{part-is, part-long}
+use Rattle.lists.proofs.Answers.{part-is, part-long}
 use Rattle.audit_pointers.proofs.Slots.{slot-inside, end-stop, end-go, end-none, end-start}
 use Rattle.audit_pointers.proofs.end_of.Statement.{statement}
 use Rattle.audit_pointers.proofs.end_of.Tie as tie

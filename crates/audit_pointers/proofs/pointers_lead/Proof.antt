@@ -10,7 +10,7 @@ use Rattle.lists.proofs.Slices.{every-next, every-stop, every-end}
 use Rattle.model.specs.Measures.{baseMeasures}
 use Rattle.model.specs.Table.{wordToPointer, shelfIn}
 use Rattle.model.specs.Sound.{leads}
-use Rattle.audit_words.proofs.Extra.{every-map}
+use Rattle.lists.proofs.Answers.{every-map}
 use Rattle.audit_pointers.proofs.pointers_lead.Statement.{statement}
 use Rattle.audit_pointers.proofs.pointers_lead.Tie as tie
 use Rattle.audit_pointers.proofs.pointers_lead.Reads as reads

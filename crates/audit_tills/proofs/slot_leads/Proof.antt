@@ -3,7 +3,7 @@ use Prim.Native.Nat.{_+_, _-_, _/_, _≤_}
 use lib.ListN.{length}
 use denote.Ref.{now}
 use Rattle.lists.specs.Lists.{count}
-use Rattle.audit_words.proofs.Extra.{part-long}
+use Rattle.lists.proofs.Answers.{part-long}
 use Rattle.audit_tails.proofs.Blocks.{first-long, slot-fits}
 use Rattle.audit_tills.proofs.Slots.{two-fit, lead-newest, lead-older}
 use borrow.Author.Needs.{needs}

@@ -9,7 +9,7 @@ use Rattle.lists.specs.Tells.{Tells}
 use Rattle.lists.specs.Lists.{count}
 use Rattle.lists.proofs.Checkers.{is-not, refutes, proves}
 use Rattle.audit_words.specs.Words.{SlotForm}
-use Rattle.audit_words.proofs.Extra.{tells-at, answer-no, answer-yes}
+use Rattle.lists.proofs.Answers.{tells-at, answer-no, answer-yes}
 use Rattle.audit_tails.proofs.Blocks.{first-slot, first-long, slot-fits}
 use borrow.Author.Needs.{needs}
 use Rattle.audit_tills.proofs.slot_says.Statement.{statement}

@@ -13,7 +13,7 @@ use Rattle.lists.proofs.Slices.{tail-all}
 use Rattle.model.specs.Measures.{baseMeasures}
 use Rattle.model.specs.State.{Shelf}
 use Rattle.model.specs.Table.{shelfIn}
-use Rattle.audit_words.proofs.Extra.{tells-at}
+use Rattle.lists.proofs.Answers.{tells-at}
 use Rattle.audit_pointers.proofs.Slots.{slot-inside}
 use Rattle.audit_tills.specs.Says.{SlotSays}
 use Rattle.audit_tills.proofs.Slots.{rest-fits}

@@ -10,7 +10,7 @@ use Rattle.lists.specs.Lists.{allZero}
 use Rattle.lists.proofs.Checkers.{is-not, refutes, proves}
 use Rattle.lists.proofs.Slices.{tail-all}
 use Rattle.model.specs.State.{Shelf}
-use Rattle.audit_words.proofs.Extra.{tells-at, answer-no, answer-yes}
+use Rattle.lists.proofs.Answers.{tells-at, answer-no, answer-yes}
 use Rattle.audit_tills.specs.Says.{SlotSays}
 use Rattle.audit_tills.proofs.Slots.{used-fit, slots-fit}
 use borrow.Author.Needs.{needs}

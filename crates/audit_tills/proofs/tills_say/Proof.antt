@@ -12,7 +12,7 @@ use Rattle.lists.proofs.Checkers.{is-so, is-not, refutes, proves}
 use Rattle.model.specs.Measures.{baseMeasures, tillWords}
 use Rattle.model.specs.Table.{shelfIn}
 use Rattle.model.specs.State.{Shelf}
-use Rattle.audit_words.proofs.Extra.{tells-at, part-is, part-long}
+use Rattle.lists.proofs.Answers.{tells-at, part-is, part-long}
 use Rattle.audit_tills.specs.Says.{TillSays}
 use Rattle.audit_tills.proofs.Slots.{till-fits}
 use Rattle.audit_words.proofs.Sizes.{till-small}

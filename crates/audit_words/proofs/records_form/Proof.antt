@@ -13,7 +13,7 @@ use Rattle.lists.specs.Each.{Each}
 use Rattle.lists.proofs.Checkers.{is-so, is-not, refutes, proves}
 use Rattle.lists.proofs.Cuts.{each-part, part-each}
 use Rattle.audit_words.specs.Words.{RecordForm}
-use Rattle.audit_words.proofs.Extra.{tells-at, part-is, part-long}
+use Rattle.lists.proofs.Answers.{tells-at, part-is, part-long}
 use Rattle.audit_words.proofs.records_form.Statement.{statement}
 use Rattle.audit_words.proofs.records_form.Tie as tie
 use Rattle.audit_words.proofs.records_form.Reads as reads

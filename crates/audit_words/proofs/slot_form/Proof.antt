@@ -12,7 +12,7 @@ use Rattle.lists.proofs.Checkers.{is-not, refutes, proves}
 use Rattle.lists.proofs.Slices.{tail-all}
 use Rattle.model.specs.Measures.{partsFor}
 use Rattle.audit_words.specs.Words.{PointerSays}
-use Rattle.audit_words.proofs.Extra.{tells-at, part-is}
+use Rattle.lists.proofs.Answers.{tells-at, part-is}
 use borrow.Author.Needs.{needs}
 use Rattle.audit_words.proofs.slot_form.Statement.{statement}
 use Rattle.audit_words.proofs.slot_form.Tie as tie

@@ -4,7 +4,7 @@ use Prim.Native.Nat.{_-_, _/_}
 use lib.ListN.{length, drop}
 use Rattle.lists.specs.Lists.{allZero}
 use Rattle.lists.proofs.Slices.{zero-next, zero-not}
-use Rattle.audit_words.proofs.Extra.{zero-end}
+use Rattle.lists.proofs.Answers.{zero-end}
 use Rattle.audit_words.proofs.zeros.Statement.{statement}
 use Rattle.audit_words.proofs.zeros.Tie as tie
 use Rattle.audit_words.proofs.zeros.Reads as reads

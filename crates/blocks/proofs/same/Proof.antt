@@ -8,7 +8,7 @@ use borrow.Author.Tests.{not-true, not-false}
 use lib.ListN.{length, take, drop}
 use Rattle.lists.specs.Lists.{sameNumbers}
 use Rattle.lists.proofs.Slices.{tail-all}
-use Rattle.blocks.proofs.Extra.{same-lengths}
+use Rattle.lists.proofs.Appends.{same-lengths}
 use Rattle.blocks.proofs.Pieces.{same-stop, same-on}
 use Rattle.blocks.proofs.same.Statement.{statement}
 use Rattle.blocks.proofs.same.Tie as tie

@@ -5,7 +5,7 @@ use native.Mathlib.Omega.{arith}
 use lib.ListN.{length, take, drop}
 use borrow.Author.Needs.{needs}
 use denote.Ref.{now}
-use Rattle.records.proofs.Extra.{part-more, part-all}
+use Rattle.lists.proofs.Written.{part-more, part-all}
 use Rattle.records.proofs.eight.Statement.{statement}
 use Rattle.records.proofs.eight.Tie as tie
 

@@ -1,7 +1,7 @@
 use native.Mathlib.Omega.{arith}
 use borrow.Author.Needs.{needs}
 use denote.Ref.{now}
-use Rattle.records.proofs.Extra.{copied-part}
+use Rattle.lists.proofs.Written.{copied-part}
 use Rattle.records.proofs.put_at.Statement.{statement}
 use Rattle.records.proofs.put_at.Tie as tie
 

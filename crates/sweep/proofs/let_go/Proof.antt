@@ -3,7 +3,8 @@ use borrow.Author.Needs.{needs}
 use Rattle.model.specs.Measures.{baseMeasures}
 use Rattle.model.specs.State.{Shelf}
 use Rattle.model.specs.Sweep.{sweep}
-use Rattle.sweep.proofs.Released.{released-shelf, released, told-as, stored-records}
+use Rattle.shelf.proofs.Read.{stored-records}
+use Rattle.sweep.proofs.Released.{released-shelf, released, told-as}
 use Rattle.sweep.proofs.let_go.Statement.{statement}
 use Rattle.sweep.proofs.let_go.Tie as tie
 

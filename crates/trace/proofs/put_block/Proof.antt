@@ -4,7 +4,8 @@ use native.Mathlib.Omega.{arith}
 use lib.ListN.{length}
 use borrow.Author.Needs.{needs}
 use Rattle.shelf.proofs.Lowers.{fits-direct}
-use Rattle.trace.proofs.Images.{stored-records, cell-below, put-cell, put-zero}
+use Rattle.shelf.proofs.Read.{stored-records}
+use Rattle.trace.proofs.Images.{cell-below, put-cell, put-zero}
 use Rattle.trace.proofs.put_block.Statement.{statement}
 use Rattle.trace.proofs.put_block.Tie as tie
 
@@ -17,7 +18,7 @@ below c =
 cell-of-requires : tie.Need-cell-of-requires
 cell-of-requires c κs = let a = c .before .before .before .before in
     let f = fits-direct _ _ (c .if1 .taken) (a .pre .1 .0) in
-    (stored-records _ _ (a .pre .0), (f .0, f .1, omega (arith, f .0, a .pre .0 .short)))
+    (stored-records (a .pre .0), (f .0, f .1, omega (arith, f .0, a .pre .0 .short)))
 
 byte-requires : tie.Need-byte-requires
 byte-requires c κs = omega (arith, below c, c .before .before .before .before .before .pre .0 .few)

@@ -6,7 +6,7 @@ use lib.ListN.{drop, length, length-set, take}
 use borrow.Author.Needs.{needs}
 use denote.Ref.{now}
 use Rattle.turn.specs.Turn.{targetOf}
-use Rattle.turn.proofs.Extra.{map-end, map-more}
+use Rattle.lists.proofs.Maps.{map-end, map-more}
 use Rattle.turn.proofs.find_targets.Statement.{statement}
 use Rattle.turn.proofs.find_targets.Tie as tie
 

@@ -2,7 +2,7 @@ use mathlib.Core.Path.{_≡_}
 use native.Mathlib.Omega.{arith}
 use lib.ListN.{length}
 use borrow.Author.Needs.{needs}
-use Rattle.records.proofs.Extra.{written}
+use Rattle.lists.proofs.Written.{written}
 use Rattle.records.proofs.Words.{store-all}
 use Rattle.records.proofs.Record.store.Statement.{statement}
 use Rattle.records.proofs.Record.store.Tie as tie

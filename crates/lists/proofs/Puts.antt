@@ -1,0 +1,45 @@
+-- A part put among parts, and the first found.
+use mathlib.Core.Path.{_≡_, ap, refl, subst}
+use mathlib.Core.Bool.{Bool, true}
+use mathlib.Core.List.{List, [], _++_, _∷_, append-assoc, map}
+use mathlib.Core.Option.{some}
+use Prim.Native.Nat.{_*_, _+_, _<_, _≤_, suc, zero, ℕ}
+use native.Mathlib.Nat.{le-of-suc-le-suc, not-suc-le-zero, suc-mul, zero-mul}
+use native.Mathlib.Omega.{arith}
+use lib.ListN.{drop, getD, length, length-drop, set, take}
+use lib.Seq.{drop-at, drop-drop, length-take-le, take-add, take-at}
+use Rattle.lists.specs.Lists.{firstFrom}
+use Rattle.lists.specs.Rows.{parts}
+use Rattle.lists.proofs.First.{Lowest, first-lowest}
+
+pub getD-any {ℓ} : {A : Type ℓ} (l : List A) (k : ℕ) (d e : A) → k < length l → getD l k d ≡ getD l k e
+getD-any [] k d e h = absurd (not-suc-le-zero h)
+getD-any (x ∷ l) zero d e h = refl
+getD-any (x ∷ l) (suc k) d e h = getD-any l k d e (le-of-suc-le-suc h)
+
+-- part i replaced by another of as many elements
+pub parts-put {ℓ} : {A : Type ℓ} (k n i : ℕ) (ws b : List A) → i < n → n * k ≤ length ws → length b ≡ k
+    → parts k n (take (i * k) ws ++ (b ++ drop k (drop (i * k) ws))) ≡ set (parts k n ws) i b
+unfolding parts
+parts-put k zero i ws b h l e = absurd (not-suc-le-zero h)
+parts-put k (suc n) zero ws b h l e = rw (zero-mul, take-at b (drop k ws) k e, drop-at b (drop k ws) k e)
+parts-put {A = A} k (suc n) (suc i) ws b h l e =
+    let p : suc i * k ≡ k + i * k = omega (arith, suc-mul i k) in
+    let lt : length (take k ws) ≡ k = length-take-le k ws (omega (arith, suc-mul n k)) in
+    let tail : List A = take (i * k) (drop k ws) ++ (b ++ drop k (drop (i * k) (drop k ws))) in
+    let whole : take (suc i * k) ws ++ (b ++ drop k (drop (suc i * k) ws)) ≡ take k ws ++ tail =
+    rw (p, take-add, append-assoc, drop-drop (i * k) k ws) in
+    rw (whole, take-at (take k ws) tail k lt, drop-at (take k ws) tail k lt)
+    (ap (λ (r : List (List A)). take k ws ∷ r) (parts-put k n i (drop k ws) b (le-of-suc-le-suc h) (omega (arith, suc-mul n k, length-drop k ws)) e))
+
+-- the first that passes is one of the list, and passes
+pub first-found : {A : Type 0} (d : A) (f : A → Bool) (xs : List A) (k : ℕ) → firstFrom f 0 xs ≡ some k → (k < length xs) × (f (getD xs k d) ≡ true)
+first-found d f xs k e =
+    let w : Lowest f d 0 xs (some k) = subst (Lowest f d 0 xs) e (first-lowest f d 0 xs) in
+    let z : w .0 ≡ k = omega arith in
+    (rw z at (w .2), rw z at (w .3))
+
+-- one function after another
+pub map-then {ℓ κ μ} : {A : Type ℓ} {B : Type κ} {C : Type μ} (f : A → C) (g : B → C) (h : A → B) → ((x : A) → f x ≡ g (h x)) → (xs : List A) → map f xs ≡ map g (map h xs)
+map-then f g h e [] = refl
+map-then f g h e (x ∷ xs) = rw (e x, map-then f g h e xs)

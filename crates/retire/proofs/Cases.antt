@@ -1,0 +1,365 @@
+-- A retire, step by step and case by case.
+use mathlib.Core.Path.{_≡_, refl, sym, ap, _∙_, subst}
+use mathlib.Core.Bool.{true, false, cond, not}
+use mathlib.Core.List.{List, [], _∷_, _++_, map}
+use Prim.Native.Nat.{ℕ, suc, _+_, _*_, _-_, _/_, _≤_, _<_}
+use native.Mathlib.Nat.{mul-le-mul-right}
+use native.Mathlib.Omega.{arith}
+use lib.ListN.{length, getD, set, take, drop, replicate, length-take, length-drop, length-map, length-append, length-replicate}
+use lib.Seq.{getD-take, getD-drop, take-take, drop-drop, take-at, length-take-le}
+use borrow.Author.Tests.{le-leb, lt-leb, eq-eqb, ne-eqb}
+use lib.Dec.{eqb}
+use Rattle.lists.specs.Rows.{rows}
+use Rattle.lists.proofs.Each.{each-at}
+use Rattle.lists.proofs.Slices.{drop-end, tail-all}
+use Rattle.model.specs.Measures.{Shape, Capacities, baseMeasures, partsFor, tillWords, tableWords}
+use Rattle.model.specs.State.{Pointer, Version, Till, Shelf, State, Outcome, refused, done}
+use Rattle.model.specs.Sweep.{release, sweep}
+use Rattle.model.specs.Table.{pointerWord, wordToPointer, versionIn, versionToWords, tillToWords, recordToWords, recordsPart, shapeOf, stateIn, shelfIn, stateToWords, stateToBytes}
+use Rattle.model.specs.Calls.{After, emptyTill, tillOf, heldFrom, oldestNumber, withTill, isEmpty, isOldest, dropOldest, retire, retireIn, retireOf}
+use Rattle.model.specs.Calls as calls
+use Rattle.laws.proofs.Fits.{VersionFits}
+use Rattle.laws.proofs.Measures.{sizes, parts-enough}
+use Rattle.laws.proofs.RoundTrip.{length-till}
+use Rattle.laws.proofs.Stores.{tillAt, recordsFrom, till-is, till-put, records-put, Sound, header, found, fits, long}
+use Rattle.laws.proofs.Tills.{From, there, till-words, few, given, last-most, numbers, in-words, before-held, held-drop, oldest-from}
+use Rattle.lists.proofs.Slices.{drop-take}
+use Rattle.shelf.specs.Stored.{Told, Stored}
+use Rattle.shelf.specs.Fits.{Fits}
+use Rattle.slots.specs.Slots.{withoutOldest}
+use Rattle.slots.proofs.Slots.{till-long}
+use Rattle.meets.proofs.Shelf.{sound-stored}
+use Rattle.meets.proofs.Slots as slots
+use Rattle.meets.proofs.Pointers.{slot-row, version-words, version-pointers, version-fit}
+use Rattle.tills.specs.declared.Head.{Head}
+use Rattle.tills.specs.Answers.{tillSize, HeadOf}
+use Rattle.retire.specs.Answers.{tillIn, oldestIn, Holds, Copied, released, Are, Placed, droppedFrom}
+
+-- a part of a part
+part-part : (xs : List ℕ) (a n c k : ℕ) → c + k ≤ n → take k (drop c (take n (drop a xs))) ≡ take k (drop (a + c) xs)
+part-part xs a n c k h =
+    ap (take k) (drop-take c n (drop a xs)) ∙ take-take k (n - c) (drop c (drop a xs)) (omega (arith, h)) ∙ ap (take k) (drop-drop c a xs)
+
+part-get : (xs : List ℕ) (a n i : ℕ) → i < n → getD (take n (drop a xs)) i 0 ≡ getD xs (a + i) 0
+part-get xs a n i h = getD-take n (drop a xs) i 0 h ∙ getD-drop a xs i 0
+
+-- room for pointers
+pub zeros-long : (n : ℕ) → length (replicate {A = ℕ} n 0) ≡ n
+zeros-long n = length-replicate {0} {A = ℕ} n 0
+
+-- ---- how long a table is
+
+pub table-most : {pool table : List ℕ} → Sound pool table → (length table ≤ 1129544) × (recordsFrom (shapeOf table) ≤ length table)
+unfolding shapeOf tableWords
+table-most {pool} {table} h =
+    let (a, b) = sizes (getD table 0 0) (getD table 1 0) (getD table 2 0) (header h .tills) (header h .versions) (header h .blocks) in
+    (omega (arith, b, long h, header h .records), omega (arith, long h))
+
+-- ---- the oldest version's slot
+
+module _ {pool table : List ℕ} {t at : ℕ} (h : Holds pool table t at) where
+  abbrev caps : Capacities
+  caps = shapeOf table .capacities
+
+  abbrev state : State
+  state = stateIn (shapeOf table) pool table
+
+  abbrev v : ℕ
+  v = getD table 1 0
+
+  abbrev b : ℕ
+  b = getD table 2 0
+
+  ht : t < length (state .tills)
+  ht = there (h .sound) t (h .inside)
+
+  oldest-fits : VersionFits (shapeOf table) (oldestIn pool table t)
+  unfolding shapeOf tillOf emptyTill
+  oldest-fits =
+      each-at (VersionFits (shapeOf table)) (versionIn 64 []) (tillIn pool table t .versions)
+      (slots.till-fits caps state (found (h .sound) .sound) t ht .versions) 0 (h .some)
+
+  slot-fits : 7 + b ≤ tillWords v b
+  slot-fits =
+      let m : 1 * (3 + b) ≤ v * (3 + b) = mul-le-mul-right (3 + b) (omega (arith, h .some, few (h .sound) t (h .inside))) in
+      omega (arith, m)
+
+  slot : take (3 + b) (drop (at + 4) table) ≡ versionToWords b (oldestIn pool table t)
+  unfolding shapeOf tillOf emptyTill
+  slot =
+      let z : 4 + 0 * (3 + b) ≡ 4 = omega arith in
+      ap (λ (a : ℕ). take (3 + b) (drop (a + 4) table)) (h .begins)
+      ∙ sym (part-part table (tillAt (shapeOf table) t) (tillWords v b) 4 (3 + b) (omega (arith, slot-fits)))
+      ∙ ap (λ (ws : List ℕ). take (3 + b) (drop 4 ws)) (till-words (h .sound) t (h .inside))
+      ∙ ap (λ (k : ℕ). take (3 + b) (drop k (tillToWords v b (tillIn pool table t)))) (sym z)
+      ∙ slot-row caps state (found (h .sound) .sound) t ht 0 (h .some)
+
+  pub length-word : getD table (at + 5) 0 ≡ oldestIn pool table t .length
+  unfolding versionToWords
+  length-word =
+      let z : at + 5 ≡ at + 4 + 1 = omega arith in
+      ap (λ (i : ℕ). getD table i 0) z ∙ sym (part-get table (at + 4) (3 + b) 1 (omega arith)) ∙ ap (λ (ws : List ℕ). getD ws 1 0) slot
+
+  parts-are : partsFor 64 (getD table (at + 5) 0) ≡ length (oldestIn pool table t .pointers)
+  unfolding shapeOf
+  parts-are = ap (partsFor 64) length-word ∙ sym (oldest-fits .blocks)
+
+  parts-most : partsFor 64 (getD table (at + 5) 0) ≤ b
+  unfolding shapeOf
+  parts-most = omega (arith, parts-are, oldest-fits .most)
+
+  pub pointer-words : take (partsFor 64 (getD table (at + 5) 0)) (drop (at + 7) table) ≡ map pointerWord (oldestIn pool table t .pointers)
+  unfolding shapeOf tillOf emptyTill versionToWords
+  pointer-words =
+      let z : at + 7 ≡ at + 4 + 3 = omega arith in
+      ap (λ (i : ℕ). take (partsFor 64 (getD table (at + 5) 0)) (drop i table)) z
+      ∙ sym (part-part table (at + 4) (3 + b) 3 (partsFor 64 (getD table (at + 5) 0)) (omega (arith, parts-most)))
+      ∙ ap (λ (ws : List ℕ). take (partsFor 64 (getD table (at + 5) 0)) (drop 3 ws)) slot
+      ∙ ap (λ (n : ℕ). take (partsFor 64 n) (drop 3 (versionToWords b (oldestIn pool table t)))) length-word
+      ∙ version-words caps state (found (h .sound) .sound) t ht 0 (h .some)
+
+  -- all that is read lies in the table
+  pub room : (at + 7 + (getD table (at + 5) 0 + 63) / 64 ≤ length table) × ((getD table (at + 5) 0 + 63) / 64 ≤ 1024) × (getD table (at + 5) 0 ≤ 65536) × (length table ≤ 1129544)
+  unfolding partsFor
+  room =
+      let k = parts-most in
+      let n = header (h .sound) .blocks in
+      (omega (arith, k, h .begins, slot-fits, in-words (h .sound) t (h .inside)), omega (arith, k, n), omega (arith, k, n, parts-enough 64 (getD table (at + 5) 0) (omega arith)), table-most (h .sound) .0)
+
+  copied-length : (k : ℕ) → k ≡ partsFor 64 (getD table (at + 5) 0) → length (take (at + 7 + k - (at + 7)) (drop (at + 7) table)) ≡ k
+  copied-length k e =
+      let z : at + 7 + k - (at + 7) ≡ k = omega arith in
+      rw (z, e) (ap length pointer-words ∙ length-map (oldestIn pool table t .pointers) pointerWord ∙ sym parts-are)
+
+  pub copy-room : (d : List ℕ) → length d ≡ 1024 → length (take (at + 7 + (getD table (at + 5) 0 + 63) / 64 - (at + 7)) (drop (at + 7) table)) ≤ length d
+  unfolding partsFor
+  copy-room d l = let (a, c, e, f) = room in omega (arith, l, c, copied-length ((getD table (at + 5) 0 + 63) / 64) refl)
+
+  pub copied : (d ws : List ℕ) → length d ≡ 1024
+      → ws ≡ take (at + 7 + (getD table (at + 5) 0 + 63) / 64 - (at + 7)) (drop (at + 7) table)
+      ++ drop (length (take (at + 7 + (getD table (at + 5) 0 + 63) / 64 - (at + 7)) (drop (at + 7) table))) d
+      → Copied pool table t (getD table (at + 5) 0) ws
+  unfolding partsFor
+  copied d ws l e =
+      let k : ℕ = (getD table (at + 5) 0 + 63) / 64 in
+      let src : List ℕ = take (at + 7 + k - (at + 7)) (drop (at + 7) table) in
+      let z : at + 7 + k - (at + 7) ≡ k = omega arith in
+      record {
+        bytes = length-word;
+        words = ap (take k) e ∙ take-at src (drop (length src) d) k (copied-length k refl) ∙ ap (λ (j : ℕ). take j (drop (at + 7) table)) z ∙ pointer-words;
+        room = omega (arith, ap length e, length-append src (drop (length src) d), copied-length k refl);
+      }
+
+  -- the copied words are the oldest version's pointers, which can be followed
+  module _ (n : ℕ) (ws : List ℕ) (o : Copied pool table t n ws) where
+    pub pointers-are : map wordToPointer (take (partsFor 64 n) ws) ≡ oldestIn pool table t .pointers
+    unfolding shapeOf tillOf emptyTill
+    pointers-are = ap (map wordToPointer) (o .words) ∙ version-pointers caps state (found (h .sound) .sound) t ht 0 (h .some)
+
+    pub front-long : partsFor 64 n ≡ length (take (partsFor 64 n) ws)
+    front-long = sym (length-take-le (partsFor 64 n) ws (o .room))
+
+    pub pointers-fit : (i : ℕ) → i < length (take (partsFor 64 n) ws) → Fits (length (drop (recordsFrom (shapeOf table)) table)) (wordToPointer (getD (take (partsFor 64 n) ws) i 0))
+    unfolding shapeOf tillOf emptyTill
+    pointers-fit i l =
+        rw (o .words)
+        (subst (λ (w : List ℕ). Fits (length (recordsPart caps w)) (wordToPointer (getD (map pointerWord (oldestIn pool table t .pointers)) i 0))) (found (h .sound) .words)
+        (version-fit caps state (found (h .sound) .sound) t ht 0 (h .some) i))
+
+-- ---- pointers let go
+
+module _ {pool table : List ℕ} (h : Sound pool table) (r : ℕ) (e : r ≡ recordsFrom (shapeOf table)) where
+  pub records-in : (r ≤ length table) × (length table ≤ 1129544)
+  records-in = let (a, b) = table-most h in (omega (arith, e, b), a)
+
+  part-is : take (length table - r) (drop r table) ≡ drop (recordsFrom (shapeOf table)) table
+  part-is = tail-all table r ∙ ap (λ (k : ℕ). drop k table) e
+
+  pub stored : Stored pool (take (length table - r) (drop r table))
+  unfolding shapeOf
+  stored =
+      subst (λ (w : List ℕ). Stored pool w) (sym part-is)
+      (subst (λ (p : List ℕ). Stored p (drop (recordsFrom (shapeOf table)) table)) (found h .bytes)
+      (subst (λ (w : List ℕ). Stored (stateToBytes (stateIn (shapeOf table) pool table)) (recordsPart (shapeOf table .capacities) w)) (found h .words)
+      (sound-stored (shapeOf table .capacities) (stateIn (shapeOf table) pool table) (found h .sound))))
+
+  pub fit-there : (ps : List ℕ) → ((i : ℕ) → i < length ps → Fits (length (drop (recordsFrom (shapeOf table)) table)) (wordToPointer (getD ps i 0)))
+      → (i : ℕ) → i < length ps → Fits (length (take (length table - r) (drop r table))) (wordToPointer (getD ps i 0))
+  fit-there ps f i l = subst (λ (w : List ℕ). Fits (length w) (wordToPointer (getD ps i 0))) (sym part-is) (f i l)
+
+  shelf-is : shelfIn baseMeasures pool (take (length table - r) (drop r table)) ≡ stateIn (shapeOf table) pool table .shelf
+  unfolding stateIn shapeOf
+  shelf-is = ap (shelfIn baseMeasures pool) part-is
+
+  pub swept : (p w : List ℕ) (ps : List Pointer) → Told p w (sweep baseMeasures (release (shelfIn baseMeasures pool (take (length table - r) (drop r table))) ps))
+      → Are (shapeOf table) (released pool table ps) p (take r table ++ (w ++ drop (length table - r) (drop r table)))
+  unfolding stateToBytes
+  swept p w ps o =
+      let s : Shape = shapeOf table in
+      let st : State = stateIn (shapeOf table) pool table in
+      let to : Shelf = sweep baseMeasures (release (st .shelf) ps) in
+      let q : Told p w to = subst (λ (x : Shelf). Told p w (sweep baseMeasures (release x ps))) shelf-is o in
+      record {
+        bytes = q .cells .bytes;
+        words =
+            ap (λ (k : ℕ). take k table ++ (w ++ drop (length table - k) (drop k table))) e
+            ∙ ap (λ (l : List ℕ). take (recordsFrom s) table ++ (l ++ drop (length table - recordsFrom s) (drop (recordsFrom s) table))) (q .records .words)
+            ∙ subst (λ (l : List ℕ). take (recordsFrom s) l ++ (rows recordToWords (to .records) ++ drop (length l - recordsFrom s) (drop (recordsFrom s) l)) ≡ stateToWords s (record { tills = st .tills; shelf = record { records = to .records; cells = to .cells } }))
+            (found h .words) (records-put s st (fits h .tillCount) (to .records) (to .cells));
+      }
+
+-- ---- the slot goes
+
+module _ (s : Shape) (st : State) (t at n b : ℕ) (p : Placed s st t at n b) (ws : List ℕ) (e : ws ≡ stateToWords s st) where
+  till-part : take n (drop at ws) ≡ tillToWords (s .capacities .versions) b (tillOf st t)
+  till-part = rw (e, p .begins, p .size, p .blocks) (till-is s st t (p .there))
+
+  pub slot-room : b ≤ 1024 → 0 < length (tillOf st t .versions) → (at + n ≤ length ws) × (7 + b ≤ n) × (b ≤ 1024) × (0 < getD ws (at + 1) 0)
+  slot-room most some =
+      let (a, c) = till-long (s .capacities .versions) b (tillOf st t) (take n (drop at ws)) some (p .few) till-part in
+      let l : length (take n (drop at ws)) ≡ n = ap length till-part ∙ length-till (s .capacities .versions) b (tillOf st t) ∙ ap (tillWords (s .capacities .versions)) (p .blocks) ∙ sym (p .size) in
+      (omega (arith, a, l, length-take n (drop at ws), length-drop at ws), omega (arith, a, l), most, subst (λ (x : ℕ). 0 < x) (part-get ws at n 1 (omega (arith, a, l))) c)
+
+  pub slot-dropped : (ys : List ℕ)
+      → ((v : ℕ) (x : Till) → length (x .versions) ≤ v → take (at + n - at) (drop at ws) ≡ tillToWords v b x → ys ≡ tillToWords v b (withoutOldest x))
+      → take at ws ++ (ys ++ drop (at + n - at) (drop at ws)) ≡ stateToWords s (record { tills = set (st .tills) t (withoutOldest (tillOf st t)); shelf = st .shelf })
+  slot-dropped ys f =
+      let k : at + n - at ≡ n = omega arith in
+      let y : ys ≡ tillToWords (s .capacities .versions) b (withoutOldest (tillOf st t)) =
+      f (s .capacities .versions) (tillOf st t) (p .few) (ap (λ (m : ℕ). take m (drop at ws)) k ∙ till-part) in
+      rw (y, k, e, p .begins, p .size, p .blocks) (till-put s st t (p .there) (withoutOldest (tillOf st t)))
+
+pub slot-meets : (ws : List ℕ) (at n b : ℕ) → (at + n ≤ length ws) × (7 + b ≤ n) × (b ≤ 1024) × (0 < getD ws (at + 1) 0)
+    → (7 + b ≤ length (take (at + n - at) (drop at ws))) × (0 < getD (take (at + n - at) (drop at ws)) 1 0) × (b ≤ 1024)
+slot-meets ws at n b (a, c, d, f) =
+    let k : at + n - at ≡ n = omega arith in
+    rw k (omega (arith, a, c, length-take n (drop at ws), length-drop at ws), subst (λ (x : ℕ). 0 < x) (sym (part-get ws at n 1 (omega (arith, c)))) f, d)
+
+-- ---- the whole
+
+drop-is : (s : Shape) (st : State) (t last : ℕ) (vs : List Version) → 0 < length vs
+    → dropOldest s st t last vs
+    ≡ done (record {
+      state = withTill st t (record { last = last; versions = drop 1 vs }) (sweep (s .measures) (release (st .shelf) (getD vs 0 (versionIn 64 []) .pointers)));
+      answer = getD vs 0 (versionIn 64 []) .length;
+    })
+unfolding dropOldest
+drop-is s st t last [] h = absurd (omega arith)
+drop-is s st t last (v ∷ vs) h = refl
+
+module _ {pool table : List ℕ} {t at : ℕ} (h : Holds pool table t at) where
+  pub placed : (ps : List Pointer) (n : ℕ) → n ≡ tillSize table → Placed (shapeOf table) (released pool table ps) t at n (getD table 2 0)
+  unfolding shapeOf tillOf
+  placed ps n e = record {
+    there = there (h .sound) t (h .inside);
+    begins = h .begins;
+    blocks = refl;
+    size = e;
+    few = few (h .sound) t (h .inside);
+  }
+
+  pub still-held : (ps : List Pointer) → 0 < length (tillOf (released pool table ps) t .versions)
+  unfolding tillOf
+  still-held ps = h .some
+
+  pub dropped : (n : ℕ) (ws p w w′ : List ℕ) → Copied pool table t n ws → Are (shapeOf table) (released pool table (map wordToPointer (take (partsFor 64 n) ws))) p w
+      → w′ ≡ stateToWords (shapeOf table) (record {
+        tills = set (stateIn (shapeOf table) pool table .tills) t (withoutOldest (tillOf (released pool table (map wordToPointer (take (partsFor 64 n) ws))) t));
+        shelf = released pool table (map wordToPointer (take (partsFor 64 n) ws)) .shelf;
+      })
+      → record { refusal = 0; length = n; pool = p; table = w′ } ≡ droppedFrom pool table t
+  unfolding calls.retireAnswer withTill stateToBytes tillOf shapeOf
+  dropped n ws p w w′ o a e =
+      let s : Shape = shapeOf table in
+      let st : State = stateIn (shapeOf table) pool table in
+      let f = pointers-are h n ws o in
+      let e₁ : n ≡ oldestIn pool table t .length = o .bytes in
+      let e₂ : p ≡ stateToBytes (withTill st t (withoutOldest (tillOf st t)) (sweep baseMeasures (release (st .shelf) (oldestIn pool table t .pointers)))) =
+      a .bytes ∙ ap (λ (ps : List Pointer). stateToBytes (released pool table ps)) f in
+      let e₃ : w′ ≡ stateToWords s (withTill st t (withoutOldest (tillOf st t)) (sweep baseMeasures (release (st .shelf) (oldestIn pool table t .pointers)))) =
+      e ∙ ap (λ (ps : List Pointer). stateToWords s (withTill st t (withoutOldest (tillOf st t)) (sweep baseMeasures (release (st .shelf) ps)))) f in
+      (λ i. record { refusal = 0; length = e₁ i; pool = e₂ i; table = e₃ i })
+      ∙ ap (calls.retireAnswer pool table s) (sym (drop-is s st t (tillOf st t .last) (tillOf st t .versions) (h .some)))
+
+-- ---- the refusals
+
+abbrev checked : ℕ → List Version → Outcome After → Outcome After
+checked n vs o = cond (isEmpty (heldFrom n vs)) (refused 15) (cond (not (isOldest n vs)) (refused 13) o)
+
+empty-none : (vs : List Version) → vs ≡ [] → isEmpty vs ≡ true
+unfolding isEmpty
+empty-none vs e = rw e
+
+empty-some : (vs : List Version) → 0 < length vs → isEmpty vs ≡ false
+unfolding isEmpty
+empty-some [] h = absurd (omega arith)
+empty-some (v ∷ vs) h = refl
+
+oldest-test : (n : ℕ) (vs : List Version) → 0 < length vs → isOldest n vs ≡ eqb (oldestNumber vs) n
+unfolding isOldest oldestNumber
+oldest-test n [] h = absurd (omega arith)
+oldest-test n (v ∷ vs) h = refl
+
+module _ (a : ℕ) (vs : List Version) (f : From a vs) (n : ℕ) (o : Outcome After) where
+  too-old : n < a → checked n vs o ≡ refused 15
+  too-old h = rw (empty-none (heldFrom n vs) (before-held a n vs f h))
+
+  at-place : a ≤ n → heldFrom n vs ≡ drop (n - a) vs
+  at-place h = let e : n ≡ a + (n - a) = omega (arith, h) in ap (λ (k : ℕ). heldFrom k vs) e ∙ held-drop a vs f (n - a)
+
+  too-new : a + length vs ≤ n → checked n vs o ≡ refused 15
+  too-new h = rw (empty-none (heldFrom n vs) (at-place (omega (arith, h)) ∙ drop-end vs (n - a) (omega (arith, h))))
+
+  not-empty : a ≤ n → n < a + length vs → isEmpty (heldFrom n vs) ≡ false
+  not-empty l h = ap isEmpty (at-place l) ∙ empty-some (drop (n - a) vs) (omega (arith, l, h, length-drop (n - a) vs))
+
+  not-first : a < n → n < a + length vs → checked n vs o ≡ refused 13
+  not-first l h =
+      let q : isOldest n vs ≡ false = oldest-test n vs (omega (arith, l, h)) ∙ ne-eqb (oldestNumber vs) n (λ z. omega (arith, z, l, oldest-from a vs f (omega (arith, l, h)))) in
+      rw (not-empty (omega (arith, l)) h, q)
+
+  is-first : n ≡ a → 0 < length vs → checked n vs o ≡ o
+  is-first l h =
+      let q : isOldest n vs ≡ true = oldest-test n vs h ∙ eq-eqb (oldestNumber vs) n (oldest-from a vs f h ∙ sym l) in
+      rw (not-empty (omega (arith, l)) (omega (arith, l, h)), q)
+
+module _ {pool table : List ℕ} (h : Sound pool table) (t n : ℕ) where
+  pub no-till : getD table 0 0 ≤ t → record { refusal = 3; length = 0; pool = pool; table = table } ≡ retireOf pool table t n
+  unfolding retireOf retireIn retire calls.retireAnswer shapeOf
+  no-till l = rw (h .is, le-leb _ _ l)
+
+  module _ (in-table : t < getD table 0 0) (r : Head) (o : HeadOf pool table t r) where
+    drops : Outcome After
+    drops = dropOldest (shapeOf table) (stateIn (shapeOf table) pool table) t (tillIn pool table t .last) (tillIn pool table t .versions)
+
+    inside : retireOf pool table t n ≡ calls.retireAnswer pool table (shapeOf table) (checked n (tillIn pool table t .versions) drops)
+    unfolding retireOf retireIn retire shapeOf drops
+    inside = rw (h .is, lt-leb _ _ in-table)
+
+    abbrev a : ℕ
+    a = suc (tillIn pool table t .last) - length (tillIn pool table t .versions)
+
+    pub bounded : (r .held ≤ r .last) × (r .last ≤ 65535)
+    bounded = rw (o .held, o .last) (given h t in-table, last-most h t in-table)
+
+    refusal : (k : ℕ) → checked n (tillIn pool table t .versions) drops ≡ refused k → record { refusal = k; length = 0; pool = pool; table = table } ≡ retireOf pool table t n
+    unfolding calls.retireAnswer
+    refusal k e = sym (inside ∙ ap (calls.retireAnswer pool table (shapeOf table)) e)
+
+    pub above : r .last < n → record { refusal = 15; length = 0; pool = pool; table = table } ≡ retireOf pool table t n
+    above l = refusal 15 (too-new a (tillIn pool table t .versions) (numbers h t in-table) n drops (omega (arith, l, o .last, given h t in-table)))
+
+    pub below : n + r .held ≤ r .last → record { refusal = 15; length = 0; pool = pool; table = table } ≡ retireOf pool table t n
+    below l = refusal 15 (too-old a (tillIn pool table t .versions) (numbers h t in-table) n drops (omega (arith, l, o .last, o .held)))
+
+    pub newer : n ≤ r .last → r .last < n + r .held → (n + r .held ≡ r .last + 1 → ⊥) → record { refusal = 13; length = 0; pool = pool; table = table } ≡ retireOf pool table t n
+    newer l m q = refusal 13 (not-first a (tillIn pool table t .versions) (numbers h t in-table) n drops (omega (arith, l, m, q, o .last, o .held, given h t in-table)) (omega (arith, l, o .last, given h t in-table)))
+
+    pub holds : n ≤ r .last → r .last < n + r .held → Holds pool table t (r .at)
+    holds l m = record { sound = h; inside = in-table; begins = o .at; some = omega (arith, l, m, o .held) }
+
+    pub oldest : n + r .held ≡ r .last + 1 → n ≤ r .last → retireOf pool table t n ≡ droppedFrom pool table t
+    unfolding drops
+    oldest q l =
+        inside ∙ ap (calls.retireAnswer pool table (shapeOf table))
+        (is-first a (tillIn pool table t .versions) (numbers h t in-table) n drops (omega (arith, q, o .last, o .held)) (omega (arith, q, l, o .last, o .held)))

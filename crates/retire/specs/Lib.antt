@@ -1,0 +1,2 @@
+-- What the steps of a retire say.
+pub mod Answers

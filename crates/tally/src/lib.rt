@@ -1,0 +1,89 @@
+// The tally: occupied cells, records in use and the sum of all counts.
+ghost use mathlib.Core.Path.{_≡_};
+ghost use Prim.Native.Nat.{_≤_};
+ghost use Rattle.model.specs.Table.{segmentIn, recordsIn};
+ghost use Rattle.model.specs.Calls.{tallyOf};
+ghost use Rattle.laws.proofs.Stores.{Sound};
+ghost use Rattle.tally.specs.Answers.{sum, inUse, Row, Counts, Rows, tallied, tallyAnswer};
+
+// Refusal 0 is an accepted call.
+pub struct Tally {
+    pub refusal: u32,
+    pub cells: u32,
+    pub records: u32,
+    pub counts: u32,
+}
+
+fn add_all(words: &[u32]) -> u32
+    requires { ⌜ sum (now words) ≤ 1048576 ⌝ }
+    ensures { λ r. ⌜ r ≡ sum (now (words .entry)) ⌝ }
+{
+    let mut n: u32 = 0;
+    let mut i: usize = 0;
+    while i < words.len() {
+        n = n + words[i];
+        i = i + 1;
+    }
+    n
+}
+
+// 1 unless both masks are 0.
+fn in_use(held: u32, removed: u32) -> u32
+    ensures { λ r. ⌜ r ≡ inUse held removed ⌝ }
+{
+    if held != 0 {
+        return 1;
+    }
+    if removed != 0 {
+        return 1;
+    }
+    0
+}
+
+// One record.
+fn tally_row(row: &[u32]) -> Tally
+    requires { ⌜ Row (now row) ⌝ }
+    ensures { λ r. ⌜ Counts (segmentIn 8 (now (row .entry))) r ⌝ }
+{
+    let records = in_use(row[0], row[1]);
+    let counts = add_all(&row[11..]);
+    Tally {
+        refusal: 0,
+        cells: u32::count_ones(row[0]),
+        records: records,
+        counts: counts,
+    }
+}
+
+fn tally_rows(words: &[u32]) -> Tally
+    requires { ⌜ Rows (now words) ⌝ }
+    ensures { λ r. ⌜ tallyAnswer r ≡ tallied (recordsIn 8 (now (words .entry))) ⌝ }
+{
+    let n = words.len() / 19;
+    let mut cells: u32 = 0;
+    let mut records: u32 = 0;
+    let mut counts: u32 = 0;
+    let mut k: usize = 0;
+    while k < n {
+        let at = k * 19;
+        let one = tally_row(&words[at..at + 19]);
+        cells = cells + one.cells;
+        records = records + one.records;
+        counts = counts + one.counts;
+        k = k + 1;
+    }
+    Tally {
+        refusal: 0,
+        cells: cells,
+        records: records,
+        counts: counts,
+    }
+}
+
+pub fn tally_store(pool: &[u8], table: &[u32]) -> Tally
+    requires { ⌜ Sound (now pool) (now table) ⌝ }
+    ensures { λ r. ⌜ tallyAnswer r ≡ tallyOf (now (pool .entry)) (now (table .entry)) ⌝ }
+{
+    let at = tills::records_at(table);
+    tally_rows(&table[at..])
+}
