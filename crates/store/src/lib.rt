@@ -1,11 +1,13 @@
 // The calls, on lent buffers. No call has a premise: what is no sound store is refused with 10.
 ghost use mathlib.Core.Path.{_≡_};
-ghost use Rattle.model.specs.Calls.{tableLengthOf, layoutOf, listingOf, restoreOf, retireOf, tallyOf};
+ghost use Rattle.model.specs.Calls.{tableLengthOf, layoutOf, backupOf, restoreOf, retireOf, listingOf, tallyOf};
 ghost use Rattle.layout.specs.Layout.{capacities, lengthAnswer, layoutAnswer};
+ghost use Rattle.backup.specs.Call.{backedUpAnswer};
 ghost use Rattle.tills.specs.Answers.{listingAnswer};
 ghost use Rattle.restore.specs.Answers.{restoreAnswer};
 ghost use Rattle.retire.specs.Answers.{retireAnswer};
 ghost use Rattle.tally.specs.Answers.{tallyAnswer};
+use backup::BackedUp;
 use layout::Capacities;
 use layout::TableLength;
 use restore::Restored;
@@ -23,6 +25,18 @@ pub fn lay_out(pool: &mut [u8], table: &mut [u32], c: Capacities) -> u32
     ensures { λ r. ⌜ layoutAnswer r (now (pool .exit)) (now (table .exit)) ≡ layoutOf (capacities c) (now (pool .entry)) (now (table .entry)) ⌝ }
 {
     layout::lay_out(pool, table, c)
+}
+
+pub fn backup(pool: &mut [u8], table: &mut [u32], till: u32, image: &[u8]) -> BackedUp
+    ensures { λ r. ⌜ backedUpAnswer r (now (pool .exit)) (now (table .exit)) ≡ backupOf (now (pool .entry)) (now (table .entry)) till (now (image .entry)) ⌝ }
+{
+    if !audit::sound(pool, table) {
+        return BackedUp {
+            refusal: 10,
+            version: 0,
+        };
+    }
+    backup::back_up(pool, table, till, image)
 }
 
 pub fn restore(pool: &[u8], table: &[u32], till: u32, version: u32, output: &mut [u8]) -> Restored

@@ -1,0 +1,68 @@
+-- The refusals in their order.
+use mathlib.Core.Path.{_≡_, refl, sym, ap, _∙_}
+use mathlib.Core.Bool.{Bool, true, false, cond, _||_}
+use mathlib.Core.List.{List}
+use Prim.Native.Nat.{ℕ, zero, suc, _*_, _≤_, _<_}
+use native.Mathlib.Omega.{arith}
+use lib.ListN.{length, getD}
+use lib.Dec.{eqb, leb, ltb}
+use borrow.Author.Tests.{le-leb, lt-leb, eq-eqb, ne-eqb, lt-ltb, le-ltb}
+use Rattle.model.specs.Calls.{BackupAnswer, tillOf, backup, backupAnswer, backupIn, backupOf, placeAndFile}
+use Rattle.model.specs.State.{Outcome, refused, done}
+use Rattle.model.specs.Table.{shapeOf, stateIn}
+use Rattle.laws.proofs.Stores.{Sound}
+use Rattle.laws.proofs.Tills.{last-most}
+use Rattle.tills.specs.declared.Head.{Head}
+use Rattle.tills.specs.Answers.{HeadOf}
+use Rattle.accept.specs.Accept.{Free, Accepted, refusedBackup, Judged, JudgedTill}
+
+module _ {pool table : List ℕ} (h : Sound pool table) (t : ℕ) where
+  pub no-till : (image : List ℕ) → getD table 0 0 ≤ t → backupOf pool table t image ≡ refusedBackup 3 pool table
+  unfolding backupOf backupIn backup shapeOf backupAnswer
+  no-till image n = rw (h .is, le-leb _ _ n)
+
+  pub no-bytes : (image : List ℕ) → t < getD table 0 0 → length image ≡ 0 → backupOf pool table t image ≡ refusedBackup 4 pool table
+  unfolding backupOf backupIn backup shapeOf backupAnswer
+  no-bytes image n z = rw (h .is, lt-leb _ _ n, eq-eqb _ _ z)
+
+  pub many-bytes : (image : List ℕ) → t < getD table 0 0 → (length image ≡ 0 → ⊥) → 64 * getD table 2 0 < length image → backupOf pool table t image ≡ refusedBackup 4 pool table
+  unfolding backupOf backupIn backup shapeOf backupAnswer
+  many-bytes image n z m = rw (h .is, lt-leb _ _ n, ne-eqb _ _ z, lt-ltb _ _ m)
+
+  module _ (n : t < getD table 0 0) (image : List ℕ) (some : 0 < length image) (few : length image ≤ 64 * getD table 2 0) where
+    pub no-slot : getD table 1 0 ≤ length (tillOf (stateIn (shapeOf table) pool table) t .versions) → backupOf pool table t image ≡ refusedBackup 11 pool table
+    unfolding backupOf backupIn backup shapeOf backupAnswer
+    no-slot m = rw (h .is, lt-leb _ _ n, ne-eqb (length image) 0 (λ e. omega (arith, e, some)), le-ltb _ _ few, le-leb _ _ m)
+
+    pub no-number : length (tillOf (stateIn (shapeOf table) pool table) t .versions) < getD table 1 0 → tillOf (stateIn (shapeOf table) pool table) t .last ≡ 65535
+        → backupOf pool table t image ≡ refusedBackup 12 pool table
+    unfolding backupOf backupIn backup shapeOf backupAnswer
+    no-number m e = rw (h .is, lt-leb _ _ n, ne-eqb (length image) 0 (λ e. omega (arith, e, some)), le-ltb _ _ few, lt-leb _ _ m, eq-eqb _ _ e)
+
+    -- a call that is accepted so far
+    pub goes-on : Free pool table t → backupOf pool table t image
+        ≡ backupAnswer pool table (shapeOf table) (placeAndFile (shapeOf table) (stateIn (shapeOf table) pool table) t image (tillOf (stateIn (shapeOf table) pool table) t))
+    unfolding backupOf backupIn backup shapeOf
+    goes-on f = rw (h .is, lt-leb _ _ n, ne-eqb (length image) 0 (λ e. omega (arith, e, some)), le-ltb _ _ few, lt-leb _ _ (f .room), ne-eqb (tillOf (stateIn (shapeOf table) pool table) t .last) 65535 (λ e. omega (arith, e, f .number)))
+
+  module _ (n : t < getD table 0 0) (r : Head) (o : HeadOf pool table t r) where
+    pub told-11 : getD table 1 0 ≤ r .held → JudgedTill pool table t 11
+    told-11 m = record { accepted = λ e. absurd (omega (arith, e)); refusal = λ z image some few. no-slot n image some few (omega (arith, m, o .held)) }
+
+    pub told-12 : (r .held < getD table 1 0) → r .last ≡ 65535 → JudgedTill pool table t 12
+    told-12 m e = record { accepted = λ q. absurd (omega (arith, q)); refusal = λ z image some few. no-number n image some few (omega (arith, m, o .held)) (sym (o .last) ∙ e) }
+
+    pub told-0 : (r .held < getD table 1 0) → (r .last ≡ 65535 → ⊥) → JudgedTill pool table t 0
+    told-0 m e = record {
+      accepted = λ q. record { room = omega (arith, m, o .held); number = omega (arith, e, o .last, last-most h t n) };
+      refusal = λ z. absurd (z refl);
+    }
+
+  pub judged : (n : t < getD table 0 0) (image : List ℕ) (some : 0 < length image) (few : length image ≤ 64 * getD table 2 0) (r : ℕ) → JudgedTill pool table t r → Judged pool table t image r
+  judged n image some few r j = record {
+    accepted = λ e. record { there = n; some = some; few = few; free = j .accepted e };
+    refusal = λ z. j .refusal z image some few;
+  }
+
+  pub judged-so : (image : List ℕ) (r : ℕ) → (r ≡ 0 → ⊥) → backupOf pool table t image ≡ refusedBackup r pool table → Judged pool table t image r
+  judged-so image r z e = record { accepted = λ q. absurd (z q); refusal = λ q. e }

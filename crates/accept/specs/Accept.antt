@@ -1,0 +1,32 @@
+-- What holds of a backup that is not refused at once.
+use mathlib.Core.Path.{_≡_}
+use mathlib.Core.List.{List}
+use Prim.Native.Nat.{ℕ, zero, suc, _*_, _≤_, _<_}
+use lib.ListN.{length, getD}
+use Rattle.model.specs.Calls.{BackupAnswer, tillOf, backupOf}
+use Rattle.model.specs.Table.{shapeOf, stateIn}
+use Rattle.laws.proofs.Stores.{Sound}
+
+-- the till has a slot and a number left
+pub record Free (pool table : List ℕ) (t : ℕ) : Type 0 where
+  pub room : length (tillOf (stateIn (shapeOf table) pool table) t .versions) < getD table 1 0
+  pub number : tillOf (stateIn (shapeOf table) pool table) t .last < 65535
+
+pub record Accepted (pool table : List ℕ) (t : ℕ) (image : List ℕ) : Type 0 where
+  pub there : t < getD table 0 0
+  pub some : 0 < length image
+  pub few : length image ≤ 64 * getD table 2 0
+  pub free : Free pool table t
+
+abbrev pub refusedBackup : ℕ → List ℕ → List ℕ → BackupAnswer
+refusedBackup n pool table = record { refusal = n; version = 0; pool = pool; table = table }
+
+-- 0 where it is accepted; else the call's whole answer is that refusal
+pub record Judged (pool table : List ℕ) (t : ℕ) (image : List ℕ) (r : ℕ) : Type 0 where
+  pub accepted : r ≡ 0 → Accepted pool table t image
+  pub refusal : (r ≡ 0 → ⊥) → backupOf pool table t image ≡ refusedBackup r pool table
+
+-- the same for a till that is there and an image of a right length
+pub record JudgedTill (pool table : List ℕ) (t : ℕ) (r : ℕ) : Type 0 where
+  pub accepted : r ≡ 0 → Free pool table t
+  pub refusal : (r ≡ 0 → ⊥) → (image : List ℕ) → 0 < length image → length image ≤ 64 * getD table 2 0 → backupOf pool table t image ≡ refusedBackup r pool table

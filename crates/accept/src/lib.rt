@@ -1,0 +1,39 @@
+// Whether a backup can begin: the refusals that are told before a segment is placed.
+ghost use mathlib.Core.Path.{_≡_};
+ghost use Prim.Native.Nat.{ℕ, _<_};
+ghost use lib.ListN.{length, getD};
+ghost use Rattle.laws.proofs.Stores.{Sound};
+ghost use Rattle.accept.specs.Accept.{Judged, JudgedTill};
+
+// Refusals 11 and 12.
+fn till_refusal(pool: &[u8], table: &[u32], till: u32) -> u32
+    requires { ⌜ Sound (now pool) (now table) × (till < getD (now table) 0 0) ⌝ }
+    ensures { λ r. ⌜ JudgedTill (now (pool .entry)) (now (table .entry)) till r ⌝ }
+{
+    let head = tills::till_head(pool, table, till);
+    if table[1] <= head.held {
+        return 11;
+    }
+    if head.last == 65535 {
+        return 12;
+    }
+    0
+}
+
+// Refusals 3, 4, 11 and 12, in this order; 0 where there is none.
+pub fn backup_refusal(pool: &[u8], table: &[u32], till: u32, image: &[u8]) -> u32
+    requires { ⌜ Sound (now pool) (now table) ⌝ }
+    ensures { λ r. ⌜ Judged (now (pool .entry)) (now (table .entry)) till (now (image .entry)) r ⌝ }
+{
+    if table[0] <= till {
+        return 3;
+    }
+    let bytes = image.len();
+    if bytes == 0 {
+        return 4;
+    }
+    if bytes > table[2] as usize * 64 {
+        return 4;
+    }
+    till_refusal(pool, table, till)
+}

@@ -1,0 +1,5 @@
+pub mod Tables
+pub mod Filed
+pub mod Answers
+pub mod Tills
+pub mod Joined

@@ -1,0 +1,91 @@
+-- A sound till's words have room for its slots, and one more where it is accepted.
+use mathlib.Core.Path.{_≡_, refl, sym, ap, _∙_, subst}
+use mathlib.Core.List.{List, map}
+use Prim.Native.Nat.{ℕ, suc, _+_, _*_, _-_, _/_, _≤_, _<_}
+use native.Mathlib.Nat.{mul-le-mul-right}
+use native.Mathlib.Omega.{arith}
+use lib.ListN.{length, getD, length-map}
+use Rattle.lists.specs.Each.{Each}
+use Rattle.lists.proofs.Each.{each-at, each-weaken}
+use Rattle.model.specs.Calls.{tillOf, emptyTill, newestPointers}
+use Rattle.model.specs.Measures.{partsFor}
+use Rattle.model.specs.State.{Version, Till}
+use Rattle.model.specs.Table.{shapeOf, stateIn, tillToWords, pointerWord, wordToPointer}
+use Rattle.laws.proofs.Fits.{VersionFits, TillFits}
+use Rattle.laws.proofs.Measures.{sizes}
+use Rattle.laws.proofs.RoundTrip.{length-till}
+use Rattle.laws.proofs.Stores.{Sound, header, fits, found}
+use Rattle.laws.proofs.Tills.{there, few, last-most}
+use Rattle.accept.specs.Accept.{Free}
+use Rattle.filing.specs.Filing.{Room, SlotLeft, FewBlocks, Whole, Held}
+use Rattle.filing.proofs.Slots.{held-word, last-word, few-blocks}
+use Rattle.ready.proofs.Newest.{Good, newest-good, newest-few, words-back}
+use Rattle.shelve.specs.Shelve.{Pointed}
+
+module _ {pool table : List ℕ} (h : Sound pool table) (t : ℕ) (in-table : t < getD table 0 0) where
+  abbrev v : ℕ
+  v = getD table 1 0
+
+  abbrev b : ℕ
+  b = getD table 2 0
+
+  abbrev till : Till
+  till = tillOf (stateIn (shapeOf table) pool table) t
+
+  till-fit : TillFits (shapeOf table) till
+  unfolding tillOf
+  till-fit = each-at (TillFits (shapeOf table)) emptyTill (stateIn (shapeOf table) pool table .tills) (fits h .tills) t (there h t in-table)
+
+  pub till-held : Held v b till
+  unfolding shapeOf partsFor
+  till-held = record {
+    most = few h t in-table;
+    versions = each-weaken (VersionFits (shapeOf table)) (Whole b) (λ u f. record { blocks = f .blocks; most = f .most }) (till .versions) (till-fit .versions);
+  }
+
+  module _ (ws : List ℕ) (e : ws ≡ tillToWords v b till) where
+    size : length ws ≡ 4 + v * (3 + b)
+    size = ap length e ∙ length-till v b till
+
+    held : getD ws 1 0 ≡ length (till .versions)
+    held = ap (λ (l : List ℕ). getD l 1 0) e ∙ held-word v b till
+
+    last : getD ws 0 0 ≡ till .last
+    last = ap (λ (l : List ℕ). getD l 0 0) e ∙ last-word v b till
+
+    pub till-room : Room b ws
+    till-room =
+        let m : length (till .versions) * (3 + b) ≤ v * (3 + b) = mul-le-mul-right (3 + b) (few h t in-table) in
+        record {
+          small = header h .blocks;
+          four = omega (arith, size);
+          long = omega (arith, size, sizes 0 v b (omega arith) (header h .versions) (header h .blocks) .0);
+          slots = rw (held, size) (omega (arith, m));
+        }
+
+    pub till-left : Free pool table t → SlotLeft b ws
+    till-left f =
+        let n : length (till .versions) + 1 ≤ v = omega (arith, f .room) in
+        let m : (length (till .versions) + 1) * (3 + b) ≤ v * (3 + b) = mul-le-mul-right (3 + b) n in
+        record { slot = rw (held, size) (omega (arith, m)); number = omega (arith, last, f .number) }
+
+    pub till-few : FewBlocks b ws
+    till-few = few-blocks v b till ws till-held e
+
+  -- the newest version's pointer words
+  pub prev-pointed : (prev : List ℕ) → prev ≡ map pointerWord (newestPointers (till .versions))
+      → Pointed (getD table 3 0) prev × (map wordToPointer prev ≡ newestPointers (till .versions))
+  unfolding shapeOf tillOf emptyTill
+  prev-pointed prev e =
+      let n : ℕ = length (stateIn (shapeOf table) pool table .shelf .records) in
+      let g : Each (Good n) (newestPointers (till .versions)) = newest-good (shapeOf table .capacities) (stateIn (shapeOf table) pool table) (found h .sound) t (there h t in-table) in
+      let k : length (newestPointers (till .versions)) ≤ b = newest-few (shapeOf table .capacities) (stateIn (shapeOf table) pool table) (found h .sound) t (there h t in-table) in
+      let back : map wordToPointer prev ≡ newestPointers (till .versions) = ap (map wordToPointer) e ∙ words-back n (newestPointers (till .versions)) g in
+      let c : n ≡ getD table 3 0 = fits h .recordCount in (
+        record {
+          few = omega (arith, ap length e, length-map (newestPointers (till .versions)) pointerWord, k, header h .blocks);
+          says = e ∙ ap (map pointerWord) (sym back);
+          good = subst (λ (m : ℕ). Each (Good m) (map wordToPointer prev)) c (subst (Each (Good n)) (sym back) g);
+        },
+        back,
+      )

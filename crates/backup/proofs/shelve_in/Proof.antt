@@ -1,0 +1,64 @@
+use denote.Ref.{now}
+use native.Mathlib.Omega.{arith}
+use Rattle.backup.proofs.Tables.{from-small, from-in, readied, done-on}
+use borrow.Author.Needs.{needs}
+use Rattle.backup.proofs.shelve_in.Statement.{statement}
+use Rattle.backup.proofs.shelve_in.Tie as tie
+use Rattle.backup.proofs.shelve_in.Reads as reads
+use Rattle.backup.proofs.shelve_in.Lts as lts
+use Rattle.shelve.proofs.shelve.Reads as shelve-reads
+
+-- src/lib.rt:24:33
+mul-shelve : tie.Need-mul-shelve
+mul-shelve c = let q = from-small (now (c .before .before .before .before .before .before .args .image)) (now (c .before .before .before .before .before .before .args .pool)) (now (c .before .before .before .before .before .before .args .table)) (c .before .before .before .before .before .before .args .from) (now (c .before .before .before .before .before .before .args .words)) (now (c .before .before .before .before .before .before .args .prev)) (c .before .before .before .before .before .before .pre) in omega (arith, q)
+
+-- src/lib.rt:24:33
+sub-shelve : tie.Need-sub-shelve
+sub-shelve c = from-in (now (c .before .before .before .before .before .before .args .image)) (now (c .before .before .before .before .before .before .args .pool)) (now (c .before .before .before .before .before .before .args .table)) (c .before .before .before .before .before .before .args .from) (now (c .before .before .before .before .before .before .args .words)) (now (c .before .before .before .before .before .before .args .prev)) (c .before .before .before .before .before .before .pre)
+
+-- src/lib.rt:24:33
+part-shelve-start : tie.Need-part-shelve-start
+part-shelve-start c = let q = from-in (now (c .before .before .before .before .before .before .args .image)) (now (c .before .before .before .before .before .before .args .pool)) (now (c .before .before .before .before .before .before .args .table)) (c .before .before .before .before .before .before .args .from) (now (c .before .before .before .before .before .before .args .words)) (now (c .before .before .before .before .before .before .args .prev)) (c .before .before .before .before .before .before .pre) in omega (arith, q)
+
+-- src/lib.rt:24:33
+part-shelve-end : tie.Need-part-shelve-end
+part-shelve-end c = search needs
+
+-- src/lib.rt:24:5
+shelve-requires : tie.Need-shelve-requires
+shelve-requires c κs = readied (now (c .before .before .before .before .before .before .before .before .before .args .image)) (now (c .before .before .before .before .before .before .before .before .before .args .pool)) (now (c .before .before .before .before .before .before .before .before .before .args .table)) (c .before .before .before .before .before .before .before .before .before .args .from) (now (c .before .before .before .before .before .before .before .before .before .args .words)) (now (c .before .before .before .before .before .before .before .before .before .args .prev)) (c .before .before .before .before .before .before .before .before .before .pre)
+
+-- src/lib.rt:13:1
+same-length : tie.Need-same-length
+same-length c = search needs
+
+-- src/lib.rt:13:1
+same-length-2 : tie.Need-same-length-2
+same-length-2 c = search needs
+
+-- src/lib.rt:13:1
+same-length-3 : tie.Need-same-length-3
+same-length-3 c = search needs
+
+-- src/lib.rt:13:1
+same-length-4 : tie.Need-same-length-4
+same-length-4 c = search needs
+
+-- src/lib.rt:13:1
+returns : tie.Need-returns
+returns c = done-on (now (c .before .before .before .before .before .before .before .before .before .before .before .before .before .before .before .before .before .before .args .image)) (now (c .before .before .before .before .before .before .before .before .before .before .before .before .before .before .before .before .before .before .args .pool)) (now (c .before .before .before .before .before .before .before .before .before .before .before .before .before .before .before .before .before .before .args .table)) (c .before .before .before .before .before .before .before .before .before .before .before .before .before .before .before .before .before .before .args .from) (now (c .before .before .before .before .before .before .before .before .before .before .before .before .before .before .before .before .before .before .args .words)) (now (c .before .before .before .before .before .before .before .before .before .before .before .before .before .before .before .before .before .before .args .prev)) (c .before .before .before .before .before .before .before .before .before .before .before .before .before .before .before .before .before .before .pre) _ _ _ _ _ _ (c .before .before .before .before .before .before .before .before .shelve .ensures)
+
+pub shelve-in-spec : {M : Type 1} → statement M
+shelve-in-spec =
+    tie.close
+    (tie.spec
+    mul-shelve
+    sub-shelve
+    part-shelve-start
+    part-shelve-end
+    shelve-requires
+    same-length
+    same-length-2
+    same-length-3
+    same-length-4
+    returns)

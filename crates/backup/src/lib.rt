@@ -1,0 +1,143 @@
+// The backup call, step by step on the table.
+ghost use mathlib.Core.Path.{_≡_};
+ghost use mathlib.Core.List.{List, map, []};
+ghost use Prim.Native.Nat.{ℕ, _+_, _*_, _/_, _≤_, _<_};
+ghost use lib.ListN.{length, getD, take};
+ghost use Rattle.model.specs.State.{done};
+ghost use Rattle.model.specs.Image.{imageSegments};
+ghost use Rattle.model.specs.Place.{placeAll};
+ghost use Rattle.model.specs.Table.{shapeOf, stateIn, pointerWord, wordToPointer};
+ghost use Rattle.model.specs.Calls.{backupOf};
+ghost use Rattle.laws.proofs.Stores.{Sound, tillAt};
+ghost use Rattle.accept.specs.Accept.{Accepted};
+ghost use Rattle.backup.specs.Backup.{ShelfReady, DidOn, FileReady, FiledOn};
+ghost use Rattle.backup.specs.Call.{newestOf, Begun, backedUpAnswer};
+use tills::Head;
+
+// Steps 1 to 3 on the table's records, which begin at `from`. A refusal alters nothing.
+pub fn shelve_in(
+    image: &[u8],
+    pool: &mut [u8],
+    table: &mut [u32],
+    from: usize,
+    words: &mut [u32],
+    prev: &mut [u32],
+) -> u32
+    requires { ⌜ ShelfReady (now image) (now pool) (now table) from (now words) (now prev) ⌝ }
+    ensures { λ r. ⌜ DidOn (now (image .entry)) (map wordToPointer (now (prev .entry))) (now (pool .entry)) (now (table .entry)) (placeAll (done (record { shelf = stateIn (shapeOf (now (table .entry))) (now (pool .entry)) (now (table .entry)) .shelf; pointers = [] })) (imageSegments 64 8 (now (image .entry)))) r (now (pool .exit)) (now (table .exit)) (now (words .exit)) (now (prev .exit)) ⌝ }
+{
+    shelve::shelve(image, pool, &mut table[from..], words, prev)
+}
+
+// The till's words, from `at` to `end`, get the turned pointers and the new version.
+pub fn file_in(
+    table: &mut [u32],
+    at: usize,
+    end: usize,
+    b: usize,
+    turned: &[u32],
+    bytes: u32,
+    pointers: &[u32],
+)
+    requires { ⌜ FileReady (now table) at end b (now turned) (now pointers) ⌝ }
+    ensures { λ _. ⌜ FiledOn at end b (now (turned .entry)) bytes (now (pointers .entry)) (now (table .entry)) (now (table .exit)) ⌝ }
+{
+    filing::file_version(&mut table[at..end], b, turned, bytes, pointers);
+}
+
+// Refusal 0 is an accepted call.
+pub struct BackedUp {
+    pub refusal: u32,
+    pub version: u32,
+}
+
+// The newest version's pointer words, to the front of prev; how many.
+fn copy_newest(pool: &[u8], table: &[u32], till: u32, at: usize, prev: &mut [u32]) -> usize
+    requires { ⌜ Sound (now pool) (now table) × (till < getD (now table) 0 0) × (at ≡ tillAt (shapeOf (now table)) till) × (length (now prev) ≡ 1024) ⌝ }
+    ensures { λ r. ⌜ (take r (now (prev .exit)) ≡ map pointerWord (newestOf (now (pool .entry)) (now (table .entry)) till)) × (r ≤ getD (now (table .entry)) 2 0) ⌝ }
+{
+    let b = table[2] as usize;
+    let end = at + tills::till_words(table);
+    filing::newest_pointers(&table[at..end], b, prev)
+}
+
+// All steps, from the newest version's pointers on.
+fn shelve_and_file(
+    pool: &mut [u8],
+    table: &mut [u32],
+    till: u32,
+    head: Head,
+    image: &[u8],
+    prev: &mut [u32],
+    words: &mut [u32],
+) -> BackedUp
+    requires { ⌜ Begun (now pool) (now table) till head (now image) (now prev) (now words) ⌝ }
+    ensures { λ r. ⌜ backedUpAnswer r (now (pool .exit)) (now (table .exit)) ≡ backupOf (now (pool .entry)) (now (table .entry)) till (now (image .entry)) ⌝ }
+{
+    let from = tills::records_at(table);
+    let b = table[2] as usize;
+    let end = head.at + tills::till_words(table);
+    let r = shelve_in(image, pool, table, from, words, prev);
+    if r != 0 {
+        return BackedUp {
+            refusal: r,
+            version: 0,
+        };
+    }
+    let bytes = image.len();
+    let blocks = (bytes + 63) / 64;
+    file_in(table, head.at, end, b, prev, bytes as u32, &words[..blocks]);
+    BackedUp {
+        refusal: 0,
+        version: head.last + 1,
+    }
+}
+
+// With room for the newest version's pointers and for the new ones.
+fn back_up_with(
+    pool: &mut [u8],
+    table: &mut [u32],
+    till: u32,
+    image: &[u8],
+    prev: &mut [u32],
+    words: &mut [u32],
+) -> BackedUp
+    requires { ⌜ Sound (now pool) (now table) × Accepted (now pool) (now table) till (now image) × (length (now prev) ≡ 1024) × (length (now words) ≡ 1024) ⌝ }
+    ensures { λ r. ⌜ backedUpAnswer r (now (pool .exit)) (now (table .exit)) ≡ backupOf (now (pool .entry)) (now (table .entry)) till (now (image .entry)) ⌝ }
+{
+    let head = tills::till_head(pool, table, till);
+    let n = copy_newest(pool, table, till, head.at, prev);
+    let count = (image.len() + 511) / 512 * 8;
+    shelve_and_file(
+        pool,
+        table,
+        till,
+        head,
+        image,
+        &mut prev[..n],
+        &mut words[..count],
+    )
+}
+
+fn back_up_accepted(pool: &mut [u8], table: &mut [u32], till: u32, image: &[u8]) -> BackedUp
+    requires { ⌜ Sound (now pool) (now table) × Accepted (now pool) (now table) till (now image) ⌝ }
+    ensures { λ r. ⌜ backedUpAnswer r (now (pool .exit)) (now (table .exit)) ≡ backupOf (now (pool .entry)) (now (table .entry)) till (now (image .entry)) ⌝ }
+{
+    let mut prev = [0u32; 1024];
+    let mut words = [0u32; 1024];
+    back_up_with(pool, table, till, image, &mut prev, &mut words)
+}
+
+pub fn back_up(pool: &mut [u8], table: &mut [u32], till: u32, image: &[u8]) -> BackedUp
+    requires { ⌜ Sound (now pool) (now table) ⌝ }
+    ensures { λ r. ⌜ backedUpAnswer r (now (pool .exit)) (now (table .exit)) ≡ backupOf (now (pool .entry)) (now (table .entry)) till (now (image .entry)) ⌝ }
+{
+    let r = accept::backup_refusal(pool, table, till, image);
+    if r != 0 {
+        return BackedUp {
+            refusal: r,
+            version: 0,
+        };
+    }
+    back_up_accepted(pool, table, till, image)
+}

@@ -1,0 +1,49 @@
+-- A till's words with room for its slots, and a till with a version more.
+use mathlib.Core.Path.{_≡_}
+use mathlib.Core.List.{List, [], _∷_, _++_}
+use Prim.Native.Nat.{ℕ, suc, _+_, _*_, _-_, _/_, _≤_, _<_}
+use lib.ListN.{length, getD}
+use Rattle.lists.specs.Each.{Each}
+use Rattle.model.specs.State.{Pointer, Version, Till}
+use Rattle.model.specs.Calls.{withNewestPointers}
+
+-- where the newest held version's slot begins
+abbrev pub newestAt : ℕ → List ℕ → ℕ
+newestAt b till = 4 + (getD till 1 0 - 1) * (3 + b)
+
+-- the held versions' slots, for images of b blocks, are there
+pub record Room (b : ℕ) (till : List ℕ) : Type 0 where
+  pub small : b ≤ 1024
+  pub four : 4 ≤ length till
+  pub long : length till ≤ 65732
+  pub slots : 4 + getD till 1 0 * (3 + b) ≤ length till
+
+-- the newest version has at most b blocks
+abbrev pub FewBlocks : ℕ → List ℕ → Type 0
+FewBlocks b till = 0 < getD till 1 0 → getD till (newestAt b till + 1) 0 ≤ 64 * b
+
+-- as many pointers as the length has blocks
+pub record Whole (b : ℕ) (u : Version) : Type 0 where
+  pub blocks : length (u .pointers) ≡ (u .length + 63) / 64
+  pub most : length (u .pointers) ≤ b
+
+pub record Held (v b : ℕ) (t : Till) : Type 0 where
+  pub most : length (t .versions) ≤ v
+  pub versions : Each (Whole b) (t .versions)
+
+abbrev pub turnedTill : Till → List Pointer → Till
+turnedTill t ps = record { last = t .last; versions = withNewestPointers (t .versions) ps }
+
+abbrev pub addedTill : Till → ℕ → List Pointer → Till
+addedTill t bytes ps = record { last = suc (t .last); versions = t .versions ++ (record { number = suc (t .last); length = bytes; pointers = ps } ∷ []) }
+
+-- the two words of the head, and the length, are as they were
+pub record SameHead (old new : List ℕ) : Type 0 where
+  pub size : length new ≡ length old
+  pub last : getD new 0 0 ≡ getD old 0 0
+  pub held : getD new 1 0 ≡ getD old 1 0
+
+-- a slot is left, and a number
+pub record SlotLeft (b : ℕ) (till : List ℕ) : Type 0 where
+  pub slot : 4 + (getD till 1 0 + 1) * (3 + b) ≤ length till
+  pub number : getD till 0 0 ≤ 65535
