@@ -20,7 +20,7 @@ use Rattle.model.specs.Sound.{hasCells, areFilled}
 use Rattle.audit_words.specs.Words.{bitOf}
 use Rattle.audit_words.proofs.Positions.{bit-off, position-held, other-cells, segment-at}
 use Rattle.audit_cells.specs.Cells.{CellsSay}
-use Rattle.audit_cells.proofs.Marking.{collect-at, Apart, fits-apart, apart-fits, none-marked, marked-all}
+use Rattle.lists.proofs.Apart.{collect-at, Apart, fits-apart, apart-fits, none-marked, marked-all}
 
 -- ---- the cells named, in the code's order
 

@@ -1,5 +1,6 @@
 -- The steps on the table, joined to the call's answer.
 use mathlib.Core.Path.{_≡_, refl, sym, ap, ap₂, _∙_, subst}
+use Rattle.lists.proofs.Maps.{take-map}
 use mathlib.Core.List.{List, [], _∷_, map}
 use Prim.Native.Nat.{ℕ, zero, suc, _+_, _≤_, _<_}
 use native.Mathlib.Omega.{arith}
@@ -16,11 +17,6 @@ use Rattle.laws.proofs.Tills.{there}
 use Rattle.accept.specs.Accept.{Accepted}
 use Rattle.accept.proofs.Judging.{goes-on}
 use Rattle.backup.specs.Backup.{sweptState, ShelvedOn, DidOn, FiledOn}
-
-take-map : (k : ℕ) (ps : List Pointer) → take k (map pointerWord ps) ≡ map pointerWord (take k ps)
-take-map zero ps = refl
-take-map (suc k) [] = refl
-take-map (suc k) (p ∷ ps) = ap (λ (l : List ℕ). pointerWord p ∷ l) (take-map k ps)
 
 turn-size : (shelf : Shelf) (bs : List Block) (qs : List Pointer) → length (turn shelf bs qs) ≡ length qs
 unfolding turn
@@ -63,6 +59,6 @@ module _ (pool table : List ℕ) (h : Sound pool table) (t : ℕ) (image : List 
             let lt : length turned ≡ length ps = turn-size (p .shelf) (imageBlocks 64 image) ps in
             let v : last + 1 ≡ suc (tillOf st t .last) = omega (arith, el) in
             let e = f (shapeOf table) (sweptState st (imageBlocks 64 image) ps (p .shelf)) t turned (take k (p .pointers)) (there h t (a .there))
-            eb ea ee (q .1 .tables) (a .free .room) (q .1 .turned) lt (ap (take k) (q .1 .placed) ∙ take-map k (p .pointers)) in
+            eb ea ee (q .1 .tables) (a .free .room) (q .1 .turned) lt (ap (take k) (q .1 .placed) ∙ take-map pointerWord k (p .pointers)) in
             let e′ = e ∙ ap (λ (j : ℕ). stateToWords (shapeOf table) (withTill st t (tillWith (tillOf st t) turned (length image) (take j (p .pointers))) (sweptState st (imageBlocks 64 image) ps (p .shelf) .shelf))) ek in
             (λ i. record { refusal = 0; version = v i; pool = q .1 .bytes i; table = e′ i })

@@ -46,6 +46,7 @@ pub fn file_in(
 }
 
 // Refusal 0 is an accepted call.
+#[repr(C)]
 pub struct BackedUp {
     pub refusal: u32,
     pub version: u32,

@@ -13,6 +13,7 @@ use Rattle.lists.proofs.Slices.{drop-end, tail-all, tail-put, cut-small, cut-is
 use Rattle.lists.proofs.Rows.{fill-split, fill-zeros, zero-fill}
 use Rattle.model.specs.Image.{blockFrom}
 use Rattle.lists.proofs.Appends.{same-append}
+use Rattle.lists.proofs.Written.{copied-part}
 
 -- the whole, whose n elements from a on were filled
 pub filled-part : (a n v : ℕ) (xs ys : List ℕ) → a + n ≤ length xs → ys ≡ replicate (length (midOf a ((a + n) - a) xs)) v
@@ -20,15 +21,6 @@ pub filled-part : (a n v : ℕ) (xs ys : List ℕ) → a + n ≤ length xs → y
 filled-part a n v xs ys h e =
     let k : (a + n) - a ≡ n = omega arith in
     rw (e, mid-len a (a + n) xs h, post-is a (a + n) xs (omega arith), k)
-
--- the whole, whose end from a on was lent, and s copied to the front of that
-copied-part : (a : ℕ) (xs s ys : List ℕ) → a + length s ≤ length xs → ys ≡ s ++ drop (length s) (midOf a (length xs - a) xs)
-    → putMid a (length xs - a) xs ys ≡ take a xs ++ (s ++ drop (a + length s) xs)
-copied-part a xs s ys h e =
-    let l : length (drop a xs) ≤ length xs - a = omega (arith, length-drop a xs) in
-    let whole : midOf a (length xs - a) xs ≡ drop a xs = take-all _ _ l in
-    let none : drop (length xs - a) (drop a xs) ≡ [] = drop-end _ _ l in
-    rw (e, whole, none, append-nil, drop-drop)
 
 -- the same where s is n elements of another list, from a start on
 pub copied-block : (from n to : ℕ) (pool out ys : List ℕ) → from + n ≤ length pool → to + n ≤ length out

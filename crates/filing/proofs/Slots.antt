@@ -11,6 +11,7 @@ use Rattle.lists.specs.Each.{Each}
 use Rattle.lists.specs.Rows.{fill, rows, joined}
 use Rattle.lists.proofs.Rows.{fill-split, fill-zeros, length-fill, fill-add, length-rows, wide-all, rows-append}
 use Rattle.lists.proofs.Slices.{mid-is, mid-put, drop-same, tail-is, tail-put}
+use Rattle.lists.proofs.Filled.{over-fill, over-zeros}
 use Rattle.model.specs.State.{Pointer, Version, Till}
 use Rattle.model.specs.Table.{pointerWord, versionToWords, tillToWords}
 use Rattle.model.specs.Calls.{newestPointers, withNewestPointers, tillWith}
@@ -109,21 +110,6 @@ till-slot v b last us h =
     ∙ ap (λ (l : List ℕ). fill (3 + b) [] ++ fill (v * (3 + b) - suc (length us) * (3 + b)) l) (drop-nil (3 + b)))
 
 -- ---- pointers in a slot
-
-drop-zeros : (n b : ℕ) → drop n (fill b []) ≡ fill (b - n) []
-drop-zeros n b = ap (drop n) (fill-zeros b) ∙ drop-same 0 n b ∙ sym (fill-zeros (b - n))
-
--- words over as many in front
-pub over-fill : (b : ℕ) (ws ps : List ℕ) → length ws ≡ length ps → length ps ≤ b → ps ++ drop (length ps) (fill b ws) ≡ fill b ps
-over-fill b ws ps e h =
-    let n : b - length ws ≡ b - length ps = omega (arith, e) in
-    ap (λ (l : List ℕ). ps ++ drop (length ps) l) (fill-split b ws (omega (arith, e)))
-    ∙ ap (λ (l : List ℕ). ps ++ l) (drop-at ws (fill (b - length ws) []) (length ps) e)
-    ∙ ap (λ (k : ℕ). ps ++ fill k []) n
-    ∙ sym (fill-split b ps h)
-
-pub over-zeros : (b : ℕ) (ps : List ℕ) → length ps ≤ b → ps ++ drop (length ps) (fill b []) ≡ fill b ps
-over-zeros b ps h = ap (λ (l : List ℕ). ps ++ l) (drop-zeros (length ps) b) ∙ sym (fill-split b ps h)
 
 -- the head of a slot goes to the words before
 slot-head : (b : ℕ) (p : List ℕ) (u : Version) (z : List ℕ)
@@ -311,11 +297,6 @@ version-added b till bytes pws slot out lp es eo v t ps most et ep =
     ∙ sym (till-split v b (suc (t .last)) us new most)
 
 -- ---- two words, and a slot's
-
-pub two-set : (ws : List ℕ) (a b : ℕ) → 2 ≤ length ws → set (set ws 0 a) 1 b ≡ a ∷ b ∷ drop 2 ws
-two-set [] a b h = absurd (omega (arith, h))
-two-set (x ∷ []) a b h = absurd (omega (arith, h))
-two-set (x ∷ y ∷ ws) a b h = refl
 
 pub slot-put : (slot two ys ps : List ℕ) (a b : ℕ) → 3 ≤ length slot → two ≡ a ∷ b ∷ drop 2 slot → ys ≡ ps ++ drop (length ps) (midOf 3 (length two - 3) two)
     → putMid 3 (length two - 3) two ys ≡ a ∷ b ∷ getD slot 2 0 ∷ (ps ++ drop (length ps) (drop 3 slot))

@@ -11,7 +11,7 @@ use Rattle.lists.specs.Each.{Each}
 use Rattle.lists.specs.Lists.{isIn, allZero, counted}
 use Rattle.lists.proofs.Counted.{counted-is}
 use Rattle.lists.proofs.Sets.{map-at}
-use Rattle.lists.proofs.Uses.{uses, in-uses, not-in, uses-here, uses-in}
+use Rattle.lists.proofs.Uses.{uses, in-uses, not-in, uses-here, uses-in, each-used}
 use Rattle.model.specs.Records.{namedCells, cellsOf, cellOf}
 use Rattle.model.specs.Runs.{freeCells, Run, scan, findRun}
 use Rattle.model.specs.State.{Block, Segment, nullPosition, held, removed, Shelf}
@@ -56,11 +56,6 @@ find-same shelf x need marks em o e =
     ap (λ (l : List Bool). scan need l 0 0 none) (free-marks shelf x ∙ ap (map not) (sym em)) ∙ sym e
 
 -- ---- the cells that a record names
-
-pub each-used : (P : ℕ → Type 0) (xs : List ℕ) → ((c : ℕ) → 0 < uses c xs → P c) → Each P xs
-unfolding uses
-each-used P [] f = tt
-each-used P (x ∷ xs) f = (f x (omega (arith, uses-here x xs)), each-used P xs (λ c h. f c (omega arith)))
 
 pub record Named (shelf : Shelf) (c : ℕ) : Type 0 where
   pub inside : c < length (shelf .cells)

@@ -14,6 +14,7 @@ use Rattle.lists.specs.Masks.{maskOf}
 use Rattle.lists.specs.Rows.{joined}
 use Rattle.lists.proofs.Marks.{marked-append, length-marked}
 use Rattle.lists.proofs.Slices.{drop-next, drop-end}
+use Rattle.lists.proofs.Apart.{marked-at}
 use Rattle.model.specs.Measures.{baseMeasures}
 use Rattle.model.specs.Records.{isHeld, cellOf, cellsOf, namedCells}
 use Rattle.model.specs.State.{Segment, Shelf}
@@ -46,18 +47,6 @@ marked-next : (segs : List Segment) (k : ℕ) (os : List Bool) → k < length se
     → marked (namedCells (drop (k + 1) segs)) (marked (cellsOf (getD segs k [])) os) ≡ marked (namedCells (drop k segs)) os
 unfolding namedCells joined
 marked-next segs k os h = rw (drop-next segs k [] h) (sym (marked-append (cellsOf (getD segs k [])) (joined (map cellsOf (drop (k + 1) segs))) os))
-
-marked-at : (cs : List ℕ) (os : List Bool) (c : ℕ) → c < length os → getD (marked cs os) c false ≡ cond (isIn c cs) true (getD os c false)
-unfolding marked isIn
-marked-at [] os c h = refl
-marked-at (d ∷ cs) os c h =
-    marked-at cs (set os d true) c (omega (arith, length-set os d true)) ∙ go (eqb c d) refl (isIn c cs)
-  where
-    go : (b : Bool) → eqb c d ≡ b → (i : Bool) → cond i true (getD (set os d true) c false) ≡ cond (cond b true i) true (getD os c false)
-    go true e true = refl
-    go true e false = rw (eqb-true c d e) (getD-set-same os d true false (rw (eqb-true c d e) at h))
-    go false e true = refl
-    go false e false = getD-set-other os d c true false (eqb-false c d e)
 
 -- the cells that are named are those that are filled
 marked-all : (shelf : Shelf) → Exact shelf → (n : ℕ) → n ≡ length (shelf .cells) → marked (namedCells (shelf .records)) (replicate n false) ≡ map filled (shelf .cells)

@@ -11,7 +11,7 @@ use Rattle.lists.specs.Each.{Each}
 use Rattle.lists.specs.Lists.{keep}
 use Rattle.lists.specs.Masks.{maskOf}
 use Rattle.lists.proofs.Each.{each-at, each-weaken}
-use Rattle.lists.proofs.Uses.{uses}
+use Rattle.lists.proofs.Uses.{uses, each-used}
 use Rattle.model.specs.Measures.{baseMeasures}
 use Rattle.model.specs.Records.{cellsOf, cellOf, isHeld, cellAt, namedCells, freeSegment}
 use Rattle.model.specs.Runs.{Run}
@@ -25,7 +25,7 @@ use Rattle.records.proofs.Records.{length-moved}
 use Rattle.shelf.proofs.Read.{store-at}
 use Rattle.pool.specs.Pool.{along, clearAt, freeAt, copyTo, takeAt}
 use Rattle.kept.specs.Kept.{Coded, filled}
-use Rattle.kept.proofs.Frees.{Named, named-cell, each-used}
+use Rattle.kept.proofs.Frees.{Named, named-cell}
 use Rattle.kept.proofs.Walks.{picked, along-picked, fold-clear, fold-free, held-picked, goes-picked, stays-picked, sized-clear, fold-copy, fold-take, sized-sets, Source, Sized, bytes}
 
 -- a record's words put in the place of record k's

@@ -19,6 +19,7 @@ pub struct Capacities {
 }
 
 // The answer of table length: a refusal's number, or 0 and the words.
+#[repr(C)]
 pub struct TableLength {
     pub refusal: u32,
     pub words: u32,

@@ -6,7 +6,7 @@ use Prim.Native.Nat.{ℕ, suc}
 use native.Mathlib.Nat.{suc-inj, suc-ne-zero}
 use lib.Dec.{eqb}
 use lib.ListN.{length}
-use Rattle.lists.specs.Lists.{every, allZero, sameNumbers}
+use Rattle.lists.specs.Lists.{every, allZero, sameNumbers, isIn}
 
 -- ---- tests of a list in two pieces
 
@@ -38,5 +38,14 @@ same-lengths (x ∷ a) [] h = refl
 same-lengths (x ∷ a) (y ∷ b) h = rw (same-lengths a b (λ e. h (ap suc e))) (go (eqb x y))
   where
     go : (t : Bool) → cond t false false ≡ false
+    go true = refl
+    go false = refl
+
+pub in-append : (c : ℕ) (xs ys : List ℕ) → isIn c (xs ++ ys) ≡ cond (isIn c xs) true (isIn c ys)
+unfolding isIn
+in-append c [] ys = refl
+in-append c (x ∷ xs) ys = rw (in-append c xs ys) (go (eqb c x))
+  where
+    go : (t : Bool) → cond t true (cond (isIn c xs) true (isIn c ys)) ≡ cond (cond t true (isIn c xs)) true (isIn c ys)
     go true = refl
     go false = refl

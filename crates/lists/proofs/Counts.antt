@@ -1,14 +1,15 @@
 -- Laws of `count` and `total`.
 use mathlib.Core.Path.{_≡_, refl, sym, ap, ap₂, _∙_}
 use mathlib.Core.Bool.{Bool, true, false, cond}
-use mathlib.Core.List.{List, [], _∷_, _++_}
+use mathlib.Core.List.{List, [], _∷_, _++_, map}
 use Prim.Native.Nat.{ℕ, zero, suc, _+_, _≤_, _<_, zero-le}
 use native.Mathlib.Nat.{zero-add, add-zero, add-assoc, not-suc-le-zero}
 use native.Mathlib.Omega.{arith}
-use lib.ListN.{length, getD}
+use lib.ListN.{length, getD, drop}
 use lib.Dec.{eqb}
 use borrow.Author.Tests.{eqb-true, eqb-false, ne-eqb}
 use Rattle.lists.specs.Lists.{counted, count, total}
+use Rattle.lists.proofs.Slices.{drop-next, drop-end}
 
 -- ---- count
 
@@ -68,3 +69,18 @@ one-hit x i (suc n) l h = go (eqb i x) refl (λ q. one-hit x (suc i) n q (omega 
     go : (t : Bool) → eqb i x ≡ t → (suc i ≤ x → total (hit x) (counted (λ c. c) (suc i) n) ≡ 1) → cond (eqb i x) 1 0 + total (hit x) (counted (λ c. c) (suc i) n) ≡ 1
     go true e r = rw e (ap (λ (k : ℕ). 1 + k) (no-hit x (suc i) n (omega (arith, eqb-true i x e))))
     go false e r = rw e (zero-add _ ∙ r (omega (arith, l, eqb-false i x e)))
+
+-- ---- a sum, one after the other
+
+pub sum-next : (ws : List ℕ) (i n : ℕ) → i < length ws → n + total (λ n. n) (drop i ws) ≡ total (λ n. n) ws → (n + getD ws i 0) + total (λ n. n) (drop (i + 1) ws) ≡ total (λ n. n) ws
+unfolding total
+sum-next ws i n h e = let d : total (λ n. n) (drop i ws) ≡ getD ws i 0 + total (λ n. n) (drop (i + 1) ws) = ap (total (λ (n : ℕ). n)) (drop-next ws i 0 h) in omega (arith, d, e)
+
+pub sum-end : (ws : List ℕ) (i n : ℕ) → length ws ≤ i → n + total (λ n. n) (drop i ws) ≡ total (λ n. n) ws → n ≡ total (λ n. n) ws
+unfolding total
+sum-end ws i n h e = let d : total (λ n. n) (drop i ws) ≡ 0 = ap (total (λ (n : ℕ). n)) (drop-end ws i h) in omega (arith, d, e)
+
+pub sum-map : {A : Type 0} (f : A → ℕ) (xs : List A) → total (λ n. n) (map f xs) ≡ total f xs
+unfolding total
+sum-map f [] = refl
+sum-map f (x ∷ xs) = ap (λ (n : ℕ). f x + n) (sum-map f xs)

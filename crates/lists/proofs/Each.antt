@@ -1,13 +1,13 @@
 -- Laws of `Each`: what holds of every element.
 use mathlib.Core.Path.{_≡_, refl}
-use mathlib.Core.Bool.{Bool, true}
+use mathlib.Core.Bool.{Bool, true, false, cond}
 use mathlib.Core.List.{List, [], _∷_, _++_, map}
 use Prim.Native.Nat.{ℕ, zero, suc, _<_, suc-le-suc}
 use native.Mathlib.Nat.{not-suc-le-zero, le-of-suc-le-suc, zero-lt-suc}
 use native.Mathlib.Omega.{arith}
 use lib.ListN.{length, getD, set, take, drop, replicate}
 use lib.Seq.{sets}
-use Rattle.lists.specs.Lists.{counted, every}
+use Rattle.lists.specs.Lists.{counted, every, keep}
 use Rattle.lists.specs.Rows.{joined, rows}
 use Rattle.lists.specs.Each.{Each}
 use Rattle.lists.proofs.Tests.{every-head, every-tail}
@@ -104,3 +104,13 @@ pub each-joined : {A B : Type 0} (P : B → Type 0) (Q : A → Type 0) (f : A �
 unfolding joined
 each-joined P Q f g [] h = tt
 each-joined P Q f g (x ∷ xs) h = each-append P (f x) (rows f xs) (g x (h .0)) (each-joined P Q f g xs (h .1))
+
+-- of those that are kept
+pub keep-each : {A : Type 0} (P : A → Type 0) (t : A → Bool) (xs : List A) → Each P xs → Each P (keep t xs)
+unfolding keep
+keep-each P t [] e = tt
+keep-each P t (x ∷ xs) e = go (t x) (keep-each P t xs (e .1))
+  where
+    go : (b : Bool) → Each P (keep t xs) → Each P (cond b (x ∷ keep t xs) (keep t xs))
+    go true r = (e .0, r)
+    go false r = r

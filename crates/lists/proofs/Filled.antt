@@ -1,17 +1,18 @@
 -- Lists filled up with zeros and cut again, and rows read and written back.
 use mathlib.Core.Path.{_≡_, refl, sym, ap, ap₂, _∙_}
 use mathlib.Core.Bool.{true}
-use mathlib.Core.List.{List, [], _∷_, _++_, map}
-use Prim.Native.Nat.{ℕ, zero, suc, _+_, _*_, _≤_, _<_}
+use mathlib.Core.List.{List, [], _∷_, _++_, map, append-assoc}
+use Prim.Native.Nat.{ℕ, zero, suc, _+_, _*_, _≤_, _<_, _-_}
 use native.Mathlib.Nat.{suc-inj, mul-le-mul-right, suc-mul}
 use native.Mathlib.Omega.{arith}
-use lib.ListN.{length, getD, take, drop, length-drop, length-map}
-use lib.Seq.{take-at, length-take-le}
+use lib.ListN.{length, getD, take, drop, length-drop, length-map, replicate, length-append, replicate-append-replicate}
+use lib.Seq.{take-at, length-take-le, drop-at}
 use Rattle.lists.specs.Lists.{every, allZero}
 use Rattle.lists.specs.Rows.{rows, parts, fill}
 use Rattle.lists.specs.Each.{Each}
 use Rattle.lists.proofs.Each.{each-map}
 use Rattle.lists.proofs.Rows.{fill-split, fill-zeros, zeros-fill}
+use Rattle.lists.proofs.Slices.{drop-same}
 use Rattle.lists.proofs.Same.{zeros-eq}
 use Rattle.lists.proofs.Cuts.{joined-parts, parts-joined, each-part}
 
@@ -70,3 +71,32 @@ module _ {A : Type 0} (enc : A → List ℕ) (dec : List ℕ → A) (k n : ℕ) 
 pub with-long {ℓ} : {A : Type ℓ} (P Q : List A → Type 0) (k : ℕ) → ((x : List A) → length x ≡ k → P x → Q x) → (xs : List (List A)) → Each (λ (x : List A). length x ≡ k) xs → Each P xs → Each Q xs
 with-long P Q k f [] w p = tt
 with-long P Q k f (x ∷ xs) w p = (f x (w .0) (p .0), with-long P Q k f xs (w .1) (p .1))
+
+-- ---- words over others, and words that move down
+
+drop-zeros : (n b : ℕ) → drop n (fill b []) ≡ fill (b - n) []
+drop-zeros n b = ap (drop n) (fill-zeros b) ∙ drop-same 0 n b ∙ sym (fill-zeros (b - n))
+
+-- words over as many in front
+pub over-fill : (b : ℕ) (ws ps : List ℕ) → length ws ≡ length ps → length ps ≤ b → ps ++ drop (length ps) (fill b ws) ≡ fill b ps
+over-fill b ws ps e h =
+    let n : b - length ws ≡ b - length ps = omega (arith, e) in
+    ap (λ (l : List ℕ). ps ++ drop (length ps) l) (fill-split b ws (omega (arith, e)))
+    ∙ ap (λ (l : List ℕ). ps ++ l) (drop-at ws (fill (b - length ws) []) (length ps) e)
+    ∙ ap (λ (k : ℕ). ps ++ fill k []) n
+    ∙ sym (fill-split b ps h)
+
+pub over-zeros : (b : ℕ) (ps : List ℕ) → length ps ≤ b → ps ++ drop (length ps) (fill b []) ≡ fill b ps
+over-zeros b ps h = ap (λ (l : List ℕ). ps ++ l) (drop-zeros (length ps) b) ∙ sym (fill-split b ps h)
+
+pub shift-fill : (n w : ℕ) (xs ys : List ℕ) → length xs ≡ w → w + length ys ≤ n → drop w (fill n (xs ++ ys)) ++ replicate w 0 ≡ fill n ys
+shift-fill n w xs ys l h =
+    let lx : length (xs ++ ys) ≡ w + length ys = length-append xs ys ∙ ap (λ (k : ℕ). k + length ys) l in
+    let m : ℕ = n - length (xs ++ ys) in
+    let a : fill n (xs ++ ys) ≡ (xs ++ ys) ++ fill m [] = fill-split n (xs ++ ys) (omega arith) in
+    let b : drop w ((xs ++ ys) ++ fill m []) ≡ ys ++ fill m [] = ap (drop w) (append-assoc xs ys (fill m [])) ∙ drop-at xs (ys ++ fill m []) w l in
+    let c : m + w ≡ n - length ys = omega arith in
+    let d : fill m [] ++ replicate w 0 ≡ fill (n - length ys) [] =
+    ap (λ (z : List ℕ). z ++ replicate w 0) (fill-zeros m) ∙ replicate-append-replicate m w 0 ∙ ap (λ (k : ℕ). replicate {A = ℕ} k 0) c ∙ sym (fill-zeros (n - length ys)) in
+    ap (λ (z : List ℕ). drop w z ++ replicate w 0) a ∙ ap (λ (z : List ℕ). z ++ replicate w 0) b ∙ append-assoc ys (fill m []) (replicate w 0)
+    ∙ ap (λ (z : List ℕ). ys ++ z) d ∙ sym (fill-split n ys (omega arith))

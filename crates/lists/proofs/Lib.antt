@@ -25,3 +25,4 @@ pub mod Joins
 pub mod Puts
 pub mod Written
 pub mod Maps
+pub mod Apart

@@ -1,7 +1,7 @@
 -- A list mapped in place, one element after the other.
-use mathlib.Core.Path.{_∙_, _≡_, ap, sym}
+use mathlib.Core.Path.{_∙_, _≡_, refl, ap, sym}
 use mathlib.Core.List.{List, [], _++_, _∷_, append-nil, map, map-append}
-use Prim.Native.Nat.{_+_, _<_, _≤_, ℕ}
+use Prim.Native.Nat.{_+_, _<_, _≤_, ℕ, zero, suc}
 use native.Mathlib.Numerals.{add-one}
 use native.Mathlib.Omega.{arith}
 use lib.ListN.{drop, getD, length, length-map, set, take}
@@ -19,3 +19,8 @@ map-more f xs ys₀ ys b v h n e ev =
 
 pub map-end : (f : ℕ → ℕ) (xs ys₀ ys : List ℕ) (b : ℕ) → length xs ≤ b → length ys₀ ≡ length xs → ys ≡ map f (take b xs) ++ drop b ys₀ → ys ≡ map f xs
 map-end f xs ys₀ ys b h n e = e ∙ rw (take-all b xs h, drop-end ys₀ b (omega arith)) (append-nil (map f xs))
+
+pub take-map {ℓ κ} : {A : Type ℓ} {B : Type κ} (f : A → B) (k : ℕ) (xs : List A) → take k (map f xs) ≡ map f (take k xs)
+take-map f zero xs = refl
+take-map f (suc k) [] = refl
+take-map {B = B} f (suc k) (x ∷ xs) = ap (λ (l : List B). f x ∷ l) (take-map f k xs)

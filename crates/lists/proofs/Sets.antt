@@ -1,15 +1,15 @@
 -- Laws of `set` and `sets` that the library does not have.
 use mathlib.Core.Path.{_≡_, refl, sym, ap, _∙_}
 use mathlib.Core.Logic.{_⊎_, inl, inr}
-use mathlib.Core.Bool.{Bool, true, false}
+use mathlib.Core.Bool.{Bool, true, false, cond}
 use mathlib.Core.List.{List, [], _∷_, map, _++_}
 use Prim.Native.Nat.{ℕ, zero, suc, _+_, _-_, _≤_, _<_}
 use native.Mathlib.Nat.{add-zero, suc-add, add-suc, not-suc-le-zero, le-of-suc-le-suc, suc-ne-zero, suc-inj, zero-add}
 use native.Mathlib.Omega.{arith}
-use lib.ListN.{length, getD, set, length-set}
+use lib.ListN.{length, getD, set, length-set, drop}
 use lib.Seq.{sets, getD-set-same, getD-set-other}
-use lib.Dec.{ltb, leb}
-use borrow.Author.Tests.{leb-true, leb-false, ltb-true, ltb-false}
+use lib.Dec.{ltb, leb, eqb, eqb·suc-suc}
+use borrow.Author.Tests.{leb-true, leb-false, ltb-true, ltb-false, ne-eqb}
 
 module _ {ℓ} {A : Type ℓ} where
   pub set-append-add : (xs ys : List A) (n : ℕ) (v : A) → set (xs ++ ys) (length xs + n) v ≡ xs ++ set ys n v
@@ -77,3 +77,19 @@ sets-in d (v ∷ vs) xs at zero h l =
 sets-in d (v ∷ vs) xs at (suc j) h l =
     ap (λ (n : ℕ). getD (sets (set xs at v) (suc at) vs) n d) (add-suc at j ∙ sym (suc-add at j))
     ∙ sets-in d vs (set xs at v) (suc at) j (le-of-suc-le-suc h) (omega (arith, l, length-set xs at v))
+
+pub two-set : (ws : List ℕ) (a b : ℕ) → 2 ≤ length ws → set (set ws 0 a) 1 b ≡ a ∷ b ∷ drop 2 ws
+two-set [] a b h = absurd (omega (arith, h))
+two-set (x ∷ []) a b h = absurd (omega (arith, h))
+two-set (x ∷ y ∷ ws) a b h = refl
+
+pub set-false : (fs : List Bool) (x c : ℕ) → getD (set fs x false) c false ≡ cond (eqb c x) false (getD fs c false)
+set-false [] x c = go (eqb c x)
+  where
+    go : (t : Bool) → false ≡ cond t false false
+    go true = refl
+    go false = refl
+set-false (f ∷ fs) zero zero = refl
+set-false (f ∷ fs) zero (suc c) = rw (ne-eqb (suc c) 0 (λ e. omega arith))
+set-false (f ∷ fs) (suc x) zero = rw (ne-eqb 0 (suc x) (λ e. omega arith))
+set-false (f ∷ fs) (suc x) (suc c) = set-false fs x c ∙ ap (λ (t : Bool). cond t false (getD fs c false)) (sym (eqb·suc-suc c x))

@@ -7,7 +7,7 @@ use native.Mathlib.Nat.{sub-zero, suc-sub-suc}
 use native.Mathlib.Numerals.{add-one}
 use native.Mathlib.Omega.{arith}
 use lib.ListN.{length, getD, take, drop, replicate, length-drop, drop-of-length-le}
-use lib.Seq.{drop-cons, drop-nil, drop-length, take-all, take-suc, take-nil, take-at, drop-at, length-take-le}
+use lib.Seq.{drop-cons, drop-nil, drop-length, take-all, take-suc, take-nil, take-take, take-at, drop-at, drop-drop, getD-take, getD-drop, length-take-le}
 use lib.Dec.{leb, eqb}
 use borrow.Author.Tests.{leb-true, leb-false, eq-eqb, ne-eqb}
 use Rattle.lists.specs.Lists.{every, allZero}
@@ -60,6 +60,13 @@ module _ {ℓ} {A : Type ℓ} where
   drop-take (suc j) zero l = let e : 0 - suc j ≡ 0 = omega arith in rw e
   drop-take (suc j) (suc n) [] = sym (take-nil (suc n - suc j))
   drop-take (suc j) (suc n) (x ∷ l) = rw suc-sub-suc (drop-take j n l)
+
+  pub part-part : (xs : List A) (a n c k : ℕ) → c + k ≤ n → take k (drop c (take n (drop a xs))) ≡ take k (drop (a + c) xs)
+  part-part xs a n c k h =
+      ap (take k) (drop-take c n (drop a xs)) ∙ take-take k (n - c) (drop c (drop a xs)) (omega (arith, h)) ∙ ap (take k) (drop-drop c a xs)
+
+  pub part-get : (xs : List A) (a n i : ℕ) (d : A) → i < n → getD (take n (drop a xs)) i d ≡ getD xs (a + i) d
+  part-get xs a n i d h = getD-take n (drop a xs) i d h ∙ getD-drop a xs i d
 
   pub take-replicate : (m n : ℕ) (v : A) → m ≤ n → take m (replicate n v) ≡ replicate m v
   take-replicate zero n v h = refl

@@ -11,6 +11,7 @@ use borrow.Author.Tests.{eqb-true, eq-eqb, ne-eqb, lt-ltb, ltb-true}
 use Rattle.lists.specs.Lists.{counted, every, count, total, isIn, distinct}
 use Rattle.lists.proofs.Tests.{every-head, every-tail}
 use Rattle.lists.proofs.Counts.{total-sum, total-zero, hit, one-hit}
+use Rattle.lists.specs.Each.{Each}
 
 -- how often `c` stands in the list
 unfoldable pub uses : ℕ → List ℕ → ℕ
@@ -168,3 +169,8 @@ count-total named h (x ∷ xs) = ap₂ _+_ (one (isIn x named) refl) (count-tota
     one : (t : Bool) → isIn x named ≡ t → cond (isIn x named) 1 0 ≡ uses x named
     one true e = rw e (let z : 1 ≡ uses x named = omega (arith, h x, in-uses x named e) in z)
     one false e = rw e (sym (not-in x named e))
+
+pub each-used : (P : ℕ → Type 0) (xs : List ℕ) → ((c : ℕ) → 0 < uses c xs → P c) → Each P xs
+unfolding uses
+each-used P [] f = tt
+each-used P (x ∷ xs) f = (f x (omega (arith, uses-here x xs)), each-used P xs (λ c h. f c (omega arith)))

@@ -12,6 +12,8 @@ use borrow.Author.Tests.{ne-eqb}
 use Rattle.lists.specs.Lists.{isIn}
 use Rattle.lists.specs.Rows.{joined}
 use Rattle.lists.proofs.Counted.{counted-at, length-counted}
+use Rattle.lists.proofs.Appends.{in-append}
+use Rattle.lists.proofs.Sets.{set-false}
 use Rattle.model.specs.Records.{cellsOf, namedCells}
 use Rattle.model.specs.Runs.{freeCells}
 use Rattle.model.specs.State.{Block, Segment, Shelf}
@@ -19,15 +21,6 @@ use Rattle.place_seek.specs.Seek.{taken}
 use Rattle.place_seek.proofs.Seeking.{length-taken}
 
 -- ---- named
-
-in-append : (c : ℕ) (xs ys : List ℕ) → isIn c (xs ++ ys) ≡ cond (isIn c xs) true (isIn c ys)
-unfolding isIn
-in-append c [] ys = refl
-in-append c (x ∷ xs) ys = rw (in-append c xs ys) (go (eqb c x))
-  where
-    go : (t : Bool) → cond t true (cond (isIn c xs) true (isIn c ys)) ≡ cond (cond t true (isIn c xs)) true (isIn c ys)
-    go true = refl
-    go false = refl
 
 -- a record that named no cell is replaced
 pub named-new : (c : ℕ) (rs : List Segment) (k : ℕ) (new : Segment) → k < length rs → cellsOf (getD rs k []) ≡ []
@@ -61,17 +54,6 @@ free-at s c h = counted-at (λ j. not (isIn j (namedCells (s .records)))) 0 (len
 pub length-free : (s : Shelf) → length (freeCells s) ≡ length (s .cells)
 unfolding freeCells
 length-free s = length-counted (λ j. not (isIn j (namedCells (s .records)))) 0 (length (s .cells))
-
-set-false : (fs : List Bool) (x c : ℕ) → getD (set fs x false) c false ≡ cond (eqb c x) false (getD fs c false)
-set-false [] x c = go (eqb c x)
-  where
-    go : (t : Bool) → false ≡ cond t false false
-    go true = refl
-    go false = refl
-set-false (f ∷ fs) zero zero = refl
-set-false (f ∷ fs) zero (suc c) = rw (ne-eqb (suc c) 0 (λ e. omega arith))
-set-false (f ∷ fs) (suc x) zero = rw (ne-eqb 0 (suc x) (λ e. omega arith))
-set-false (f ∷ fs) (suc x) (suc c) = set-false fs x c ∙ ap (λ (t : Bool). cond t false (getD fs c false)) (sym (eqb·suc-suc c x))
 
 taken-at : (cs : List ℕ) (fs : List Bool) (c : ℕ) → getD (taken cs fs) c false ≡ cond (isIn c cs) false (getD fs c false)
 unfolding taken isIn

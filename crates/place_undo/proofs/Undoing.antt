@@ -12,7 +12,7 @@ use borrow.Author.Tests.{le-ltb, lt-ltb, ne-eqb}
 use Rattle.lists.specs.Lists.{allZero, every}
 use Rattle.lists.specs.Masks.{maskOf}
 use Rattle.lists.specs.Walk.{placed}
-use Rattle.lists.proofs.Slices.{drop-take}
+use Rattle.lists.proofs.Slices.{part-part}
 use Rattle.lists.proofs.Each.{each-at}
 use Rattle.model.specs.Image.{zeroBlock}
 use Rattle.model.specs.Measures.{baseMeasures}
@@ -79,7 +79,7 @@ unfolding recordToWords freeSegment maskOf
 free-words = refl
 
 cut : (l : List ℕ) (a : ℕ) → take 8 (drop 11 (take 19 (drop a l))) ≡ take 8 (drop (a + 11) l)
-cut l a = rw (drop-take 11 19 (drop a l), drop-drop 11 a l) (take-take 8 8 (drop (a + 11) l) (omega arith))
+cut l a = part-part l a 19 11 8 (omega arith)
 
 -- ---- a record
 

@@ -8,7 +8,7 @@ use native.Mathlib.Omega.{arith}
 use lib.ListN.{length, getD, length-map, List·getD-map}
 use Rattle.lists.specs.Each.{Each}
 use Rattle.lists.specs.Lists.{keep}
-use Rattle.lists.proofs.Each.{each-at, each-of, each-weaken, each-both}
+use Rattle.lists.proofs.Each.{each-at, each-of, each-weaken, each-both, keep-each}
 use Rattle.model.specs.Calls.{newestPointers}
 use Rattle.model.specs.Image.{imageBlocks}
 use Rattle.model.specs.Measures.{Capacities, shapeFor, partsFor}
@@ -55,16 +55,6 @@ words-lead n (p ∷ ps) e (suc j) h = words-lead n ps (e .1) j (omega (arith, h)
 
 pub words-back : (n : ℕ) (ps : List Pointer) → Each (Good n) ps → map wordToPointer (map pointerWord ps) ≡ ps
 words-back n ps e = pointers-back ps (each-weaken (Good n) PointerFits (λ p g. g .0) ps e)
-
--- of those that are kept
-keep-each : {A : Type 0} (P : A → Type 0) (t : A → Bool) (xs : List A) → Each P xs → Each P (keep t xs)
-unfolding keep
-keep-each P t [] e = tt
-keep-each P t (x ∷ xs) e = go (t x) (keep-each P t xs (e .1))
-  where
-    go : (b : Bool) → Each P (keep t xs) → Each P (cond b (x ∷ keep t xs) (keep t xs))
-    go true r = (e .0, r)
-    go false r = r
 
 pub turning-good : (n : ℕ) (shelf : Shelf) (bs : List Block) (ps : List Pointer) → Each (Good n) ps → Each (Good n) (turning shelf bs ps)
 unfolding turning

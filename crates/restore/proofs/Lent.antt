@@ -10,7 +10,7 @@ use lib.Seq.{drop-drop, take-take, getD-take, getD-drop}
 use borrow.Author.Tests.{le-ltb, lt-ltb}
 use lib.Dec.{ltb, lit<}
 use Rattle.lists.specs.Rows.{parts, rows}
-use Rattle.lists.proofs.Slices.{tail-all, drop-take}
+use Rattle.lists.proofs.Slices.{tail-all, part-part}
 use Rattle.model.specs.Measures.{Capacities, shapeFor, baseMeasures, partsFor, tillWords, tableWords}
 use Rattle.model.specs.State.{Shelf, Version, Till, State}
 use Rattle.model.specs.Table.{shapeOf, stateIn, shelfIn, versionIn, versionsIn, versionToWords, tillToWords, recordsPart, stateToWords, stateToBytes}
@@ -61,11 +61,6 @@ first-fits n b len e h k = omega (arith, e, h, k, parts-enough 64 len (lit< tt))
 
 -- ---- the slots of a till
 
--- a part of a part
-inner : (n k a w : ℕ) (l : List ℕ) → k + n ≤ w → take n (drop k (take w (drop a l))) ≡ take n (drop (a + k) l)
-inner n k a w l h =
-    ap (take n) (drop-take k w (drop a l)) ∙ take-take n (w - k) (drop k (drop a l)) (omega arith) ∙ ap (take n) (drop-drop k a l)
-
 module _ {pool table : List ℕ} (h : Sound pool table) where
   abbrev pub c : Capacities
   c = record { tills = getD table 0 0; versions = getD table 1 0; blocks = getD table 2 0; records = getD table 3 0; cells = getD table 4 0 }
@@ -94,7 +89,7 @@ module _ {pool table : List ℕ} (h : Sound pool table) where
         let q : length vs ≡ length (till h t in-table .versions) - j = length-drop j (till h t in-table .versions) in
         let a : (length vs + j) * (3 + getD table 2 0) ≤ getD table 1 0 * (3 + getD table 2 0) = mul-le-mul-right (3 + getD table 2 0) (omega (arith, q, few h t in-table)) in
         let m : 4 + j * (3 + getD table 2 0) + n ≤ w = omega (arith, e, a, add-mul (length vs) j (3 + getD table 2 0)) in
-        sym (inner n (4 + j * (3 + getD table 2 0)) (tillAt (shapeOf table) t) w table m)
+        sym (part-part table (tillAt (shapeOf table) t) w (4 + j * (3 + getD table 2 0)) n m)
         ∙ ap (λ (ws : List ℕ). take n (drop (4 + j * (3 + getD table 2 0)) ws)) (till-words h t in-table)
         ∙ ap (λ (k : ℕ). take k (drop (4 + j * (3 + getD table 2 0)) (tillToWords (getD table 1 0) (getD table 2 0) (till h t in-table)))) e
         ∙ slots-are c st sound t (there h t in-table) j held

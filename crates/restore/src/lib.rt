@@ -11,6 +11,7 @@ ghost use Rattle.restore.specs.Answers.{Lent, restoreAnswer};
 use tills::Head;
 
 // Refusal 0 is an accepted call.
+#[repr(C)]
 pub struct Restored {
     pub refusal: u32,
     pub length: u32,

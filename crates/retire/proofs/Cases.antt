@@ -11,7 +11,7 @@ use borrow.Author.Tests.{le-leb, lt-leb, eq-eqb, ne-eqb}
 use lib.Dec.{eqb}
 use Rattle.lists.specs.Rows.{rows}
 use Rattle.lists.proofs.Each.{each-at}
-use Rattle.lists.proofs.Slices.{drop-end, tail-all}
+use Rattle.lists.proofs.Slices.{drop-end, tail-all, part-part, part-get}
 use Rattle.model.specs.Measures.{Shape, Capacities, baseMeasures, partsFor, tillWords, tableWords}
 use Rattle.model.specs.State.{Pointer, Version, Till, Shelf, State, Outcome, refused, done}
 use Rattle.model.specs.Sweep.{release, sweep}
@@ -23,7 +23,6 @@ use Rattle.laws.proofs.Measures.{sizes, parts-enough}
 use Rattle.laws.proofs.RoundTrip.{length-till}
 use Rattle.laws.proofs.Stores.{tillAt, recordsFrom, till-is, till-put, records-put, Sound, header, found, fits, long}
 use Rattle.laws.proofs.Tills.{From, there, till-words, few, given, last-most, numbers, in-words, before-held, held-drop, oldest-from}
-use Rattle.lists.proofs.Slices.{drop-take}
 use Rattle.shelf.specs.Stored.{Told, Stored}
 use Rattle.shelf.specs.Fits.{Fits}
 use Rattle.slots.specs.Slots.{withoutOldest}
@@ -34,14 +33,6 @@ use Rattle.meets.proofs.Pointers.{slot-row, version-words, version-pointers, ve
 use Rattle.tills.specs.declared.Head.{Head}
 use Rattle.tills.specs.Answers.{tillSize, HeadOf}
 use Rattle.retire.specs.Answers.{tillIn, oldestIn, Holds, Copied, released, Are, Placed, droppedFrom}
-
--- a part of a part
-part-part : (xs : List ℕ) (a n c k : ℕ) → c + k ≤ n → take k (drop c (take n (drop a xs))) ≡ take k (drop (a + c) xs)
-part-part xs a n c k h =
-    ap (take k) (drop-take c n (drop a xs)) ∙ take-take k (n - c) (drop c (drop a xs)) (omega (arith, h)) ∙ ap (take k) (drop-drop c a xs)
-
-part-get : (xs : List ℕ) (a n i : ℕ) → i < n → getD (take n (drop a xs)) i 0 ≡ getD xs (a + i) 0
-part-get xs a n i h = getD-take n (drop a xs) i 0 h ∙ getD-drop a xs i 0
 
 -- room for pointers
 pub zeros-long : (n : ℕ) → length (replicate {A = ℕ} n 0) ≡ n
@@ -98,7 +89,7 @@ module _ {pool table : List ℕ} {t at : ℕ} (h : Holds pool table t at) where
   unfolding versionToWords
   length-word =
       let z : at + 5 ≡ at + 4 + 1 = omega arith in
-      ap (λ (i : ℕ). getD table i 0) z ∙ sym (part-get table (at + 4) (3 + b) 1 (omega arith)) ∙ ap (λ (ws : List ℕ). getD ws 1 0) slot
+      ap (λ (i : ℕ). getD table i 0) z ∙ sym (part-get table (at + 4) (3 + b) 1 0 (omega arith)) ∙ ap (λ (ws : List ℕ). getD ws 1 0) slot
 
   parts-are : partsFor 64 (getD table (at + 5) 0) ≡ length (oldestIn pool table t .pointers)
   unfolding shapeOf
@@ -218,7 +209,7 @@ module _ (s : Shape) (st : State) (t at n b : ℕ) (p : Placed s st t at n b) (w
   slot-room most some =
       let (a, c) = till-long (s .capacities .versions) b (tillOf st t) (take n (drop at ws)) some (p .few) till-part in
       let l : length (take n (drop at ws)) ≡ n = ap length till-part ∙ length-till (s .capacities .versions) b (tillOf st t) ∙ ap (tillWords (s .capacities .versions)) (p .blocks) ∙ sym (p .size) in
-      (omega (arith, a, l, length-take n (drop at ws), length-drop at ws), omega (arith, a, l), most, subst (λ (x : ℕ). 0 < x) (part-get ws at n 1 (omega (arith, a, l))) c)
+      (omega (arith, a, l, length-take n (drop at ws), length-drop at ws), omega (arith, a, l), most, subst (λ (x : ℕ). 0 < x) (part-get ws at n 1 0 (omega (arith, a, l))) c)
 
   pub slot-dropped : (ys : List ℕ)
       → ((v : ℕ) (x : Till) → length (x .versions) ≤ v → take (at + n - at) (drop at ws) ≡ tillToWords v b x → ys ≡ tillToWords v b (withoutOldest x))
@@ -233,7 +224,7 @@ pub slot-meets : (ws : List ℕ) (at n b : ℕ) → (at + n ≤ length ws) × (7
     → (7 + b ≤ length (take (at + n - at) (drop at ws))) × (0 < getD (take (at + n - at) (drop at ws)) 1 0) × (b ≤ 1024)
 slot-meets ws at n b (a, c, d, f) =
     let k : at + n - at ≡ n = omega arith in
-    rw k (omega (arith, a, c, length-take n (drop at ws), length-drop at ws), subst (λ (x : ℕ). 0 < x) (sym (part-get ws at n 1 (omega (arith, c)))) f, d)
+    rw k (omega (arith, a, c, length-take n (drop at ws), length-drop at ws), subst (λ (x : ℕ). 0 < x) (sym (part-get ws at n 1 0 (omega (arith, c)))) f, d)
 
 -- ---- the whole
 

@@ -13,6 +13,7 @@ ghost use Rattle.slots.specs.Slots.{withoutOldest};
 ghost use Rattle.retire.specs.Answers.{Holds, Copied, released, Are, Placed, retireAnswer, droppedFrom};
 
 // Refusal 0 is an accepted call.
+#[repr(C)]
 pub struct Retired {
     pub refusal: u32,
     pub length: u32,

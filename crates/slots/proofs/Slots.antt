@@ -10,24 +10,13 @@ use borrow.Rule.Slice.PartMut.{midOf, putMid}
 use Rattle.lists.specs.Rows.{fill, rows, joined}
 use Rattle.lists.proofs.Rows.{fill-split, fill-zeros, length-rows, wide-all}
 use Rattle.lists.proofs.Slices.{drop-end}
+use Rattle.lists.proofs.Filled.{shift-fill}
 use Rattle.model.specs.State.{Version, Till}
 use Rattle.model.specs.Table.{versionToWords, tillToWords}
 use Rattle.laws.proofs.RoundTrip.{length-version, length-till}
 use Rattle.slots.specs.Slots.{withoutOldest}
 
 -- ---- a till's slots
-
-shift-fill : (n w : ℕ) (xs ys : List ℕ) → length xs ≡ w → w + length ys ≤ n → drop w (fill n (xs ++ ys)) ++ replicate w 0 ≡ fill n ys
-shift-fill n w xs ys l h =
-    let lx : length (xs ++ ys) ≡ w + length ys = length-append xs ys ∙ ap (λ (k : ℕ). k + length ys) l in
-    let m : ℕ = n - length (xs ++ ys) in
-    let a : fill n (xs ++ ys) ≡ (xs ++ ys) ++ fill m [] = fill-split n (xs ++ ys) (omega arith) in
-    let b : drop w ((xs ++ ys) ++ fill m []) ≡ ys ++ fill m [] = ap (drop w) (append-assoc xs ys (fill m [])) ∙ drop-at xs (ys ++ fill m []) w l in
-    let c : m + w ≡ n - length ys = omega arith in
-    let d : fill m [] ++ replicate w 0 ≡ fill (n - length ys) [] =
-    ap (λ (z : List ℕ). z ++ replicate w 0) (fill-zeros m) ∙ replicate-append-replicate m w 0 ∙ ap (λ (k : ℕ). replicate {A = ℕ} k 0) c ∙ sym (fill-zeros (n - length ys)) in
-    ap (λ (z : List ℕ). drop w z ++ replicate w 0) a ∙ ap (λ (z : List ℕ). z ++ replicate w 0) b ∙ append-assoc ys (fill m []) (replicate w 0)
-    ∙ ap (λ (z : List ℕ). ys ++ z) d ∙ sym (fill-split n ys (omega arith))
 
 rows-most : (v b : ℕ) (vs : List Version) → length vs ≤ v → length (rows (versionToWords b) vs) ≤ v * (3 + b)
 rows-most v b vs h =

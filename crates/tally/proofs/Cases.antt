@@ -12,7 +12,7 @@ use Rattle.lists.specs.Lists.{every, count, total}
 use Rattle.lists.specs.Each.{Each}
 use Rattle.lists.specs.Masks.{maskOf}
 use Rattle.lists.specs.Rows.{joined, rows}
-use Rattle.lists.proofs.Counts.{count-most}
+use Rattle.lists.proofs.Counts.{count-most, sum-map}
 use Rattle.lists.proofs.Masks.{ones-mask}
 use Rattle.lists.proofs.Slices.{drop-next, drop-end, tail-all}
 use Rattle.model.specs.Measures.{tableWords}
@@ -31,19 +31,6 @@ use Rattle.tally.specs.declared.Tally.{Tally}
 use Rattle.tally.specs.Answers.{sum, inUse, Row, Counts, Rows, tallied, Going}
 
 -- ---- sums
-
-pub sum-next : (ws : List ℕ) (i n : ℕ) → i < length ws → n + sum (drop i ws) ≡ sum ws → (n + getD ws i 0) + sum (drop (i + 1) ws) ≡ sum ws
-unfolding total
-sum-next ws i n h e = let d : sum (drop i ws) ≡ getD ws i 0 + sum (drop (i + 1) ws) = ap sum (drop-next ws i 0 h) in omega (arith, d, e)
-
-pub sum-end : (ws : List ℕ) (i n : ℕ) → length ws ≤ i → n + sum (drop i ws) ≡ sum ws → n ≡ sum ws
-unfolding total
-sum-end ws i n h e = let d : sum (drop i ws) ≡ 0 = ap sum (drop-end ws i h) in omega (arith, d, e)
-
-sum-map : {A : Type 0} (f : A → ℕ) (xs : List A) → sum (map f xs) ≡ total f xs
-unfolding total
-sum-map f [] = refl
-sum-map f (x ∷ xs) = ap (λ (n : ℕ). f x + n) (sum-map f xs)
 
 -- ---- one record
 

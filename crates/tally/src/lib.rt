@@ -7,6 +7,7 @@ ghost use Rattle.laws.proofs.Stores.{Sound};
 ghost use Rattle.tally.specs.Answers.{sum, inUse, Row, Counts, Rows, tallied, tallyAnswer};
 
 // Refusal 0 is an accepted call.
+#[repr(C)]
 pub struct Tally {
     pub refusal: u32,
     pub cells: u32,

@@ -8,6 +8,7 @@ ghost use Rattle.laws.proofs.Stores.{recordsFrom, Sound, Header};
 ghost use Rattle.tills.specs.Answers.{tillSize, HeadOf, listingAnswer};
 
 // Refusal 0 is an accepted call.
+#[repr(C)]
 pub struct Listing {
     pub refusal: u32,
     pub oldest: u32,

@@ -1,4 +1,4 @@
-use Rattle.filing.proofs.Slots.{two-set}
+use Rattle.lists.proofs.Sets.{two-set}
 use borrow.Author.Needs.{needs}
 use Rattle.filing.proofs.set_two.Statement.{statement}
 use Rattle.filing.proofs.set_two.Tie as tie

@@ -3,7 +3,7 @@ use lib.ListN.{length, drop}
 use native.Mathlib.Nat.{zero-add}
 use Prim.Native.Nat.{_+_, _-_, _≤_}
 use mathlib.Core.Path.{_≡_}
-use Rattle.tally.proofs.Cases.{sum-next, sum-end}
+use Rattle.lists.proofs.Counts.{sum-next, sum-end}
 use borrow.Author.Needs.{needs}
 use native.Mathlib.Omega.{arith}
 use Rattle.tally.proofs.add_all.Statement.{statement}

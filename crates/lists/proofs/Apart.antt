@@ -1,4 +1,4 @@
--- Laws of marking places, with no word of a store: places fit if and only if they are in range, apart and free.
+-- Places fit if and only if they are in range, apart and free; and which places are marked.
 use mathlib.Core.Path.{_≡_, refl, sym, ap, _∙_}
 use mathlib.Core.Bool.{Bool, true, false, cond}
 use mathlib.Core.List.{List, [], _∷_}
@@ -116,10 +116,10 @@ none-marked zero x = refl
 none-marked (suc m) zero = refl
 none-marked (suc m) (suc x) = none-marked m x
 
-marked-in : (cs : List ℕ) (occ : List Bool) (x : ℕ) → x < length occ → getD (marked cs occ) x false ≡ cond (isIn x cs) true (getD occ x false)
+pub marked-at : (cs : List ℕ) (occ : List Bool) (x : ℕ) → x < length occ → getD (marked cs occ) x false ≡ cond (isIn x cs) true (getD occ x false)
 unfolding marked isIn
-marked-in [] occ x h = refl
-marked-in (c ∷ cs) occ x h = marked-in cs (set occ c true) x (rw (length-set occ c true) h) ∙ go (eqb x c) refl (isIn x cs)
+marked-at [] occ x h = refl
+marked-at (c ∷ cs) occ x h = marked-at cs (set occ c true) x (rw (length-set occ c true) h) ∙ go (eqb x c) refl (isIn x cs)
   where
     go : (t : Bool) → eqb x c ≡ t → (b : Bool) → cond b true (getD (set occ c true) x false) ≡ cond (cond (eqb x c) true b) true (getD occ x false)
     go true e true = rw e
@@ -130,7 +130,7 @@ marked-in (c ∷ cs) occ x h = marked-in cs (set occ c true) x (rw (length-set o
 -- from none marked on, the marked places are those of the list
 pub marked-all : (m : ℕ) (cs : List ℕ) (x : ℕ) → x < m → getD (marked cs (replicate m false)) x false ≡ isIn x cs
 marked-all m cs x h =
-    marked-in cs (replicate m false) x (rw (length-replicate m false) h) ∙ ap (λ (b : Bool). cond (isIn x cs) true b) (none-marked m x) ∙ go (isIn x cs)
+    marked-at cs (replicate m false) x (rw (length-replicate m false) h) ∙ ap (λ (b : Bool). cond (isIn x cs) true b) (none-marked m x) ∙ go (isIn x cs)
   where
     go : (b : Bool) → cond b true false ≡ b
     go true = refl

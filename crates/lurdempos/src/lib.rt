@@ -1,0 +1,118 @@
+// The calls as C sees them (include/lurdempos.h): each passes its arguments on, and its contract is the call's.
+ghost use mathlib.Core.Path.{_≡_};
+ghost use Rattle.model.specs.Calls.{tableLengthOf, layoutOf, backupOf, restoreOf, retireOf, listingOf, tallyOf};
+ghost use Rattle.layout.specs.Layout.{lengthAnswer, layoutAnswer};
+ghost use Rattle.backup.specs.Call.{backedUpAnswer};
+ghost use Rattle.tills.specs.Answers.{listingAnswer};
+ghost use Rattle.restore.specs.Answers.{restoreAnswer};
+ghost use Rattle.retire.specs.Answers.{retireAnswer};
+ghost use Rattle.tally.specs.Answers.{tallyAnswer};
+ghost use Rattle.lurdempos.specs.Boundary.{theFive};
+use backup::BackedUp;
+use layout::Capacities;
+use layout::TableLength;
+use restore::Restored;
+use retire::Retired;
+use tally::Tally;
+use tills::Listing;
+
+#[repr(C)]
+pub struct LaidOut {
+    pub refusal: u32,
+}
+
+#[no_mangle]
+pub extern "C" fn lurdempos_table_length(
+    tills: u32,
+    versions: u32,
+    blocks: u32,
+    records: u32,
+    cells: u32,
+) -> TableLength
+    ensures { λ r. ⌜ lengthAnswer r ≡ tableLengthOf (theFive tills versions blocks records cells) ⌝ }
+{
+    store::table_length(Capacities {
+        tills: tills,
+        versions: versions,
+        blocks: blocks,
+        records: records,
+        cells: cells,
+    })
+}
+
+#[no_mangle]
+pub extern "C" fn lurdempos_lay_out(
+    pool: &mut [u8],
+    table: &mut [u32],
+    tills: u32,
+    versions: u32,
+    blocks: u32,
+    records: u32,
+    cells: u32,
+) -> LaidOut
+    ensures { λ r. ⌜ layoutAnswer (r .refusal) (now (pool .exit)) (now (table .exit)) ≡ layoutOf (theFive tills versions blocks records cells) (now (pool .entry)) (now (table .entry)) ⌝ }
+{
+    let refusal = store::lay_out(
+        pool,
+        table,
+        Capacities {
+            tills: tills,
+            versions: versions,
+            blocks: blocks,
+            records: records,
+            cells: cells,
+        },
+    );
+    LaidOut { refusal: refusal }
+}
+
+#[no_mangle]
+pub extern "C" fn lurdempos_backup(
+    pool: &mut [u8],
+    table: &mut [u32],
+    till: u32,
+    image: &[u8],
+) -> BackedUp
+    ensures { λ r. ⌜ backedUpAnswer r (now (pool .exit)) (now (table .exit)) ≡ backupOf (now (pool .entry)) (now (table .entry)) till (now (image .entry)) ⌝ }
+{
+    store::backup(pool, table, till, image)
+}
+
+#[no_mangle]
+pub extern "C" fn lurdempos_restore(
+    pool: &[u8],
+    table: &[u32],
+    till: u32,
+    version: u32,
+    output: &mut [u8],
+) -> Restored
+    ensures { λ r. ⌜ restoreAnswer r (now (output .exit)) ≡ restoreOf (now (pool .entry)) (now (table .entry)) till version (now (output .entry)) ⌝ }
+{
+    store::restore(pool, table, till, version, output)
+}
+
+#[no_mangle]
+pub extern "C" fn lurdempos_retire(
+    pool: &mut [u8],
+    table: &mut [u32],
+    till: u32,
+    version: u32,
+) -> Retired
+    ensures { λ r. ⌜ retireAnswer r (now (pool .exit)) (now (table .exit)) ≡ retireOf (now (pool .entry)) (now (table .entry)) till version ⌝ }
+{
+    store::retire(pool, table, till, version)
+}
+
+#[no_mangle]
+pub extern "C" fn lurdempos_listing(pool: &[u8], table: &[u32], till: u32) -> Listing
+    ensures { λ r. ⌜ listingAnswer r ≡ listingOf (now (pool .entry)) (now (table .entry)) till ⌝ }
+{
+    store::listing(pool, table, till)
+}
+
+#[no_mangle]
+pub extern "C" fn lurdempos_tally(pool: &[u8], table: &[u32]) -> Tally
+    ensures { λ r. ⌜ tallyAnswer r ≡ tallyOf (now (pool .entry)) (now (table .entry)) ⌝ }
+{
+    store::tally(pool, table)
+}

@@ -1,0 +1,155 @@
+/*
+ * Lurdempos: the till version store, for C and C++.
+ *
+ * A store lives in two buffers that the caller lends: the pool, bytes, and the
+ * table, 32-bit words in the machine's order. Nothing else is kept between
+ * calls, nothing is allocated, and no call reads or writes past the lengths
+ * given. A buffer's length counts its elements: bytes of a pool, image or
+ * output, words of a table. A buffer of length 0 needs a pointer that is not
+ * null. The pool, the table, the image and the output of one call must not
+ * overlap. A call needs about 512 KiB of stack.
+ *
+ * Every answer begins with a refusal. 0 is an accepted call. A refused call
+ * answers 0 in every other field and alters no buffer.
+ *
+ *    1  a capacity outside its range
+ *    2  lay out: pool or table of another length than needed
+ *    3  till number not below the tills
+ *    4  image empty, or longer than 64 * blocks per image
+ *    5  output shorter than the version
+ *   10  pool and table are not a sound store
+ *   11  the till holds its full number of versions
+ *   12  its last given number is 65,535
+ *   13  retire of a held version that is not its till's oldest
+ *   14  a segment to be placed finds no free record
+ *   15  that version is not held
+ *   16  a segment to be placed finds no run
+ *
+ * Link with target/staticlib/liblurdempos.a, which `rt staticlib lurdempos`
+ * proves and builds.
+ */
+#ifndef LURDEMPOS_H
+#define LURDEMPOS_H
+
+#include <stddef.h>
+#include <stdint.h>
+
+#ifdef __cplusplus
+extern "C" {
+#endif
+
+/* A block is 64 bytes; the pool is exactly this times its cells. */
+#define LURDEMPOS_BLOCK_BYTES 64
+
+#define LURDEMPOS_ACCEPTED 0
+#define LURDEMPOS_CAPACITY_OUT_OF_RANGE 1
+#define LURDEMPOS_WRONG_LENGTH 2
+#define LURDEMPOS_NO_SUCH_TILL 3
+#define LURDEMPOS_IMAGE_LENGTH 4
+#define LURDEMPOS_OUTPUT_TOO_SHORT 5
+#define LURDEMPOS_NOT_SOUND 10
+#define LURDEMPOS_TILL_FULL 11
+#define LURDEMPOS_NUMBERS_USED_UP 12
+#define LURDEMPOS_NOT_OLDEST 13
+#define LURDEMPOS_NO_FREE_RECORD 14
+#define LURDEMPOS_NOT_HELD 15
+#define LURDEMPOS_NO_RUN 16
+
+/* The words that a table of these capacities has. */
+struct lurdempos_table_length_answer {
+    uint32_t refusal;
+    uint32_t words;
+};
+
+struct lurdempos_lay_out_answer {
+    uint32_t refusal;
+};
+
+/* The number of the new version. */
+struct lurdempos_backup_answer {
+    uint32_t refusal;
+    uint32_t version;
+};
+
+/* The version's length in bytes; the most indirect pointers followed for any
+ * one block. */
+struct lurdempos_restore_answer {
+    uint32_t refusal;
+    uint32_t length;
+    uint32_t hops;
+};
+
+/* The retired version's length in bytes. */
+struct lurdempos_retire_answer {
+    uint32_t refusal;
+    uint32_t length;
+};
+
+/* The oldest and the newest held number, 0 and 0 if none is held; the last
+ * number given, 0 before the first. */
+struct lurdempos_listing_answer {
+    uint32_t refusal;
+    uint32_t oldest;
+    uint32_t newest;
+    uint32_t last;
+};
+
+/* Occupied cells, records in use, and the sum of all counts. */
+struct lurdempos_tally_answer {
+    uint32_t refusal;
+    uint32_t cells;
+    uint32_t records;
+    uint32_t counts;
+};
+
+/* Table length. tills 1 to 16, versions per till 1 to 64, blocks per image 1
+ * to 1,024, segment records 1 to 4,096, cells 1 to 32,768.
+ * Refusals: 1. */
+struct lurdempos_table_length_answer lurdempos_table_length(
+    uint32_t tills, uint32_t versions, uint32_t blocks, uint32_t records,
+    uint32_t cells);
+
+/* Makes an empty store in a pool of 64 * cells bytes and a table of the words
+ * that lurdempos_table_length answers, whatever they had before.
+ * Refusals: 1, 2. */
+struct lurdempos_lay_out_answer lurdempos_lay_out(
+    uint8_t *pool, size_t pool_bytes, uint32_t *table, size_t table_words,
+    uint32_t tills, uint32_t versions, uint32_t blocks, uint32_t records,
+    uint32_t cells);
+
+/* Keeps the image as the till's newest version.
+ * Refusals: 10, 3, 4, 11, 12, then, at the first segment that cannot be
+ * placed, 14 before 16. */
+struct lurdempos_backup_answer lurdempos_backup(
+    uint8_t *pool, size_t pool_bytes, uint32_t *table, size_t table_words,
+    uint32_t till, const uint8_t *image, size_t image_bytes);
+
+/* Writes the version to the front of the output; later bytes stay.
+ * Refusals: 10, 3, 15, 5. */
+struct lurdempos_restore_answer lurdempos_restore(
+    const uint8_t *pool, size_t pool_bytes, const uint32_t *table,
+    size_t table_words, uint32_t till, uint32_t version, uint8_t *output,
+    size_t output_bytes);
+
+/* Takes the till's oldest held version away. A till's only version may go;
+ * numbers go on.
+ * Refusals: 10, 3, 15, 13. */
+struct lurdempos_retire_answer lurdempos_retire(
+    uint8_t *pool, size_t pool_bytes, uint32_t *table, size_t table_words,
+    uint32_t till, uint32_t version);
+
+/* Refusals: 10, 3. */
+struct lurdempos_listing_answer lurdempos_listing(
+    const uint8_t *pool, size_t pool_bytes, const uint32_t *table,
+    size_t table_words, uint32_t till);
+
+/* Refusals: 10. */
+struct lurdempos_tally_answer lurdempos_tally(
+    const uint8_t *pool, size_t pool_bytes, const uint32_t *table,
+    size_t table_words);
+
+#ifdef __cplusplus
+}
+#endif
+
+#endif
