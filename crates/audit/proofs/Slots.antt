@@ -11,11 +11,11 @@ use Rattle.lists.specs.Lists.{allZero}
 use Rattle.lists.specs.Rows.{fill}
 use Rattle.lists.proofs.Tests.{clause, all-true}
 use Rattle.lists.proofs.Cuts.{map-back}
-use Rattle.lists.proofs.Slices.{drop-next}
 use Rattle.model.specs.Measures.{isWithin, partsFor}
 use Rattle.model.specs.Table.{pointerWord, wordToPointer, versionIn, versionToWords}
 use Rattle.model.specs.Sound.{hasLength}
 use Rattle.audit_words.specs.Words.{SlotForm}
+use Rattle.audit_tills.proofs.Slots.{three}
 use Rattle.lists.proofs.Filled.{fill-back, back-fill, fill-front, map-fixed}
 
 module _ (b : ℕ) (row : List ℕ) (l : length row ≡ 3 + b) where
@@ -26,9 +26,7 @@ module _ (b : ℕ) (row : List ℕ) (l : length row ≡ 3 + b) where
   words = take (partsFor 64 (getD row 1 0)) (drop 3 row)
 
   apart : row ≡ getD row 0 0 ∷ getD row 1 0 ∷ getD row 2 0 ∷ drop 3 row
-  apart =
-      drop-next row 0 0 (omega (arith, l)) ∙ ap (λ (r : List ℕ). getD row 0 0 ∷ r) (drop-next row 1 0 (omega (arith, l))
-      ∙ ap (λ (r : List ℕ). getD row 1 0 ∷ r) (drop-next row 2 0 (omega (arith, l))))
+  apart = three row (omega (arith, l))
 
   rest-long : length (drop 3 row) ≡ b
   rest-long = omega (arith, length-drop 3 row, l)

@@ -1,15 +1,36 @@
 // The soundness check, refusal 10: whether a pool and a table are a sound store. Each word and each byte is read a bounded number of times.
 ghost use mathlib.Core.Bool.{false};
 ghost use mathlib.Core.Path.{_≡_};
-ghost use Prim.Native.Nat.{_+_, _*_, _≤_};
-ghost use lib.ListN.{length, getD};
+ghost use Prim.Native.Nat.{ℕ, _+_, _*_, _≤_, _<_};
+ghost use lib.ListN.{length, getD, take, drop};
 ghost use Rattle.lists.specs.Lists.{isSome};
 ghost use Rattle.lists.specs.Tells.{Tells};
-ghost use Rattle.model.specs.Measures.{tillWords, recordsAt};
-ghost use Rattle.model.specs.Table.{shapeOf, tillsPart, recordsPart};
+ghost use Rattle.model.specs.Measures.{baseMeasures, tillWords, recordsAt};
+ghost use Rattle.model.specs.Table.{shelfIn, shapeOf, tillsPart, recordsPart};
 ghost use Rattle.model.specs.Sound.{storeOf};
+ghost use Rattle.audit_counts.specs.Counters.{CountsSay};
 ghost use Rattle.audit_header.specs.Header.{Header};
+ghost use Rattle.audit_tills.specs.Says.{TillSays};
 ghost use Rattle.audit.specs.Good.{Body};
+
+// Whether the tills' words are in order, and the records' counts those of their direct pointers.
+fn counted_good(
+    pool: &[u8],
+    tills: &[u32],
+    records: &[u32],
+    count: usize,
+    versions: usize,
+    blocks: usize,
+) -> bool
+    requires { ⌜ (count ≤ 16) × (versions ≤ 64) × (blocks ≤ 1024) × (length (now tills) ≡ count * tillWords versions blocks) × (length (now tills) ≤ 2000000) × (length (now records) ≤ 77824) ⌝ }
+    ensures { λ r. ⌜ Tells r (((t : ℕ) → t < count → TillSays (shelfIn baseMeasures (now (pool .entry)) (now (records .entry))) versions blocks (take (tillWords versions blocks) (drop (t * tillWords versions blocks) (now (tills .entry))))) × CountsSay (now (tills .entry)) (now (records .entry))) ⌝ }
+{
+    let mut counts = [0u32; 65536];
+    if !audit_tills::tills_say(pool, records, tills, count, versions, blocks, &mut counts) {
+        return false;
+    }
+    audit_counts::records_counts(records, &counts)
+}
 
 // Whether the tills' and the records' words and the pool's bytes are those of a sound store.
 fn parts_good(
@@ -29,10 +50,7 @@ fn parts_good(
     if !audit_cells::cells_say(pool, records) {
         return false;
     }
-    if !audit_tills::tills_say(pool, records, tills, count, versions, blocks) {
-        return false;
-    }
-    audit_counts::counts_say(tills, records)
+    counted_good(pool, tills, records, count, versions, blocks)
 }
 
 // Where the records begin.

@@ -1,7 +1,7 @@
 -- Laws of the counters.
 use mathlib.Core.Path.{_≡_, refl, sym, ap, _∙_}
 use mathlib.Core.Bool.{Bool, true, false, cond}
-use mathlib.Core.List.{List, [], _∷_}
+use mathlib.Core.List.{List, [], _∷_, _++_}
 use Prim.Native.Nat.{ℕ, zero, suc, _+_, _-_, _/_, _%_, _^_, _≤_, _<_}
 use native.Mathlib.Nat.{zero-add}
 use native.Mathlib.Omega.{arith}
@@ -9,8 +9,9 @@ use borrow.Author.Tests.{eq-eqb, ne-eqb, eqb-true, eqb-false}
 use lib.Dec.{eqb}
 use lib.ListN.{length, drop, getD, set, replicate, length-set, length-replicate}
 use lib.Seq.{getD-set-same, getD-set-other}
-use Rattle.lists.specs.Lists.{count}
-use Rattle.lists.proofs.Slices.{drop-next}
+use Rattle.lists.specs.Lists.{count, every, allZero}
+use Rattle.lists.proofs.Tests.{cond-true}
+use Rattle.lists.proofs.Slices.{drop-next, drop-end}
 use Rattle.model.specs.Table.{kindUnit}
 use Rattle.audit_counts.specs.Counters.{bumped, tallied, pointersTo}
 
@@ -67,12 +68,44 @@ pub tallied-turn : (ws : List ℕ) (i : ℕ) (cs : List ℕ) → i < length ws �
 unfolding tallied
 tallied-turn ws i cs h = rw (drop-next ws i 0 h)
 
+pub tally-done : (ws : List ℕ) (i : ℕ) (cs ts : List ℕ) → length ws ≤ i → tallied (drop i ws) cs ≡ ts → cs ≡ ts
+unfolding tallied
+tally-done ws i cs ts h e = rw (drop-end ws i h) at e
+
 -- each counter grows by the number of direct pointers to its position
 tallied-at : (ws cs : List ℕ) (k : ℕ) → k < length cs → k < kindUnit → getD (tallied ws cs) k 0 ≡ getD cs k 0 + pointersTo k ws
 unfolding tallied pointersTo count
 tallied-at [] cs k l s = omega arith
 tallied-at (w ∷ ws) cs k l s =
     omega (arith, tallied-at ws (bumped w cs) k (omega (arith, bumped-length w cs)) s, bumped-at w cs k l s)
+
+pub tallied-length : (ws cs : List ℕ) → length (tallied ws cs) ≡ length cs
+unfolding tallied
+tallied-length [] cs = refl
+tallied-length (w ∷ ws) cs = tallied-length ws (bumped w cs) ∙ bumped-length w cs
+
+-- a counter grows by no more than there are words
+pub tallied-le : (ws cs : List ℕ) (k : ℕ) → getD (tallied ws cs) k 0 ≤ getD cs k 0 + length ws
+unfolding tallied
+tallied-le [] cs k = omega arith
+tallied-le (w ∷ ws) cs k = omega (arith, tallied-le ws (bumped w cs) k, bumped-le w cs k)
+
+pub tallied-append : (xs ys cs : List ℕ) → tallied (xs ++ ys) cs ≡ tallied ys (tallied xs cs)
+unfolding tallied
+tallied-append [] ys cs = refl
+tallied-append (x ∷ xs) ys cs = tallied-append xs ys (bumped x cs)
+
+-- small numbers are no direct pointers
+pub tallied-small : (w : ℕ) (ws cs : List ℕ) → w < kindUnit → tallied (w ∷ ws) cs ≡ tallied ws cs
+unfolding tallied bumped
+tallied-small w ws cs h = let e : w / kindUnit ≡ 0 = omega arith in rw e
+
+pub tallied-blank : (ws cs : List ℕ) → allZero ws ≡ true → tallied ws cs ≡ cs
+unfolding allZero every tallied
+tallied-blank [] cs h = refl
+tallied-blank (w ∷ ws) cs h =
+    let b = cond-true (eqb w 0) (every (λ x. eqb x 0) ws) h in
+    tallied-small w ws cs (omega (arith, eqb-true w 0 (b .0))) ∙ tallied-blank ws cs (b .1)
 
 -- ---- from counters of zero
 

@@ -1,15 +1,17 @@
 -- What the words say of the counts is what sound asks, where the words have the pointers.
-use mathlib.Core.Path.{_≡_, refl, sym, subst}
-use mathlib.Core.Bool.{true}
+use mathlib.Core.Path.{_≡_, refl, sym, ap, subst, _∙_}
+use mathlib.Core.Bool.{Bool, true}
 use mathlib.Core.List.{List, [], _∷_, map}
 use Prim.Native.Nat.{ℕ, zero, suc, _+_, _*_, _/_, _≤_, _<_}
 use native.Mathlib.Nat.{add-zero, zero-add, not-suc-le-zero, le-of-suc-le-suc}
 use native.Mathlib.Omega.{arith}
 use borrow.Author.Tests.{eqb-true, eq-eqb, ltb-true, lt-ltb}
-use lib.ListN.{length, getD, take, drop, length-drop}
+use lib.ListN.{length, getD, take, drop, replicate, length-drop}
 use lib.Seq.{length-take-le}
 use Rattle.lists.specs.Lists.{count}
 use Rattle.lists.specs.Rows.{chunks}
+use Rattle.lists.specs.Tells.{Tells}
+use Rattle.lists.proofs.Checkers.{same-as}
 use Rattle.lists.proofs.Tests.{clause, all-true}
 use Rattle.lists.proofs.Cuts.{length-read, read-at}
 use Rattle.model.specs.State.{Pointer, nullPosition, Segment}
@@ -17,7 +19,8 @@ use Rattle.model.specs.Table.{positionOf, segmentIn, recordsIn}
 use Rattle.model.specs.Sound.{leadsTo, isCounted, areCounted, allCounted}
 use Rattle.audit_words.specs.Words.{bitOf}
 use Rattle.audit_words.proofs.Positions.{segment-at, segment-long}
-use Rattle.audit_counts.specs.Counters.{pointersTo, CountSays, CountsSay}
+use Rattle.audit_counts.specs.Counters.{tallied, pointersTo, CountSays, RecordCounts, CountsSay}
+use Rattle.audit_counts.proofs.Counters.{tallied-zeros}
 
 -- ---- areCounted and allCounted, by place
 
@@ -84,6 +87,16 @@ module _ (ps : List Pointer) (k : ℕ) (row : List ℕ) (l : length row ≡ 19) 
   says-record h i b =
       says-position ps k i _ _ (bitOf (getD row 0 0) i) (bitOf (getD row 1 0) i)
       (rw (zero-add i, segment-at row l i b) at (counted-at ps k 0 (segmentIn 8 row) h i (rw (segment-long row l) b)))
+
+-- ---- counters that were made from zeros
+
+pub counts-are : {r : Bool} (tills ws : List ℕ) (m : ℕ) (cs : List ℕ) → length ws ≤ 77824 → m ≡ 65536 → cs ≡ tallied tills (replicate m 0)
+    → Tells r (RecordCounts (λ p. getD cs p 0) ws) → Tells r (CountsSay tills ws)
+counts-are tills ws m cs l e h t =
+    same-as (λ f k a i b. rw (is k i a b) at (f k a i b)) (λ f k a i b. rw (is k i a b) (f k a i b)) t
+  where
+    is : (k i : ℕ) → k < length ws / 19 → i < 8 → getD cs (k * 16 + i) 0 ≡ pointersTo (k * 16 + i) tills
+    is k i a b = ap (λ (x : List ℕ). getD x (k * 16 + i) 0) h ∙ tallied-zeros m tills (k * 16 + i) (omega (arith, l, e)) (omega (arith, e))
 
 -- ---- all records
 

@@ -1,4 +1,4 @@
-// Counts: each is the number of direct pointers to its position. One pass over the tills' words counts them all.
+// Counts: each is the number of direct pointers to its position. They are counted while the pointers are checked.
 ghost use mathlib.Core.Bool.{true, false};
 ghost use mathlib.Core.Path.{_≡_};
 ghost use Prim.Native.Nat.{ℕ, _+_, _*_, _/_, _^_, _≤_, _<_};
@@ -7,7 +7,7 @@ ghost use Rattle.lists.specs.Tells.{Tells};
 ghost use Rattle.audit_counts.specs.Counters.{bumped, tallied, CountSays, RecordCounts, CountsSay};
 
 // One word is counted: a direct pointer adds 1 to its position's counter.
-fn bump(counts: &mut [u32], w: u32)
+pub fn bump(counts: &mut [u32], w: u32)
     requires { ⌜ ((k : ℕ) → getD (now counts) k 0 + 1 < 2 ^ 32) ⌝ }
     ensures { λ _. ⌜ now (counts .exit) ≡ bumped w (now (counts .entry)) ⌝ }
 {
@@ -18,18 +18,6 @@ fn bump(counts: &mut [u32], w: u32)
             let n = counts[at];
             counts[at] = n + 1;
         }
-    }
-}
-
-// Every word is counted. Numbers, lengths and zeros are words of no direct pointer.
-fn tally(words: &[u32], counts: &mut [u32])
-    requires { ⌜ ((k : ℕ) → getD (now counts) k 0 + length (now words) < 2 ^ 32) ⌝ }
-    ensures { λ _. ⌜ now (counts .exit) ≡ tallied (now (words .entry)) (now (counts .entry)) ⌝ }
-{
-    let mut i: usize = 0;
-    while i < words.len() {
-        bump(counts, words[i]);
-        i += 1;
     }
 }
 
@@ -64,7 +52,7 @@ fn record_counts(row: &[u32], counts: &[u32]) -> bool
 }
 
 // Whether those of all records are.
-fn records_counts(records: &[u32], counts: &[u32]) -> bool
+pub fn records_counts(records: &[u32], counts: &[u32]) -> bool
     requires { ⌜ (length (now records) ≤ 77824) × (length (now counts) ≡ 65536) ⌝ }
     ensures { λ r. ⌜ Tells r (RecordCounts (λ p. getD (now (counts .entry)) p 0) (now (records .entry))) ⌝ }
 {
@@ -80,14 +68,4 @@ fn records_counts(records: &[u32], counts: &[u32]) -> bool
         k += 1;
     }
     true
-}
-
-// Whether the counts are the numbers of direct pointers among the tills' words.
-pub fn counts_say(tills: &[u32], records: &[u32]) -> bool
-    requires { ⌜ (length (now tills) ≤ 2000000) × (length (now records) ≤ 77824) ⌝ }
-    ensures { λ r. ⌜ Tells r (CountsSay (now (tills .entry)) (now (records .entry))) ⌝ }
-{
-    let mut counts = [0u32; 65536];
-    tally(tills, &mut counts);
-    records_counts(records, &counts)
 }

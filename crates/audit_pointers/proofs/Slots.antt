@@ -22,12 +22,18 @@ use Rattle.audit_words.proofs.Pointers.{read-direct, read-indirect, read-other}
 -- ---- a slot's pointers
 
 module _ (row : List ℕ) where
-  -- as many as there are
-  pub pointers-are : (n : ℕ) → n ≡ length (versionIn 64 row .pointers) → versionIn 64 row .pointers ≡ map wordToPointer (take n (drop 3 row))
+  pub pointers-of : versionIn 64 row .pointers ≡ map wordToPointer (take (partsFor 64 (getD row 1 0)) (drop 3 row))
   unfolding versionIn
-  pointers-are n e =
-      ap (map wordToPointer)
-      (sym (ap (λ (m : ℕ). take m (drop 3 row)) (e ∙ length-map (take (partsFor 64 (getD row 1 0)) (drop 3 row)) wordToPointer) ∙ take-length (partsFor 64 (getD row 1 0)) (drop 3 row)))
+  pointers-of = refl
+
+  -- as many as there are
+  pub words-are : (n : ℕ) → n ≡ length (versionIn 64 row .pointers) → take n (drop 3 row) ≡ take (partsFor 64 (getD row 1 0)) (drop 3 row)
+  unfolding versionIn
+  words-are n e =
+      ap (λ (m : ℕ). take m (drop 3 row)) (e ∙ length-map (take (partsFor 64 (getD row 1 0)) (drop 3 row)) wordToPointer) ∙ take-length (partsFor 64 (getD row 1 0)) (drop 3 row)
+
+  pub pointers-are : (n : ℕ) → n ≡ length (versionIn 64 row .pointers) → versionIn 64 row .pointers ≡ map wordToPointer (take n (drop 3 row))
+  pointers-are n e = pointers-of ∙ ap (map wordToPointer) (sym (words-are n e))
 
   pub pointers-count : (b : ℕ) → length row ≡ 3 + b → length (versionIn 64 row .pointers) ≡ min ((getD row 1 0 + 63) / 64) b
   unfolding versionIn partsFor

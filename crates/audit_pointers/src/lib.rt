@@ -2,15 +2,17 @@
 ghost use mathlib.Core.Bool.{true, false, not};
 ghost use mathlib.Core.Path.{_≡_};
 ghost use mathlib.Core.List.{List, map};
-ghost use Prim.Native.Nat.{ℕ, _+_, _*_, _≤_, _<_};
+ghost use Prim.Native.Nat.{ℕ, _+_, _*_, _^_, _≤_, _<_};
 ghost use lib.ListN.{length, getD};
-ghost use Rattle.lists.specs.Lists.{every};
+ghost use Rattle.lists.specs.Tells.{Tells};
 ghost use Rattle.model.specs.State.{nullPointer};
 ghost use Rattle.model.specs.Measures.{baseMeasures};
 ghost use Rattle.model.specs.Records.{isHeld, cellOf, positionAt};
 ghost use Rattle.model.specs.Table.{wordToPointer, shelfIn, versionIn, versionsIn};
 ghost use Rattle.model.specs.Trace.{endOf};
 ghost use Rattle.model.specs.Sound.{isNull, leads};
+ghost use Rattle.audit_counts.specs.Counters.{tallied};
+ghost use Rattle.audit_pointers.specs.Good.{PointersGood};
 use numbers::Block;
 use numbers::Cell;
 use numbers::RecordNumber;
@@ -80,15 +82,21 @@ fn pointer_leads(records: &[u32], newer: &[u32], w: u32) -> bool
     true
 }
 
-// Whether each of some pointers does.
-pub fn pointers_lead(records: &[u32], newer: &[u32], words: &[u32]) -> bool
-    ensures { λ r. ⌜ ((pool : List ℕ) → r ≡ every (leads (shelfIn baseMeasures pool (now (records .entry))) (map wordToPointer (now (newer .entry)))) (map wordToPointer (now (words .entry)))) ⌝ }
+// Whether each of some words says a pointer, which does. They are counted on the way, so that one pass serves for all.
+pub fn pointers_good(records: &[u32], newer: &[u32], words: &[u32], counts: &mut [u32]) -> bool
+    requires { ⌜ ((k : ℕ) → getD (now counts) k 0 + length (now words) < 2 ^ 32) ⌝ }
+    ensures { λ r. ⌜ ((pool : List ℕ) → Tells r (PointersGood (shelfIn baseMeasures pool (now (records .entry))) (now (newer .entry)) (now (words .entry)))) × (r ≡ true → now (counts .exit) ≡ tallied (now (words .entry)) (now (counts .entry))) ⌝ }
 {
     let mut i: usize = 0;
     while i < words.len() {
-        if !pointer_leads(records, newer, words[i]) {
+        let w = words[i];
+        if !audit_words::pointer_form(w) {
             return false;
         }
+        if !pointer_leads(records, newer, w) {
+            return false;
+        }
+        audit_counts::bump(counts, w);
         i += 1;
     }
     true

@@ -1,20 +1,29 @@
 -- Slots of a till, as the code lends them.
-use mathlib.Core.Path.{_≡_, sym, ap, _∙_}
-use mathlib.Core.Bool.{Bool}
-use mathlib.Core.List.{List, [], map}
-use Prim.Native.Nat.{ℕ, _+_, _-_, _*_, _≤_, _<_}
-use native.Mathlib.Nat.{mul-le-mul-right, add-mul}
+use mathlib.Core.Path.{_≡_, sym, ap, ap₂, _∙_}
+use mathlib.Core.Bool.{Bool, true}
+use mathlib.Core.List.{List, [], _∷_, map}
+use Prim.Native.Nat.{ℕ, _+_, _-_, _*_, _^_, _≤_, _<_}
+use native.Mathlib.Nat.{mul-le-mul-right, add-mul, suc-mul, zero-mul}
 use native.Mathlib.Omega.{arith}
 use lib.Arith.{digits-lt}
-use lib.ListN.{length, take, drop, length-drop}
-use lib.Seq.{take-take, drop-drop}
-use Rattle.lists.proofs.Slices.{tail-all, drop-take}
-use Rattle.lists.specs.Lists.{every}
-use Rattle.model.specs.Measures.{baseMeasures}
-use Rattle.model.specs.Table.{wordToPointer, shelfIn, versionIn, versionsIn}
-use Rattle.model.specs.Sound.{leads, nextPointers}
+use lib.ListN.{length, getD, take, drop, length-drop, length-take, take-append-drop}
+use lib.Seq.{take-take, take-add, drop-drop}
+use Rattle.lists.specs.Lists.{allZero}
+use Rattle.lists.specs.Tells.{Tells}
 use Rattle.lists.proofs.Answers.{part-is}
-use Rattle.audit_pointers.proofs.Slots.{pointers-are, versions-cons, versions-end}
+use Rattle.lists.proofs.Checkers.{same-as}
+use Rattle.lists.proofs.Slices.{tail-all, drop-take, drop-next}
+use Rattle.model.specs.Measures.{partsFor}
+use Rattle.model.specs.State.{Shelf}
+use Rattle.model.specs.Table.{wordToPointer, versionIn, versionsIn}
+use Rattle.model.specs.Sound.{nextPointers}
+use Rattle.lists.specs.Each.{Each}
+use Rattle.audit_words.specs.Words.{PointerSays, SlotForm, SlotFrame}
+use Rattle.audit_counts.specs.Counters.{tallied}
+use Rattle.audit_counts.proofs.Counters.{tallied-le, tallied-append, tallied-small, tallied-blank}
+use Rattle.audit_pointers.specs.Good.{PointersGood}
+use Rattle.audit_pointers.proofs.Slots.{words-are, pointers-of, versions-cons, versions-end}
+use Rattle.audit_tills.specs.Says.{pointerWords, SlotPoints}
 use Rattle.audit_tails.proofs.Blocks.{first-slot}
 
 -- ---- room
@@ -35,10 +44,9 @@ till-fits t n w h = omega (arith, digits-lt {r = 3 + w} {c = 4 + w} h (omega ari
 take-drop : (b : ℕ) (ws : List ℕ) → drop 3 (take (3 + b) ws) ≡ take b (drop 3 ws)
 take-drop b ws = drop-take 3 (3 + b) ws ∙ ap (λ (m : ℕ). take m (drop 3 ws)) (let e : 3 + b - 3 ≡ b = omega arith in e)
 
-module _ (b : ℕ) (ws : List ℕ) (n : ℕ) (e : n ≡ length (versionIn 64 (take (3 + b) ws) .pointers)) (h : n ≤ b) where
-  -- the words of a slot's pointers, cut out of all slots
-  pub slot-pointers : versionIn 64 (take (3 + b) ws) .pointers ≡ map wordToPointer (take n (drop 3 ws))
-  slot-pointers = pointers-are (take (3 + b) ws) n e ∙ ap (map wordToPointer) (ap (take n) (take-drop b ws) ∙ take-take n b (drop 3 ws) h)
+-- the words of a slot's pointers, cut out of all slots
+pub slot-words : (b : ℕ) (ws : List ℕ) (n : ℕ) → n ≡ length (versionIn 64 (take (3 + b) ws) .pointers) → n ≤ b → take n (drop 3 ws) ≡ pointerWords (take (3 + b) ws)
+slot-words b ws n e h = sym (ap (take n) (take-drop b ws) ∙ take-take n b (drop 3 ws) h) ∙ words-are (take (3 + b) ws) n e
 
 pub next-none : (b count : ℕ) (ws : List ℕ) → count < 2 → nextPointers (versionsIn 64 b (count - 1) ws) ≡ []
 unfolding nextPointers
@@ -52,24 +60,27 @@ pub two-fit : (b n l : ℕ) → 2 ≤ n → n * (3 + b) ≤ l → 3 + b + (3 + b
 two-fit b n l h g = let m : 2 * (3 + b) ≤ n * (3 + b) = mul-le-mul-right (3 + b) h in omega arith
 
 -- the test of the pointers, as the code lends their words
-module _ (pool records : List ℕ) (b count : ℕ) (ws : List ℕ) (n : ℕ) (e : n ≡ length (versionIn 64 (take (3 + b - 0) (drop 0 ws)) .pointers)) (h : n ≤ b) where
-  mine : versionIn 64 (take (3 + b) ws) .pointers ≡ map wordToPointer (take (3 + n - 3) (drop 3 ws))
-  mine = slot-pointers b ws n (rw (first-slot b ws) at e) h ∙ ap (map wordToPointer) (sym (part-is ws 3 n))
+module _ (b count : ℕ) (ws : List ℕ) where
+  pub mine-words : (n : ℕ) → n ≡ length (versionIn 64 (take (3 + b - 0) (drop 0 ws)) .pointers) → n ≤ b → take (3 + n - 3) (drop 3 ws) ≡ pointerWords (take (3 + b) ws)
+  mine-words n e h = part-is ws 3 n ∙ slot-words b ws n (rw (first-slot b ws) at e) h
 
-  pub lead-newest : {r : Bool} → count < 2
-      → r ≡ every (leads (shelfIn baseMeasures pool records) (map wordToPointer (take (0 - 0) (drop 0 ws)))) (map wordToPointer (take (3 + n - 3) (drop 3 ws)))
-      → r ≡ every (leads (shelfIn baseMeasures pool records) (nextPointers (versionsIn 64 b (count - 1) (drop (3 + b) ws)))) (versionIn 64 (take (3 + b) ws) .pointers)
-  lead-newest g t = rw (next-none b count (drop (3 + b) ws) g, mine) t
+  pub newer-none : count < 2 → map wordToPointer (take (0 - 0) (drop 0 ws)) ≡ nextPointers (versionsIn 64 b (count - 1) (drop (3 + b) ws))
+  newer-none g = sym (next-none b count (drop (3 + b) ws) g)
 
-  pub lead-older : {r : Bool} (m : ℕ) → 2 ≤ count → m ≡ length (versionIn 64 (take (3 + b + (3 + b) - (3 + b)) (drop (3 + b) ws)) .pointers) → m ≤ b
-      → r ≡ every (leads (shelfIn baseMeasures pool records) (map wordToPointer (take (3 + b + 3 + m - (3 + b + 3)) (drop (3 + b + 3) ws)))) (map wordToPointer (take (3 + n - 3) (drop 3 ws)))
-      → r ≡ every (leads (shelfIn baseMeasures pool records) (nextPointers (versionsIn 64 b (count - 1) (drop (3 + b) ws)))) (versionIn 64 (take (3 + b) ws) .pointers)
-  lead-older m g f l t = rw (next-some b count (drop (3 + b) ws) g, next, mine) t
-    where
-      next : versionIn 64 (take (3 + b) (drop (3 + b) ws)) .pointers ≡ map wordToPointer (take (3 + b + 3 + m - (3 + b + 3)) (drop (3 + b + 3) ws))
-      next =
-          slot-pointers b (drop (3 + b) ws) m (rw (part-is ws (3 + b) (3 + b)) at f) l
-          ∙ ap (map wordToPointer) (ap (take m) (drop-drop 3 (3 + b) ws) ∙ sym (part-is ws (3 + b + 3) m))
+  pub newer-some : (m : ℕ) → 2 ≤ count → m ≡ length (versionIn 64 (take (3 + b + (3 + b) - (3 + b)) (drop (3 + b) ws)) .pointers) → m ≤ b
+      → map wordToPointer (take (3 + b + 3 + m - (3 + b + 3)) (drop (3 + b + 3) ws)) ≡ nextPointers (versionsIn 64 b (count - 1) (drop (3 + b) ws))
+  newer-some m g f l =
+      ap (map wordToPointer)
+      (part-is ws (3 + b + 3) m ∙ ap (take m) (sym (drop-drop 3 (3 + b) ws)) ∙ slot-words b (drop (3 + b) ws) m (rw (part-is ws (3 + b) (3 + b)) at f) l)
+      ∙ sym (pointers-of (take (3 + b) (drop (3 + b) ws))) ∙ sym (next-some b count (drop (3 + b) ws) g)
+
+  pub points-of : {r : Bool} (shelf : Shelf) (newer words : List ℕ) → map wordToPointer newer ≡ nextPointers (versionsIn 64 b (count - 1) (drop (3 + b) ws))
+      → words ≡ pointerWords (take (3 + b) ws) → Tells r (PointersGood shelf newer words) → Tells r (SlotPoints shelf b count ws)
+  points-of shelf newer words e f t =
+      same-as
+      (λ g. record { say = rw f at (g .say); lead = rw (pointers-of (take (3 + b) ws)) (rw (e, f) at (g .lead)) })
+      (λ g. record { say = rw f (g .say); lead = rw (e, f) (rw (pointers-of (take (3 + b) ws)) at (g .lead)) })
+      t
 
 -- the slots in use lie within the till
 pub used-fit : (v b count : ℕ) → count ≤ v → count * (3 + b) ≤ v * (3 + b)
@@ -77,3 +88,62 @@ used-fit v b count h = mul-le-mul-right (3 + b) h
 
 pub slots-fit : (v b count : ℕ) (row : List ℕ) → count ≤ v → length row ≡ 4 + v * (3 + b) → count * (3 + b) ≤ length (take (length row - 4) (drop 4 row))
 slots-fit v b count row h l = rw (tail-all row 4) (omega (arith, used-fit v b count h, length-drop 4 row))
+
+pub few-words : (ws : List ℕ) (n b : ℕ) → n ≤ b → length (take (3 + n - 3) (drop 3 ws)) ≤ b
+few-words ws n b h = omega (arith, ap length (part-is ws 3 n), length-take n (drop 3 ws))
+
+-- ---- a slot's words, and its pointers
+
+pub form-frame : {b : ℕ} {row : List ℕ} → SlotForm b row → SlotFrame b row
+form-frame f = record { some = f .some; most = f .most; third = f .third; rest = f .rest }
+
+pub frame-form : {b : ℕ} {row : List ℕ} → SlotFrame b row → Each PointerSays (pointerWords row) → SlotForm b row
+frame-form f p = record { some = f .some; most = f .most; third = f .third; pointers = p; rest = f .rest }
+
+-- ---- what is counted
+
+pub three : (row : List ℕ) → 3 ≤ length row → row ≡ getD row 0 0 ∷ getD row 1 0 ∷ getD row 2 0 ∷ drop 3 row
+three row l =
+    drop-next row 0 0 (omega (arith, l)) ∙ ap (λ (r : List ℕ). getD row 0 0 ∷ r) (drop-next row 1 0 (omega (arith, l))
+    ∙ ap (λ (r : List ℕ). getD row 1 0 ∷ r) (drop-next row 2 0 (omega (arith, l))))
+
+-- the pointers alone, of a slot's words
+pub slot-tallied : (b : ℕ) (row cs : List ℕ) → 3 ≤ length row → getD row 0 0 < 16777216 → SlotFrame b row → b ≤ 1024 → tallied row cs ≡ tallied (pointerWords row) cs
+unfolding partsFor
+slot-tallied b row cs l h f g =
+    let n : ℕ = partsFor 64 (getD row 1 0) in
+    let rest : allZero (drop n (drop 3 row)) ≡ true = ap allZero (drop-drop n 3 row) ∙ f .rest in
+    ap (λ (ws : List ℕ). tallied ws cs) (three row l)
+    ∙ tallied-small (getD row 0 0) _ cs h ∙ tallied-small (getD row 1 0) _ cs (omega (arith, f .most, g)) ∙ tallied-small (getD row 2 0) _ cs (omega (arith, f .third))
+    ∙ ap (λ (ws : List ℕ). tallied ws cs) (sym (take-append-drop n (drop 3 row)))
+    ∙ tallied-append (take n (drop 3 row)) (drop n (drop 3 row)) cs ∙ tallied-blank (drop n (drop 3 row)) _ rest
+
+-- the slots in use alone, m words, of a till's
+pub till-tallied : (row cs cs₁ : List ℕ) (m : ℕ) → 4 ≤ length row → getD row 0 0 ≤ 65535 → getD row 1 0 ≤ 64 → allZero (take 2 (drop 2 row)) ≡ true → allZero (drop (4 + m) row) ≡ true
+    → cs₁ ≡ tallied (take m (drop 4 row)) cs → cs₁ ≡ tallied row cs
+till-tallied row cs cs₁ m l h g z r e =
+    e
+    ∙ sym (
+    ap (λ (ws : List ℕ). tallied ws cs) (drop-next row 0 0 (omega (arith, l)) ∙ ap (λ (ws : List ℕ). getD row 0 0 ∷ ws) (drop-next row 1 0 (omega (arith, l))))
+    ∙ tallied-small (getD row 0 0) _ cs (omega (arith, h)) ∙ tallied-small (getD row 1 0) _ cs (omega (arith, g))
+    ∙ split 2 (drop 2 row) ∙ ap₂ tallied (drop-drop 2 2 row) (tallied-blank (take 2 (drop 2 row)) cs z)
+    ∙ split m (drop 4 row) ∙ tallied-blank (drop m (drop 4 row)) _ (ap allZero (drop-drop m 4 row) ∙ r)
+    )
+  where
+    split : (n : ℕ) (ws : List ℕ) → tallied ws cs ≡ tallied (drop n ws) (tallied (take n ws) cs)
+    split n ws = ap (λ (xs : List ℕ). tallied xs cs) (sym (take-append-drop n ws)) ∙ tallied-append (take n ws) (drop n ws) cs
+
+pub none-tallied : (w : ℕ) (ws cs : List ℕ) → cs ≡ tallied (take (0 * w) ws) cs
+unfolding tallied
+none-tallied w ws cs = rw (zero-mul w)
+
+-- row i of rows of w words, after those before it
+pub next-tallied : (i w : ℕ) (ws cs cs₀ cs₁ : List ℕ) → cs ≡ tallied (take (i * w) ws) cs₀ → cs₁ ≡ tallied (take w (drop (i * w) ws)) cs → cs₁ ≡ tallied (take ((i + 1) * w) ws) cs₀
+next-tallied i w ws cs cs₀ cs₁ e f =
+    let m : (i + 1) * w ≡ i * w + w = omega (arith, suc-mul i w) in
+    f ∙ ap (tallied (take w (drop (i * w) ws))) e ∙ sym (tallied-append (take (i * w) ws) (take w (drop (i * w) ws)) cs₀)
+    ∙ ap (λ (xs : List ℕ). tallied xs cs₀) (sym (take-add (i * w) w ws)) ∙ ap (λ (n : ℕ). tallied (take n ws) cs₀) (sym m)
+
+-- the counters have room for m more words
+pub room-left : (n m : ℕ) (ws cs₀ cs : List ℕ) → cs ≡ tallied (take n ws) cs₀ → ((k : ℕ) → getD cs₀ k 0 + (n + m) < 2 ^ 32) → (k : ℕ) → getD cs k 0 + m < 2 ^ 32
+room-left n m ws cs₀ cs e h k = rw e (omega (arith, tallied-le (take n ws) cs₀ k, length-take n ws, h k))

@@ -5,10 +5,21 @@ use mathlib.Core.Path.{_≡_}
 use mathlib.Core.List.{List}
 use lib.ListN.{getD, take, drop}
 use Rattle.lists.specs.Lists.{every, allZero}
+use Rattle.lists.specs.Each.{Each}
 use Rattle.model.specs.State.{Shelf}
 use Rattle.model.specs.Table.{versionIn, versionsIn}
 use Rattle.model.specs.Sound.{leads, nextPointers, endsZero}
-use Rattle.audit_words.specs.Words.{SlotForm}
+use Rattle.model.specs.Measures.{partsFor}
+use Rattle.audit_words.specs.Words.{PointerSays, SlotForm}
+
+-- a slot's pointer words
+abbrev pub pointerWords : List ℕ → List ℕ
+pointerWords row = take (partsFor 64 (getD row 1 0)) (drop 3 row)
+
+-- the pointer words of the first of `count` slots, of which the others are newer: each says a pointer, which leads
+pub record SlotPoints (shelf : Shelf) (b count : ℕ) (slots : List ℕ) : Type 0 where
+  pub say : Each PointerSays (pointerWords (take (3 + b) slots))
+  pub lead : every (leads shelf (nextPointers (versionsIn 64 b (count - 1) (drop (3 + b) slots)))) (versionIn 64 (take (3 + b) slots) .pointers) ≡ true
 
 -- the first of `count` slots, of which the others are newer: its number and its words, its pointers lead, and its last block ends in zeros
 pub record SlotSays (shelf : Shelf) (b count number : ℕ) (slots : List ℕ) : Type 0 where

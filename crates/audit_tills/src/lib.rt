@@ -1,30 +1,35 @@
-// Tills: their versions' words, pointers and ends.
+// Tills: their versions' words, pointers and ends. The direct pointers are counted on the way.
 ghost use mathlib.Core.Bool.{true, false};
 ghost use mathlib.Core.Path.{_≡_};
 ghost use mathlib.Core.List.{List};
-ghost use Prim.Native.Nat.{ℕ, _+_, _*_, _-_, _≤_, _<_};
-ghost use lib.ListN.{length, take, drop};
+ghost use Prim.Native.Nat.{ℕ, _+_, _*_, _-_, _^_, _≤_, _<_};
+ghost use lib.ListN.{length, getD, take, drop};
 ghost use Rattle.lists.specs.Tells.{Tells};
-ghost use Rattle.lists.specs.Lists.{every};
 ghost use Rattle.model.specs.Measures.{baseMeasures, tillWords};
-ghost use Rattle.model.specs.Table.{shelfIn, versionIn, versionsIn};
-ghost use Rattle.model.specs.Sound.{leads, nextPointers};
-ghost use Rattle.audit_tills.specs.Says.{SlotSays, TillSays};
+ghost use Rattle.model.specs.Table.{shelfIn};
+ghost use Rattle.audit_counts.specs.Counters.{tallied};
+ghost use Rattle.audit_tills.specs.Says.{pointerWords, SlotPoints, SlotSays, TillSays};
 
-// Whether the pointers of the first of some slots lead, of which the others are newer; whatever the pool.
-fn slot_leads(records: &[u32], slots: &[u32], blocks: usize, count: usize) -> bool
-    requires { ⌜ (0 < count) × (blocks ≤ 1024) × (count ≤ 64) × (count * (3 + blocks) ≤ length (now slots)) ⌝ }
-    ensures { λ r. ⌜ ((pool : List ℕ) → r ≡ every (leads (shelfIn baseMeasures pool (now (records .entry))) (nextPointers (versionsIn 64 blocks (count - 1) (drop (3 + blocks) (now (slots .entry)))))) (versionIn 64 (take (3 + blocks) (now (slots .entry))) .pointers)) ⌝ }
+// Whether the pointer words of the first of some slots are good, of which the others are newer; whatever the pool. They are counted.
+fn slot_points(
+    records: &[u32],
+    slots: &[u32],
+    blocks: usize,
+    count: usize,
+    counts: &mut [u32],
+) -> bool
+    requires { ⌜ (0 < count) × (blocks ≤ 1024) × (count ≤ 64) × (count * (3 + blocks) ≤ length (now slots)) × ((k : ℕ) → getD (now counts) k 0 + blocks < 2 ^ 32) ⌝ }
+    ensures { λ r. ⌜ ((pool : List ℕ) → Tells r (SlotPoints (shelfIn baseMeasures pool (now (records .entry))) blocks count (now (slots .entry)))) × (r ≡ true → now (counts .exit) ≡ tallied (pointerWords (take (3 + blocks) (now (slots .entry)))) (now (counts .entry))) ⌝ }
 {
     let width = 3 + blocks;
     let mine = 3 + audit_pointers::pointer_count(&slots[0..width], blocks);
     if count < 2 {
-        return audit_pointers::pointers_lead(records, &slots[0..0], &slots[3..mine]);
+        return audit_pointers::pointers_good(records, &slots[0..0], &slots[3..mine], counts);
     }
     let twice = width + width;
     let start = width + 3;
     let end = start + audit_pointers::pointer_count(&slots[width..twice], blocks);
-    audit_pointers::pointers_lead(records, &slots[start..end], &slots[3..mine])
+    audit_pointers::pointers_good(records, &slots[start..end], &slots[3..mine], counts)
 }
 
 // Whether the first of some slots says a version of this number.
@@ -35,18 +40,19 @@ fn slot_says(
     blocks: usize,
     count: usize,
     number: usize,
+    counts: &mut [u32],
 ) -> bool
-    requires { ⌜ (0 < count) × (blocks ≤ 1024) × (count ≤ 64) × (count * (3 + blocks) ≤ length (now slots)) ⌝ }
-    ensures { λ r. ⌜ Tells r (SlotSays (shelfIn baseMeasures (now (pool .entry)) (now (records .entry))) blocks count number (now (slots .entry))) ⌝ }
+    requires { ⌜ (0 < count) × (blocks ≤ 1024) × (count ≤ 64) × (count * (3 + blocks) ≤ length (now slots)) × (number ≤ 131072) × ((k : ℕ) → getD (now counts) k 0 + blocks < 2 ^ 32) ⌝ }
+    ensures { λ r. ⌜ Tells r (SlotSays (shelfIn baseMeasures (now (pool .entry)) (now (records .entry))) blocks count number (now (slots .entry))) × (r ≡ true → now (counts .exit) ≡ tallied (take (3 + blocks) (now (slots .entry))) (now (counts .entry))) ⌝ }
 {
     let width = 3 + blocks;
     if slots[0] as usize != number {
         return false;
     }
-    if !audit_words::slot_form(&slots[0..width], blocks) {
+    if !audit_words::slot_frame(&slots[0..width], blocks) {
         return false;
     }
-    if !slot_leads(records, slots, blocks, count) {
+    if !slot_points(records, slots, blocks, count, counts) {
         return false;
     }
     audit_tails::tail_zero(pool, records, slots, blocks, count)
@@ -60,14 +66,23 @@ fn slots_say(
     blocks: usize,
     count: usize,
     first: usize,
+    counts: &mut [u32],
 ) -> bool
-    requires { ⌜ (first ≤ 65536) × (blocks ≤ 1024) × (count ≤ 64) × (count * (3 + blocks) ≤ length (now slots)) ⌝ }
-    ensures { λ r. ⌜ Tells r ((i : ℕ) → i < count → SlotSays (shelfIn baseMeasures (now (pool .entry)) (now (records .entry))) blocks (count - i) (first + i) (drop (i * (3 + blocks)) (now (slots .entry)))) ⌝ }
+    requires { ⌜ (first ≤ 65536) × (blocks ≤ 1024) × (count ≤ 64) × (count * (3 + blocks) ≤ length (now slots)) × ((k : ℕ) → getD (now counts) k 0 + count * (3 + blocks) < 2 ^ 32) ⌝ }
+    ensures { λ r. ⌜ Tells r ((i : ℕ) → i < count → SlotSays (shelfIn baseMeasures (now (pool .entry)) (now (records .entry))) blocks (count - i) (first + i) (drop (i * (3 + blocks)) (now (slots .entry)))) × (r ≡ true → now (counts .exit) ≡ tallied (take (count * (3 + blocks)) (now (slots .entry))) (now (counts .entry))) ⌝ }
 {
     let mut i: usize = 0;
     while i < count {
         let at = i * (3 + blocks);
-        if !slot_says(pool, records, &slots[at..], blocks, count - i, first + i) {
+        if !slot_says(
+            pool,
+            records,
+            &slots[at..],
+            blocks,
+            count - i,
+            first + i,
+            counts,
+        ) {
             return false;
         }
         i += 1;
@@ -76,9 +91,16 @@ fn slots_say(
 }
 
 // Whether a till's words say a till.
-fn till_says(pool: &[u8], records: &[u32], till: &[u32], versions: usize, blocks: usize) -> bool
-    requires { ⌜ (versions ≤ 64) × (blocks ≤ 1024) × (length (now till) ≡ tillWords versions blocks) ⌝ }
-    ensures { λ r. ⌜ Tells r (TillSays (shelfIn baseMeasures (now (pool .entry)) (now (records .entry))) versions blocks (now (till .entry))) ⌝ }
+fn till_says(
+    pool: &[u8],
+    records: &[u32],
+    till: &[u32],
+    versions: usize,
+    blocks: usize,
+    counts: &mut [u32],
+) -> bool
+    requires { ⌜ (versions ≤ 64) × (blocks ≤ 1024) × (length (now till) ≡ tillWords versions blocks) × ((k : ℕ) → getD (now counts) k 0 + length (now till) < 2 ^ 32) ⌝ }
+    ensures { λ r. ⌜ Tells r (TillSays (shelfIn baseMeasures (now (pool .entry)) (now (records .entry))) versions blocks (now (till .entry))) × (r ≡ true → now (counts .exit) ≡ tallied (now (till .entry)) (now (counts .entry))) ⌝ }
 {
     let last = till[0] as usize;
     let count = till[1] as usize;
@@ -94,7 +116,15 @@ fn till_says(pool: &[u8], records: &[u32], till: &[u32], versions: usize, blocks
     if !audit_words::zeros(&till[2..4]) {
         return false;
     }
-    if !slots_say(pool, records, &till[4..], blocks, count, 1 + last - count) {
+    if !slots_say(
+        pool,
+        records,
+        &till[4..],
+        blocks,
+        count,
+        1 + last - count,
+        counts,
+    ) {
         return false;
     }
     let end = 4 + count * (3 + blocks);
@@ -109,16 +139,17 @@ pub fn tills_say(
     count: usize,
     versions: usize,
     blocks: usize,
+    counts: &mut [u32],
 ) -> bool
-    requires { ⌜ (count ≤ 16) × (versions ≤ 64) × (blocks ≤ 1024) × (length (now tills) ≡ count * tillWords versions blocks) ⌝ }
-    ensures { λ r. ⌜ Tells r ((t : ℕ) → t < count → TillSays (shelfIn baseMeasures (now (pool .entry)) (now (records .entry))) versions blocks (take (tillWords versions blocks) (drop (t * tillWords versions blocks) (now (tills .entry))))) ⌝ }
+    requires { ⌜ (count ≤ 16) × (versions ≤ 64) × (blocks ≤ 1024) × (length (now tills) ≡ count * tillWords versions blocks) × ((k : ℕ) → getD (now counts) k 0 + length (now tills) < 2 ^ 32) ⌝ }
+    ensures { λ r. ⌜ Tells r ((t : ℕ) → t < count → TillSays (shelfIn baseMeasures (now (pool .entry)) (now (records .entry))) versions blocks (take (tillWords versions blocks) (drop (t * tillWords versions blocks) (now (tills .entry))))) × (r ≡ true → now (counts .exit) ≡ tallied (now (tills .entry)) (now (counts .entry))) ⌝ }
 {
     let width = 4 + versions * (3 + blocks);
     let mut t: usize = 0;
     while t < count {
         let at = t * width;
         let end = at + width;
-        if !till_says(pool, records, &tills[at..end], versions, blocks) {
+        if !till_says(pool, records, &tills[at..end], versions, blocks, counts) {
             return false;
         }
         t += 1;

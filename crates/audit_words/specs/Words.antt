@@ -13,7 +13,14 @@ use Rattle.model.specs.Table.{pointerWord, wordToPointer}
 abbrev pub PointerSays : ℕ → Type 0
 PointerSays w = pointerWord (wordToPointer w) ≡ w
 
--- a slot of 3 + `b` words, in use: a length in range, its pointers, and zeros behind them
+-- a slot of 3 + `b` words, in use: a length in range, and zeros behind its pointers
+pub record SlotFrame (b : ℕ) (row : List ℕ) : Type 0 where
+  pub some : 1 ≤ getD row 1 0
+  pub most : getD row 1 0 ≤ 64 * b
+  pub third : getD row 2 0 ≡ 0
+  pub rest : allZero (drop (3 + partsFor 64 (getD row 1 0)) row) ≡ true
+
+-- and its pointers
 pub record SlotForm (b : ℕ) (row : List ℕ) : Type 0 where
   pub some : 1 ≤ getD row 1 0
   pub most : getD row 1 0 ≤ 64 * b

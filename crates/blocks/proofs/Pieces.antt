@@ -10,6 +10,7 @@ use lib.Dec.{eqb}
 use lib.ListN.{length, getD, take, drop, length-take, length-drop, take-append-drop}
 use lib.Seq.{take-suc, drop-cons, getD-drop, length-take-le, drop-drop}
 use Rattle.lists.specs.Lists.{every, allZero, sameNumbers}
+use Rattle.lists.proofs.Tests.{cond-self}
 use Rattle.lists.proofs.Slices.{drop-next, take-next}
 use Rattle.lists.proofs.Appends.{zero-append, same-append}
 
@@ -28,10 +29,6 @@ count-miss c p q e f = e ∙ go p
     go : (t : Bool) → t ≡ cond t q false
     go true = sym f
     go false = refl
-
-cond-self : (t : Bool) → cond t true false ≡ t
-cond-self true = refl
-cond-self false = refl
 
 -- the byte at i of what begins at `at`
 next-byte : (l : List ℕ) (at i : ℕ) → at + i < length l → take (i + 1) (drop at l) ≡ take i (drop at l) ++ (getD l (at + i) 0 ∷ [])

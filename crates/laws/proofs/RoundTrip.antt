@@ -59,6 +59,18 @@ segment-back n seg l =
 
 -- ---- a pointer
 
+pub null-word : pointerWord nullPointer ≡ 0
+unfolding pointerWord
+null-word = refl
+
+pub direct-word : (k i : ℕ) → pointerWord (direct k i) ≡ 16777216 + (k * 16 + i)
+unfolding pointerWord
+direct-word k i = refl
+
+pub indirect-word : (n : ℕ) → pointerWord (indirect n) ≡ 33554432 + n
+unfolding pointerWord
+indirect-word n = refl
+
 pub pointer-back : (p : Pointer) → PointerFits p → wordToPointer (pointerWord p) ≡ p
 unfolding wordToPointer pointerWord pointerOf
 pointer-back nullPointer h = refl

@@ -19,6 +19,14 @@ pub cond-true : (a b : Bool) → cond a b false ≡ true → (a ≡ true) × (b 
 cond-true true b e = (refl, e)
 cond-true false b e = absurd (false≢true e)
 
+pub cond-self : (b : Bool) → cond b true false ≡ b
+cond-self true = refl
+cond-self false = refl
+
+pub cond-never : (b : Bool) → cond b false false ≡ false
+cond-never true = refl
+cond-never false = refl
+
 pub or-false : (a b : Bool) → a || b ≡ false → (a ≡ false) × (b ≡ false)
 or-false true b e = absurd (false≢true (sym e))
 or-false false b e = (refl, e)

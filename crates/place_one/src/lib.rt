@@ -11,12 +11,12 @@ ghost use Rattle.model.specs.Runs.{scan};
 ghost use Rattle.model.specs.Place.{placeSegment, nonNull};
 ghost use Rattle.model.specs.Table.{recordsIn, shelfIn};
 ghost use Rattle.place_words.specs.Words.{asOption};
-ghost use Rattle.place_seek.specs.Seek.{asRun};
+ghost use Rattle.runs.specs.Runs.{asRun};
 ghost use Rattle.place_one.specs.Did.{Did};
 ghost use Rattle.place_one.specs.Ready.{Ready, Masked, Unmatched};
-use numbers::Cell;
+use numbers::Pointer;
 use numbers::RecordNumber;
-use place_seek::Run;
+use runs::Run;
 
 // The refusal, or 0; and 0 for a null segment, or the record's number and 1.
 pub struct Placing {
@@ -42,13 +42,11 @@ fn write_record(
     let n = k.0;
     let start = n as usize * 19;
     let end = start + 19;
-    let cell = run.start;
-    let first = cell as u32;
-    place_match::copy_blocks(image, from, pool, Cell(first), mask);
-    place_words::new_row(&mut records[start..end], mask, Cell(first));
+    let first = run.start;
+    place_match::copy_blocks(image, from, pool, first, mask);
+    place_words::new_row(&mut records[start..end], mask, first);
     place_seek::take_row(&records[start..end], free);
-    let base = 0x100_0000 + n * 16;
-    place_words::put_places(words, mask, base);
+    place_words::put_places(words, mask, Pointer::direct(k, 0));
     let record = n + 1;
     Placing { refusal: 0, record }
 }
@@ -75,7 +73,7 @@ fn write_segment(
         };
     }
     let need = u32::count_ones(mask) as usize;
-    let run = place_seek::best_run(free, need);
+    let run = runs::best_run(free, true, need);
     if run.size == 0 {
         return Placing {
             refusal: 16,
@@ -118,8 +116,7 @@ fn place_blocks(
     let end = start + 19;
     place_words::raise_row(&mut records[start..end]);
     let n = k as u32;
-    let base = 0x100_0000 + n * 16;
-    place_words::put_places(words, mask, base);
+    place_words::put_places(words, mask, Pointer::direct(RecordNumber(n), 0));
     let record = n + 1;
     Placing { refusal: 0, record }
 }
@@ -137,7 +134,7 @@ pub fn place_segment(
 {
     let mask = place_match::segment_mask(image, from);
     if mask == 0 {
-        place_words::put_places(words, 0, 0);
+        place_words::put_places(words, 0, Pointer::null());
         return Placing {
             refusal: 0,
             record: 0,

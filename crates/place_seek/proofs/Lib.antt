@@ -1,4 +1,3 @@
 -- Laws of the searches and of the free cells.
-pub mod Better
 pub mod Seeking
 pub mod Free

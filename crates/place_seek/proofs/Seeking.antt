@@ -2,7 +2,6 @@
 use mathlib.Core.Path.{_∙_, _≡_, ap, refl, sym}
 use mathlib.Core.Bool.{Bool, false, false≢true, true}
 use mathlib.Core.List.{List, [], _++_, _∷_}
-use mathlib.Core.Option.{Option}
 use Prim.Native.Nat.{_%_, _*_, _+_, _/_, _<_, _≤_, ℕ}
 use native.Mathlib.Numerals.{add-one}
 use native.Mathlib.Omega.{arith}
@@ -14,29 +13,12 @@ use Rattle.lists.specs.Masks.{maskOf}
 use Rattle.lists.specs.Rows.{joined}
 use Rattle.lists.proofs.Slices.{drop-end, drop-next}
 use Rattle.model.specs.Records.{cellsOf, isFree, isHeld, isRemoved, namedCells}
-use Rattle.model.specs.Runs.{Run, better, scan}
 use Rattle.model.specs.State.{Segment, held, nullPosition, removed}
 use Rattle.model.specs.Table.{recordToWords, recordsIn, segmentIn}
 use Rattle.place_words.specs.Words.{keptCell}
 use Rattle.place_words.proofs.Cells.{cells-end, cells-next, cellsBy}
 use Rattle.place_words.proofs.Reading.{cellWords, length-records, record-at}
 use Rattle.place_seek.specs.Seek.{taken}
-
--- ---- runs
-
-pub scan-free : (need : ℕ) (fs : List Bool) (i k : ℕ) (best : Option Run) → i < length fs → getD fs i false ≡ true
-    → scan need (drop i fs) i k best ≡ scan need (drop (i + 1) fs) (i + 1) (k + 1) best
-unfolding scan
-scan-free need fs i k best h e = rw (drop-next fs i false h, e, add-one i, add-one k)
-
-pub scan-taken : (need : ℕ) (fs : List Bool) (i k : ℕ) (best : Option Run) → i < length fs → getD fs i false ≡ false
-    → scan need (drop i fs) i k best ≡ scan need (drop (i + 1) fs) (i + 1) 0 (better need i k best)
-unfolding scan
-scan-taken need fs i k best h e = rw (drop-next fs i false h, e, add-one i)
-
-pub scan-end : (need : ℕ) (fs : List Bool) (i k : ℕ) (best : Option Run) → length fs ≤ i → scan need (drop i fs) i k best ≡ better need i k best
-unfolding scan
-scan-end need fs i k best h = rw (drop-end fs i h)
 
 -- ---- free records
 

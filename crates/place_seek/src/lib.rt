@@ -1,61 +1,14 @@
-// The searches: a run of free cells, a free record; and which cells are free.
+// The search for a free record, and which cells are free.
 ghost use mathlib.Core.Path.{_≡_};
-ghost use mathlib.Core.Option.{none};
 ghost use mathlib.Core.List.{List, []};
 ghost use Prim.Native.Nat.{ℕ, _+_, _*_, _/_, _≤_, _<_};
 ghost use lib.ListN.{length, take, drop, getD};
 ghost use Rattle.lists.specs.Lists.{firstFrom};
 ghost use Rattle.model.specs.Records.{isFree, cellsOf, namedCells};
-ghost use Rattle.model.specs.Runs.{better, scan};
 ghost use Rattle.model.specs.Table.{segmentIn, recordsIn};
 ghost use Rattle.place_words.specs.Words.{asOption, keptCell, RowFits, RowSays};
-ghost use Rattle.place_seek.specs.Seek.{asRun, taken};
+ghost use Rattle.place_seek.specs.Seek.{taken};
 use numbers::Cell;
-
-// Consecutive free cells from `start` on; of size 0 where none is found.
-pub struct Run {
-    pub start: usize,
-    pub size: usize,
-}
-
-impl Run {
-    // The better of this run and the one of `size` cells that ends after `at` cells.
-    fn or(self, at: usize, size: usize, need: usize) -> Run
-        requires { ⌜ (0 < need) × (size ≤ at) ⌝ }
-        ensures { λ r. ⌜ asRun r ≡ better need at size (asRun self) ⌝ }
-    {
-        if size < need {
-            return self;
-        }
-        let start = at - size;
-        if self.size == 0 {
-            return Run { start, size };
-        }
-        if size < self.size {
-            return Run { start, size };
-        }
-        self
-    }
-}
-
-pub fn best_run(free: &[bool], need: usize) -> Run
-    requires { ⌜ 0 < need ⌝ }
-    ensures { λ r. ⌜ asRun r ≡ scan need (now (free .entry)) 0 0 none ⌝ }
-{
-    let mut best = Run { start: 0, size: 0 };
-    let mut run: usize = 0;
-    let mut i: usize = 0;
-    while i < free.len() {
-        if free[i] {
-            run = run + 1;
-        } else {
-            best = best.or(i, run, need);
-            run = 0;
-        }
-        i = i + 1;
-    }
-    best.or(i, run, need)
-}
 
 // Whether a record is free.
 fn row_free(row: &[u32]) -> bool

@@ -9,6 +9,7 @@ ghost use Rattle.model.specs.Sweep.{oneLess};
 ghost use Rattle.model.specs.Table.{segmentIn, recordToWords};
 ghost use Rattle.place_words.specs.Words.{RowSays};
 use numbers::Cell;
+use numbers::Pointer;
 
 fn picked(bit: u32, value: u32) -> u32
     requires { ⌜ bit < 2 ⌝ }
@@ -18,6 +19,18 @@ fn picked(bit: u32, value: u32) -> u32
         return value;
     }
     0
+}
+
+// The pointer's word where the bit is set, else a null pointer's.
+fn pointer_if(bit: u32, word: u32) -> u32
+    requires { ⌜ bit < 2 ⌝ }
+    ensures { λ r. ⌜ r ≡ pick bit word ⌝ }
+{
+    if bit == 1 {
+        return word;
+    }
+    let null = Pointer::null();
+    null.0
 }
 
 // One more where a bit is set.
@@ -87,16 +100,16 @@ fn number(cells: &mut [u32], mask: u32, start: Cell)
     }
 }
 
-// The place's number where a bit is set, 0 elsewhere.
-pub fn put_places(words: &mut [u32], mask: u32, first: u32)
-    requires { ⌜ (length (now words) ≤ 16) × (first ≤ 33554432) ⌝ }
-    ensures { λ _. ⌜ now (words .exit) ≡ placed mask first (now (words .entry)) ⌝ }
+// Pointers to a record's positions, from the first one's, where a bit is set; null pointers elsewhere.
+pub fn put_places(words: &mut [u32], mask: u32, first: Pointer)
+    requires { ⌜ (length (now words) ≤ 16) × (first .0 ≤ 33554432) ⌝ }
+    ensures { λ _. ⌜ now (words .exit) ≡ placed mask (first .0) (now (words .entry)) ⌝ }
 {
     let mut m = mask;
-    let mut at = first;
+    let mut at = first.0;
     let mut i: usize = 0;
     while i < words.len() {
-        words[i] = picked(m % 2, at);
+        words[i] = pointer_if(m % 2, at);
         at = at + 1;
         m = m / 2;
         i = i + 1;

@@ -88,7 +88,7 @@ pub fn compact_record(
 {
     let keep = old.held - going;
     let need = u32::count_ones(keep) as usize;
-    let run = runs::best_run(occupied, need);
+    let run = runs::best_run(occupied, false, need);
     if run.size == 0 {
         strike_record(pool, words, occupied, number, old, going);
         return;

@@ -12,6 +12,8 @@ ghost use Rattle.model.specs.Table.{shelfIn, pointerWord, wordToPointer};
 ghost use Rattle.place_words.specs.Words.{asOption};
 ghost use Rattle.place_words.specs.Stored.{Stored};
 ghost use Rattle.turn.specs.Turn.{WordFits, targetOf, turnWord, releasedOf, TargetOk, keptWord};
+use numbers::Block;
+use numbers::Pointer;
 
 const NO_TARGET: u32 = 0xFFFF_FFFF;
 
@@ -79,7 +81,8 @@ fn turned_word(word: u32, target: u32) -> u32
     if target == NO_TARGET {
         return word;
     }
-    0x200_0000 + target
+    let turned = Pointer::indirect(Block(target));
+    turned.0
 }
 
 // Pointers turned to their targets.

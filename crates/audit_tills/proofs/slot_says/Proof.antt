@@ -1,91 +1,106 @@
 use native.Mathlib.Omega.{arith}
 use mathlib.Core.Bool.{Bool}
-use mathlib.Core.Path.{sym, _∙_}
+use mathlib.Core.Path.{_≡_, refl, sym, _∙_}
 use mathlib.Core.List.{List}
-use Prim.Native.Nat.{ℕ, _+_, _-_, _/_, _≤_}
-use lib.ListN.{length, take, drop}
+use Prim.Native.Nat.{ℕ, _+_, _-_, _≤_}
+use lib.ListN.{length, getD, take, drop}
+use lib.Seq.{length-take-le, getD-take}
 use denote.Ref.{now}
+use borrow.Author.Tests.{not-false}
 use Rattle.lists.specs.Tells.{Tells}
-use Rattle.lists.specs.Lists.{count}
-use Rattle.lists.proofs.Checkers.{is-not, refutes, proves}
-use Rattle.audit_words.specs.Words.{SlotForm}
-use Rattle.lists.proofs.Answers.{tells-at, answer-no, answer-yes}
+use Rattle.lists.proofs.Checkers.{clash, is-not, refutes, proves}
+use Rattle.lists.proofs.Answers.{tells-at}
+use Rattle.audit_words.specs.Words.{SlotFrame}
 use Rattle.audit_tails.proofs.Blocks.{first-slot, first-long, slot-fits}
+use Rattle.audit_tills.proofs.Slots.{slot-tallied, form-frame, frame-form}
+use borrow.Author.Needs.{needs}
 use borrow.Author.Needs.{needs}
 use Rattle.audit_tills.proofs.slot_says.Statement.{statement}
 use Rattle.audit_tills.proofs.slot_says.Tie as tie
 use Rattle.audit_tills.proofs.slot_says.Reads as reads
 use Rattle.audit_tills.proofs.slot_says.Lts as lts
 use Rattle.audit_tails.proofs.tail_zero.Reads as tail-zero-reads
-use Rattle.audit_tills.proofs.slot_leads.Reads as slot-leads-reads
-use Rattle.audit_words.proofs.slot_form.Reads as slot-form-reads
+use Rattle.audit_tills.proofs.slot_points.Reads as slot-points-reads
+use Rattle.audit_words.proofs.slot_frame.Reads as slot-frame-reads
 
-here : (c : tie.After-shared-slice-known3) → 3 + c .before .before .before .args .blocks ≤ length (c .before .before .before .args .slots .now)
-here c = slot-fits (c .before .before .before .args .blocks) (c .before .before .before .args .count) _ (c .before .before .before .pre .0) (c .before .before .before .pre .3)
+here : (c : tie.After-slice-known) → 3 + c .before .before .before .before .args .blocks ≤ length (c .before .before .before .before .args .slots .now)
+here c = slot-fits (c .before .before .before .before .args .blocks) (c .before .before .before .before .args .count) _ (c .before .before .before .before .pre .0) (c .before .before .before .before .pre .3)
 
-form : {r : Bool} (b : ℕ) (ws : List ℕ) → Tells r (SlotForm b (take (3 + b - 0) (drop 0 ws))) → Tells r (SlotForm b (take (3 + b) ws))
-form b ws t = tells-at (SlotForm b) (first-slot b ws) t
+frame : {r : Bool} (b : ℕ) (ws : List ℕ) → Tells r (SlotFrame b (take (3 + b - 0) (drop 0 ws))) → Tells r (SlotFrame b (take (3 + b) ws))
+frame b ws t = tells-at (SlotFrame b) (first-slot b ws) t
 
--- src/lib.rt:42:17
+-- src/lib.rt:48:17
 add-width : tie.Need-add-width
 add-width c = search needs
 
--- src/lib.rt:43:8
+-- src/lib.rt:49:8
 shared-slice-read-if1 : tie.Need-shared-slice-read-if1
-shared-slice-read-if1 c = omega (arith, here (c .before))
+shared-slice-read-if1 c = search needs
 
--- src/lib.rt:43:8
+-- src/lib.rt:49:8
 cast-if1 : tie.Need-cast-if1
 cast-if1 c = omega (arith, c .shared-slice-known4 .given 0)
 
--- src/lib.rt:44:9
-returns : tie.Need-returns
-returns c = is-not (λ s. c .if1 .taken (s .numbered))
-
--- src/lib.rt:46:32
-sub-slot-form : tie.Need-sub-slot-form
-sub-slot-form c = search needs
-
--- src/lib.rt:46:32
-part-slot-form-start : tie.Need-part-slot-form-start
-part-slot-form-start c = search needs
-
--- src/lib.rt:46:32
-part-slot-form-end : tie.Need-part-slot-form-end
-part-slot-form-end c = omega (arith, here (c .before .before))
-
--- src/lib.rt:46:9
-slot-form-requires : tie.Need-slot-form-requires
-slot-form-requires c κs = (search needs, first-long (c .before .before .before .before .before .before .args .blocks) (c .before .before .before .before .before .before .args .slots .now) (here (c .before .before .before)))
-
--- src/lib.rt:47:9
-returns-2 : tie.Need-returns-2
-returns-2 c = is-not (λ s. refutes (form (c .before .before .before .before .before .before .before .before .args .blocks) (c .before .before .before .before .before .before .before .before .args .slots .now) (c .before .slot-form .ensures)) (c .if2 .taken) (s .form))
-
--- src/lib.rt:49:9
-slot-leads-requires : tie.Need-slot-leads-requires
-slot-leads-requires c κs = search needs
-
 -- src/lib.rt:50:9
-returns-3 : tie.Need-returns-3
-returns-3 c = is-not (λ s. answer-no (c .before .slot-leads .ensures (c .before .before .before .before .before .before .before .before .before .before .args .pool .now)) (c .if3 .taken) (s .leading))
+returns : tie.Need-returns
+returns c = (is-not (λ s. c .if1 .taken (s .numbered)), λ e. absurd (clash refl e))
 
--- src/lib.rt:52:5
+-- src/lib.rt:52:33
+sub-slot-frame : tie.Need-sub-slot-frame
+sub-slot-frame c = search needs
+
+-- src/lib.rt:52:33
+part-slot-frame-start : tie.Need-part-slot-frame-start
+part-slot-frame-start c = search needs
+
+-- src/lib.rt:52:33
+part-slot-frame-end : tie.Need-part-slot-frame-end
+part-slot-frame-end c = omega (arith, here (c .before .before))
+
+-- src/lib.rt:52:9
+slot-frame-requires : tie.Need-slot-frame-requires
+slot-frame-requires c κs = search needs
+
+-- src/lib.rt:53:9
+returns-2 : tie.Need-returns-2
+returns-2 c = (is-not (λ s. refutes (frame (c .before .before .before .before .before .before .before .before .before .args .blocks) (c .before .before .before .before .before .before .before .before .before .args .slots .now) (c .before .slot-frame .ensures)) (c .if2 .taken) (form-frame (s .form))), λ e. absurd (clash refl e))
+
+-- src/lib.rt:55:9
+slot-points-requires : tie.Need-slot-points-requires
+slot-points-requires c κs = search needs
+
+-- src/lib.rt:56:9
+same-length : tie.Need-same-length
+same-length c = search needs
+
+-- src/lib.rt:56:9
+returns-3 : tie.Need-returns-3
+returns-3 c = (is-not (λ s. refutes (c .before .before .before .slot-points .ensures .0 (c .before .before .before .before .before .before .before .before .before .before .before .before .before .before .args .pool .now)) (c .if3 .taken) (record { say = s .form .pointers; lead = s .leading })), λ e. absurd (clash refl e))
+
+-- src/lib.rt:58:5
 tail-zero-requires : tie.Need-tail-zero-requires
 tail-zero-requires c κs = search needs
 
--- src/lib.rt:31:1
+-- src/lib.rt:36:1
+same-length-2 : tie.Need-same-length-2
+same-length-2 c = search needs
+
+-- src/lib.rt:36:1
 returns-4 : tie.Need-returns-4
 returns-4 c =
-    record {
-      holds = λ e. record {
-        numbered = c .before .before .before .before .before .before .if1 .left;
-        form = proves (form (c .before .before .before .before .before .before .before .before .before .before .before .args .blocks) (c .before .before .before .before .before .before .before .before .before .before .before .args .slots .now) (c .before .before .before .before .slot-form .ensures)) (c .before .before .before .if2 .left);
-        leading = answer-yes (c .before .before .slot-leads .ensures (c .before .before .before .before .before .before .before .before .before .before .before .args .pool .now)) (c .before .if3 .left);
-        ends = sym (c .tail-zero .ensures) ∙ e;
-      };
-      seen = λ s. c .tail-zero .ensures ∙ s .ends;
-    }
+    let a = c .before .before .before .before .before .before .before .before .before .before .before .before .before .before .before .args in
+    let f = proves (frame (a .blocks) (a .slots .now) (c .before .before .before .before .before .before .before .slot-frame .ensures)) (c .before .before .before .before .before .before .if2 .left) in
+    let g = proves (c .before .before .before .before .slot-points .ensures .0 (a .pool .now)) (c .before .if3 .left) in
+    let row = take (3 + a .blocks) (a .slots .now) in
+    let l : length row ≡ 3 + a .blocks = length-take-le (3 + a .blocks) (a .slots .now) (here (c .before .before .before .before .before .before .before .before .before .before .before)) in
+    let n : getD row 0 0 ≡ getD (a .slots .now) 0 0 = getD-take (3 + a .blocks) (a .slots .now) 0 0 (omega arith) in (
+      record {
+        holds = λ e. record { numbered = c .before .before .before .before .before .before .before .before .before .if1 .left; form = frame-form f (g .say); leading = g .lead; ends = sym (c .tail-zero .ensures) ∙ e };
+        seen = λ s. c .tail-zero .ensures ∙ s .ends;
+      },
+      λ e. c .before .before .before .before .slot-points .ensures .1 (not-false _ (c .before .if3 .left))
+          ∙ sym (slot-tallied (a .blocks) row _ (omega (arith, l)) (omega (arith, n, c .before .before .before .before .before .before .before .before .before .if1 .left, c .before .before .before .before .before .before .before .before .before .before .before .before .before .before .before .pre .4)) f (c .before .before .before .before .before .before .before .before .before .before .before .before .before .before .before .pre .1)),
+    )
 
 pub slot-says-spec : {M : Type 1} → statement M
 slot-says-spec =
@@ -95,12 +110,14 @@ slot-says-spec =
     shared-slice-read-if1
     cast-if1
     returns
-    sub-slot-form
-    part-slot-form-start
-    part-slot-form-end
-    slot-form-requires
+    sub-slot-frame
+    part-slot-frame-start
+    part-slot-frame-end
+    slot-frame-requires
     returns-2
-    slot-leads-requires
+    slot-points-requires
+    same-length
     returns-3
     tail-zero-requires
+    same-length-2
     returns-4)

@@ -1,22 +1,24 @@
 use native.Mathlib.Omega.{arith}
 use borrow.Author.Needs.{needs}
 use mathlib.Core.Bool.{Bool}
+use mathlib.Core.Path.{_≡_, refl}
 use mathlib.Core.List.{List}
-use Prim.Native.Nat.{ℕ, _+_, _*_, _-_, _/_, _≤_, _<_}
+use Prim.Native.Nat.{ℕ, _+_, _*_, _-_, _≤_, _<_}
 use lib.ListN.{length, take, drop, length-drop}
 use denote.Ref.{now}
 use borrow.Author.Count.{below-none, below-more}
+use borrow.Author.Tests.{not-false}
 use Rattle.lists.specs.Tells.{Tells}
-use Rattle.lists.specs.Lists.{count}
-use Rattle.lists.proofs.Checkers.{is-so, is-not, refutes, proves}
+use Rattle.lists.proofs.Checkers.{clash, is-so, is-not, refutes, proves}
+use Rattle.lists.proofs.Answers.{tells-at}
 use Rattle.lists.proofs.Slices.{tail-all}
 use Rattle.model.specs.Measures.{baseMeasures}
 use Rattle.model.specs.State.{Shelf}
 use Rattle.model.specs.Table.{shelfIn}
-use Rattle.lists.proofs.Answers.{tells-at}
+use Rattle.audit_counts.specs.Counters.{tallied}
 use Rattle.audit_pointers.proofs.Slots.{slot-inside}
 use Rattle.audit_tills.specs.Says.{SlotSays}
-use Rattle.audit_tills.proofs.Slots.{rest-fits}
+use Rattle.audit_tills.proofs.Slots.{rest-fits, none-tallied, next-tallied, room-left}
 use Rattle.audit_tills.proofs.slots_say.Statement.{statement}
 use Rattle.audit_tills.proofs.slots_say.Tie as tie
 use Rattle.audit_tills.proofs.slots_say.Reads as reads
@@ -24,13 +26,15 @@ use Rattle.audit_tills.proofs.slots_say.Lts as lts
 use Rattle.audit_tills.proofs.slot_says.Reads as slot-says-reads
 
 abbrev Inv-loop : tie.InvT-loop
-Inv-loop pool records slots blocks count first i₀ i = (i ≤ count) × ((j : ℕ) → j < i → SlotSays (shelfIn baseMeasures pool records) blocks (count - j) (first + j) (drop (j * (3 + blocks)) slots))
+Inv-loop pool records slots blocks count first counts₀ i₀ counts i =
+    (i ≤ count) × ((j : ℕ) → j < i → SlotSays (shelfIn baseMeasures pool records) blocks (count - j) (first + j) (drop (j * (3 + blocks)) slots))
+    × (length counts ≡ length counts₀) × (counts ≡ tallied (take (i * (3 + blocks)) slots) counts₀)
 
 abbrev μ-loop : tie.MeasureT-loop
-μ-loop pool records slots blocks count first i₀ i = count - i
+μ-loop pool records slots blocks count first counts₀ i₀ counts i = count - i
 
-here : (c : tie.In-loop Inv-loop μ-loop) → c .before .loop .i * (3 + c .before .before .before .before .before .args .blocks) + (3 + c .before .before .before .before .before .args .blocks) ≤ length (c .before .before .before .before .before .args .slots .now)
-here c = slot-inside (c .before .loop .i) (c .before .before .before .before .before .args .count) (c .before .before .before .before .before .args .blocks) _ (search needs) (c .before .before .before .before .before .pre .3)
+here : (c : tie.In-loop Inv-loop μ-loop) → c .before .loop .i * (3 + c .before .before .before .before .before .before .args .blocks) + (3 + c .before .before .before .before .before .before .args .blocks) ≤ length (c .before .before .before .before .before .before .args .slots .now)
+here c = slot-inside (c .before .loop .i) (c .before .before .before .before .before .before .args .count) (c .before .before .before .before .before .before .args .blocks) _ (search needs) (c .before .before .before .before .before .before .pre .3)
 
 rest : {r : Bool} (shelf : Shelf) (b n m at : ℕ) (ws : List ℕ) → Tells r (SlotSays shelf b n m (take (length ws - at) (drop at ws))) → Tells r (SlotSays shelf b n m (drop at ws))
 rest shelf b n m at ws t = tells-at (SlotSays shelf b n m) (tail-all ws at) t
@@ -38,65 +42,88 @@ rest shelf b n m at ws t = tells-at (SlotSays shelf b n m) (tail-all ws at) t
 rest-long : (i n b : ℕ) (ws : List ℕ) → i ≤ n → n * (3 + b) ≤ length ws → (n - i) * (3 + b) ≤ length (take (length ws - i * (3 + b)) (drop (i * (3 + b)) ws))
 rest-long i n b ws h g = rw (tail-all ws (i * (3 + b)), length-drop (i * (3 + b)) ws) (rest-fits i n b (length ws) h g)
 
--- src/lib.rt:68:5
+-- src/lib.rt:75:5
 loop-holds : tie.Need-loop-holds Inv-loop μ-loop
-loop-holds c = (omega arith, below-none _)
+loop-holds c = (omega arith, below-none _, refl, none-tallied (3 + c .before .before .before .before .args .blocks) (c .before .before .before .before .args .slots .now) _)
 
--- src/lib.rt:69:23
+-- src/lib.rt:76:23
 add-at : tie.Need-add-at Inv-loop μ-loop
 add-at c = search needs
 
--- src/lib.rt:69:18
+-- src/lib.rt:76:18
 mul-at : tie.Need-mul-at Inv-loop μ-loop
 mul-at c = omega (arith, here c)
 
--- src/lib.rt:70:38
+-- src/lib.rt:80:13
 mul-slot-says : tie.Need-mul-slot-says Inv-loop μ-loop
 mul-slot-says c = omega (arith, here c)
 
--- src/lib.rt:70:38
+-- src/lib.rt:80:13
 sub-slot-says : tie.Need-sub-slot-says Inv-loop μ-loop
 sub-slot-says c = omega (arith, here c)
 
--- src/lib.rt:70:38
+-- src/lib.rt:80:13
 part-slot-says-start : tie.Need-part-slot-says-start Inv-loop μ-loop
 part-slot-says-start c = omega (arith, here c)
 
--- src/lib.rt:70:38
+-- src/lib.rt:80:13
 part-slot-says-end : tie.Need-part-slot-says-end Inv-loop μ-loop
 part-slot-says-end c = omega (arith, here c)
 
--- src/lib.rt:70:60
+-- src/lib.rt:82:13
 sub-slot-says-2 : tie.Need-sub-slot-says-2 Inv-loop μ-loop
 sub-slot-says-2 c = search needs
 
--- src/lib.rt:70:71
+-- src/lib.rt:83:13
 add-slot-says : tie.Need-add-slot-says Inv-loop μ-loop
 add-slot-says c = search needs
 
--- src/lib.rt:70:13
+-- src/lib.rt:77:13
 slot-says-requires : tie.Need-slot-says-requires Inv-loop μ-loop
-slot-says-requires c κs = (search needs, search needs, search needs, rest-long (c .before .before .loop .i) (c .before .before .before .before .before .before .args .count) (c .before .before .before .before .before .before .args .blocks) (c .before .before .before .before .before .before .args .slots .now) (search needs) (c .before .before .before .before .before .before .pre .3))
+slot-says-requires c κs =
+    let a = c .before .before .before .before .before .before .before .before .args in
+    let l = c .before .before .before .loop in
+    let m : l .i * (3 + a .blocks) + (3 + a .blocks) ≤ a .count * (3 + a .blocks) = slot-inside (l .i) (a .count) (a .blocks) _ (search needs) (omega arith) in
+    (search needs, search needs, search needs, rest-long (l .i) (a .count) (a .blocks) (a .slots .now) (search needs) (c .before .before .before .before .before .before .before .before .pre .3), omega (arith, c .before .before .before .before .before .before .before .before .pre .0, c .before .before .before .before .before .before .before .before .pre .2), room-left (l .i * (3 + a .blocks)) (a .blocks) (a .slots .now) _ _ (l .inv .3) (λ k. omega (arith, m, c .before .before .before .before .before .before .before .before .pre .4 k)))
 
--- src/lib.rt:71:13
+-- src/lib.rt:86:13
+same-length : tie.Need-same-length Inv-loop μ-loop
+same-length c = omega (arith, c .before .before .before .slot-says .kept, c .before .before .before .before .before .before .before .loop .inv .2)
+
+-- src/lib.rt:86:13
 returns : tie.Need-returns Inv-loop μ-loop
-returns c = is-not (λ e. refutes (rest _ _ _ _ _ (c .before .before .before .before .before .before .before .before .args .slots .now) (c .before .slot-says .ensures)) (c .if1 .taken) (e (c .before .before .before .before .loop .i) (search needs)))
+returns c = (is-not (λ e. refutes (rest _ (c .before .before .before .before .before .before .before .before .before .before .before .before .args .blocks) _ _ _ (c .before .before .before .before .before .before .before .before .before .before .before .before .args .slots .now) (c .before .before .before .slot-says .ensures .0)) (c .if1 .taken) (e (c .before .before .before .before .before .before .before .loop .i) (search needs))), λ e. absurd (clash refl e))
 
--- src/lib.rt:73:9
+-- src/lib.rt:88:9
 add-i : tie.Need-add-i Inv-loop μ-loop
 add-i c = search needs
 
--- src/lib.rt:68:5
+-- src/lib.rt:75:5
 loop-less : tie.Need-loop-less Inv-loop μ-loop
 loop-less c = search needs
 
--- src/lib.rt:68:5
+-- src/lib.rt:75:5
 loop-again : tie.Need-loop-again Inv-loop μ-loop
-loop-again c = (search needs, below-more _ _ (c .before .before .before .before .loop .inv .1) (proves (rest _ _ _ _ _ (c .before .before .before .before .before .before .before .before .args .slots .now) (c .before .slot-says .ensures)) (c .if1 .left)))
+loop-again c =
+    let l = c .before .before .before .before .before .before .before .loop in
+    let a = c .before .before .before .before .before .before .before .before .before .before .before .before .args in
+    let e = c .before .before .before .slot-says .ensures in (
+      search needs,
+      below-more _ _ (l .inv .1) (proves (rest _ (a .blocks) _ _ _ (a .slots .now) (e .0)) (c .if1 .left)),
+      omega (arith, c .before .before .before .slot-says .kept, l .inv .2),
+      next-tallied (l .i) (3 + a .blocks) (a .slots .now) _ _ _ (l .inv .3) (rw (tail-all (a .slots .now) (l .i * (3 + a .blocks))) at (e .1 (not-false _ (c .if1 .left)))),
+    )
 
--- src/lib.rt:56:1
+-- src/lib.rt:62:1
+same-length-2 : tie.Need-same-length-2 Inv-loop μ-loop
+same-length-2 c = c .before .loop .inv .2
+
+-- src/lib.rt:62:1
 returns-2 : tie.Need-returns-2 Inv-loop μ-loop
-returns-2 c = is-so (λ k h. c .before .loop .inv .1 k (omega arith))
+returns-2 c =
+    let l = c .before .loop in
+    let n : l .i ≡ c .before .before .before .before .before .before .args .count = omega arith in
+    (is-so (λ k h. l .inv .1 k (omega arith)), λ e. rw n at (l .inv .3))
 
 pub slots-say-spec : {M : Type 1} → statement M
 slots-say-spec =
@@ -114,8 +141,10 @@ slots-say-spec =
     sub-slot-says-2
     add-slot-says
     slot-says-requires
+    same-length
     returns
     add-i
     loop-less
     loop-again
+    same-length-2
     returns-2)

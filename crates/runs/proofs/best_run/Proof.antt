@@ -1,6 +1,4 @@
 use mathlib.Core.Path.{_≡_, sym, ap, _∙_}
-use mathlib.Core.Logic.{⊎-elim}
-use mathlib.Core.Bool.{not}
 use mathlib.Core.List.{map}
 use mathlib.Core.Option.{none}
 use Prim.Native.Nat.{_-_, _≤_}
@@ -9,55 +7,76 @@ use lib.ListN.{length, drop}
 use borrow.Author.Needs.{needs}
 use denote.Ref.{now}
 use Rattle.model.specs.Runs.{scan}
-use Rattle.runs.specs.Runs.{asRun}
-use Rattle.runs.proofs.Runs.{scan-free, scan-taken, scan-end}
+use Rattle.runs.specs.Runs.{asRun, freeIf, found}
+use Rattle.runs.proofs.Runs.{scan-end, scan-fits}
 use Rattle.runs.proofs.best_run.Statement.{statement}
 use Rattle.runs.proofs.best_run.Tie as tie
+use Rattle.runs.proofs.best_run.Reads as reads
+use Rattle.runs.proofs.best_run.Lts as lts
+use Rattle.runs.proofs.Run.none.Reads as none-reads
+use Rattle.runs.proofs.Run.or.Reads as or-reads
+use Rattle.runs.proofs.by_cell.Reads as by-cell-reads
+use Rattle.runs.proofs.by_piece.Reads as by-piece-reads
 
 abbrev Inv-loop : tie.InvT-loop
-Inv-loop occupied need best₀ run₀ i₀ best run i = (i ≤ length occupied) × (run ≤ i) × (scan need (map not (drop i occupied)) i run (asRun best) ≡ scan need (map not occupied) 0 0 none)
+Inv-loop marks free need search₀ search = (search .at ≤ length marks) × (search .run ≤ search .at) × (found free need marks search ≡ scan need (map (freeIf free) marks) 0 0 none)
 
 abbrev μ-loop : tie.MeasureT-loop
-μ-loop occupied need best₀ run₀ i₀ best run i = length occupied - i
+μ-loop marks free need search₀ search = length marks - search .at
 
+-- src/lib.rt:151:9
 none-requires : tie.Need-none-requires Inv-loop μ-loop
 none-requires c κs = search needs
 
+-- src/lib.rt:157:5
 loop-holds : tie.Need-loop-holds Inv-loop μ-loop
 loop-holds c = (search needs, search needs, ap (scan _ _ 0 0) (c .none .ensures))
 
-shared-slice-read-if1 : tie.Need-shared-slice-read-if1 Inv-loop μ-loop
-shared-slice-read-if1 c = search needs
+-- src/lib.rt:157:17
+sub-if1 : tie.Need-sub-if1 Inv-loop μ-loop
+sub-if1 c = search needs
 
-or-requires : tie.Need-or-requires Inv-loop μ-loop
-or-requires c κs = search needs
+-- src/lib.rt:160:13
+returns : tie.Need-returns Inv-loop μ-loop
+returns c =
+    let l = c .before .before .before .before .before .loop in
+    let a = c .before .before .before .before .before .before .before .before .args in
+    scan-fits (a .need) (map (freeIf (a .free)) (drop (l .search .at) (now (a .marks)))) (l .search .at) (l .search .run) (l .search .best .start .0) (l .search .best .size) (c .before .before .before .before .before .before .before .before .pre .0) (c .if2 .taken) ∙ l .inv .2
 
-add-run : tie.Need-add-run Inv-loop μ-loop
-add-run c = search needs
+-- src/lib.rt:162:9
+by-piece-requires : tie.Need-by-piece-requires Inv-loop μ-loop
+by-piece-requires c κs = search needs
 
-add-i : tie.Need-add-i Inv-loop μ-loop
-add-i c = search needs
-
+-- src/lib.rt:157:5
 loop-less : tie.Need-loop-less Inv-loop μ-loop
 loop-less c = search needs
 
+-- src/lib.rt:157:5
 loop-again : tie.Need-loop-again Inv-loop μ-loop
-loop-again c =
-    let l = c .before .before .before .loop in
-    let a = c .before .before .before .before .before .before .args in
-    ⊎-elim
-    (λ w. (omega arith, omega (arith, w .3), rw (w .2, w .3, w .1 .ensures) (sym (scan-taken (a .need) (now (a .occupied)) (l .i) (l .run) (asRun (l .best)) (omega arith) (w .0 .taken)) ∙ l .inv .2)))
-    (λ w. (omega arith, omega (arith, w .2), rw (w .1, w .2) (sym (scan-free (a .need) (now (a .occupied)) (l .i) (l .run) (asRun (l .best)) (omega arith) (w .0 .left)) ∙ l .inv .2)))
-    (c .if1 .came)
+loop-again c = (search needs, search needs, c .by-piece .ensures .2 ∙ c .before .before .before .before .before .before .loop .inv .2)
 
-or-requires-2 : tie.Need-or-requires-2 Inv-loop μ-loop
-or-requires-2 c κs = search needs
+-- src/lib.rt:164:9
+by-cell-requires : tie.Need-by-cell-requires Inv-loop μ-loop
+by-cell-requires c κs = search needs
 
-returns : tie.Need-returns Inv-loop μ-loop
-returns c =
-    let l = c .before .before .loop in
-    let a = c .before .before .before .before .before .args in
-    c .or2 .ensures ∙ sym (scan-end (a .need) (now (a .occupied)) (l .i) (l .run) (asRun (l .best)) (omega arith)) ∙ l .inv .2
+-- src/lib.rt:166:18
+cast-t13 : tie.Need-cast-t13 Inv-loop μ-loop
+cast-t13 c = search needs
+
+-- src/lib.rt:166:5
+or-requires : tie.Need-or-requires Inv-loop μ-loop
+or-requires c κs = search needs
+
+-- src/lib.rt:147:1
+returns-2 : tie.Need-returns-2 Inv-loop μ-loop
+returns-2 c =
+    let l = c .before .before .before .before .before .before .loop in
+    let a = c .before .before .before .before .before .before .before .before .before .args in
+    let e = c .before .before .before .by-cell in
+    c .or .ensures
+    ∙ sym (scan-end (freeIf (a .free)) (a .need) (now (a .marks)) (e .result .at) (e .result .run) (asRun (e .result .best)) (omega arith))
+    ∙ e .ensures .2
+    ∙ l .inv .2
 
 pub best-run-spec : {M : Type 1} → statement M
 best-run-spec =
@@ -67,11 +86,12 @@ best-run-spec =
     μ-loop
     none-requires
     loop-holds
-    shared-slice-read-if1
-    or-requires
-    add-run
-    add-i
+    sub-if1
+    returns
+    by-piece-requires
     loop-less
     loop-again
-    or-requires-2
-    returns)
+    by-cell-requires
+    cast-t13
+    or-requires
+    returns-2)

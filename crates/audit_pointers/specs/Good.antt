@@ -1,0 +1,16 @@
+-- What is asked of a version's pointer words.
+use mathlib.Core.Bool.{true}
+use mathlib.Core.Path.{_≡_}
+use mathlib.Core.List.{List, map}
+use Prim.Native.Nat.{ℕ}
+use Rattle.lists.specs.Lists.{every}
+use Rattle.lists.specs.Each.{Each}
+use Rattle.model.specs.State.{Shelf}
+use Rattle.model.specs.Table.{wordToPointer}
+use Rattle.model.specs.Sound.{leads}
+use Rattle.audit_words.specs.Words.{PointerSays}
+
+-- each says a pointer, which leads to a held position or to a block of the newer version that is not null
+pub record PointersGood (shelf : Shelf) (newer words : List ℕ) : Type 0 where
+  pub say : Each PointerSays words
+  pub lead : every (leads shelf (map wordToPointer newer)) (map wordToPointer words) ≡ true

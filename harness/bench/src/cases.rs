@@ -1,0 +1,131 @@
+//! The stores and the calls that are timed.
+
+use keeper::closings::{Shop, LENGTH};
+use keeper::dense::Dense;
+use std::fmt;
+use std::rc::Rc;
+use terms::{Calls, Capacities};
+use twin::Twin;
+
+const SEED: u64 = 1;
+
+/// Pool and table, before each timed call.
+pub struct Kept {
+    pub name: &'static str,
+    pub pool: Vec<u8>,
+    pub table: Vec<u32>,
+}
+
+pub enum What {
+    TableLength,
+    LayOut,
+    Listing,
+    Tally,
+    Restore { version: u32, room: usize },
+    Retire { version: u32 },
+    Backup { image: Vec<u8> },
+}
+
+/// One line of the table. All calls are of till 0.
+pub struct Case {
+    pub store: Rc<Kept>,
+    pub what: What,
+    /// Passes that the call may take, if it has such a target.
+    pub passes: Option<f64>,
+}
+
+impl Kept {
+    fn empty(name: &'static str) -> Kept {
+        let [_, words] = Twin.table_length(Capacities::LARGEST);
+        let (mut pool, mut table) = (vec![0; Capacities::LARGEST.pool_bytes()], vec![0; words as usize]);
+        Twin.lay_out(&mut pool, &mut table, Capacities::LARGEST);
+        Kept { name, pool, table }
+    }
+
+    fn backup(&mut self, till: usize, image: &[u8]) {
+        let [refusal, _] = Twin.backup(&mut self.pool, &mut self.table, till as u32, image);
+        assert_eq!(refusal, 0, "a backup in making the {} store", self.name);
+    }
+
+    /// 64 closings of each till but one of till 0, so that it has room for one more.
+    fn closings(mut self, mut next: impl FnMut(usize) -> Vec<u8>) -> Kept {
+        for till in 0..64 * 16 {
+            let image = next(till % 16);
+            self.backup(till % 16, &image);
+        }
+        assert_eq!(Twin.retire(&mut self.pool, &mut self.table, 0, 1)[0], 0);
+        self
+    }
+}
+
+impl fmt::Display for Kept {
+    fn fmt(&self, f: &mut fmt::Formatter<'_>) -> fmt::Result {
+        let [_, cells, records, counts] = Twin.tally(&self.pool, &self.table);
+        write!(f, "{} has {cells} cells, {records} records and counts of {counts} in all", self.name)
+    }
+}
+
+/// The cases of each store.
+pub fn all() -> [Vec<Case>; 3] {
+    let empty = Rc::new(Kept::empty("empty"));
+    let mut shop = Shop::new(SEED, 16);
+    let typical = Rc::new(Kept::empty("typical").closings(|till| shop.close(till).to_vec()));
+    let mut dense = Dense::new(SEED, 16, 65_536, 2);
+    let full = Rc::new(Kept::empty("full").closings(|till| dense.close(till).to_vec()));
+    let closing = shop.close(0).to_vec();
+    let long = dense.close(0).to_vec();
+
+    let mut of_full = of_store(&full, &long[..LENGTH], true);
+    of_full.push(Case { store: full, what: What::Backup { image: long }, passes: None });
+    [of_store(&empty, &closing, false), of_store(&typical, &closing, false), of_full]
+}
+
+fn of_store(store: &Rc<Kept>, closing: &[u8], targets: bool) -> Vec<Case> {
+    let backup = What::Backup { image: closing.to_vec() };
+    let restore = |version| What::Restore { version, room: 65_536 };
+    let all = [
+        (What::TableLength, None),
+        (What::LayOut, None),
+        (What::Tally, Some(5.0)),
+        (What::Listing, Some(5.0)),
+        (restore(2), Some(5.0)),
+        (restore(64), Some(5.0)),
+        (What::Retire { version: 2 }, Some(5.0)),
+        (backup, Some(12.0)),
+    ];
+    let case =
+        |(what, passes): (What, Option<f64>)| Case { store: store.clone(), what, passes: passes.filter(|_| targets) };
+    all.into_iter().map(case).collect()
+}
+
+impl What {
+    pub fn name(&self) -> String {
+        match self {
+            What::TableLength => "table length".into(),
+            What::LayOut => "lay out".into(),
+            What::Listing => "listing".into(),
+            What::Tally => "tally".into(),
+            What::Restore { version: 2, .. } => "restore of the oldest".into(),
+            What::Restore { .. } => "restore of the newest".into(),
+            What::Retire { .. } => "retire".into(),
+            What::Backup { image } => format!("backup of {}", image.len()),
+        }
+    }
+
+    pub fn writes(&self) -> bool {
+        matches!(self, What::LayOut | What::Retire { .. } | What::Backup { .. })
+    }
+
+    /// Makes the call once; its answer's refusal.
+    pub fn make(&self, store: &dyn Calls, pool: &mut [u8], table: &mut [u32], output: &mut [u8]) -> u32 {
+        match self {
+            What::TableLength => store.table_length(std::hint::black_box(Capacities::LARGEST))[0],
+            What::LayOut => store.lay_out(pool, table, Capacities::LARGEST)[0],
+            What::Listing => store.listing(pool, table, 0)[0],
+            What::Tally => store.tally(pool, table)[0],
+            What::Restore { version, room } => store.restore(pool, table, 0, *version, &mut output[..*room])[0],
+            What::Retire { version } => store.retire(pool, table, 0, *version)[0],
+            What::Backup { image } => store.backup(pool, table, 0, image)[0],
+        }
+    }
+}

@@ -1,0 +1,59 @@
+//! Time and space of the proved store. Every call is timed beside the twin and beside one plain read pass over pool and
+//! table, in one run on the same buffers, and the best of several is shown.
+//!
+//! `bench [ROUNDS] [--write]`: with `--write` the run is put into docs/PERFORMANCE.md too.
+
+mod cases;
+mod picture;
+mod space;
+mod timing;
+
+use std::path::{Path, PathBuf};
+use std::{env, fs, io};
+
+/// What stands around the run in docs/PERFORMANCE.md.
+const FROM: &str = "<!-- the latest run -->\n";
+const TO: &str = "<!-- its end -->\n";
+
+fn main() -> io::Result<()> {
+    let words: Vec<String> = env::args().skip(1).collect();
+    let rounds = words.iter().find_map(|word| word.parse().ok()).unwrap_or(25);
+    let days = space::days();
+    let report = format!("{}\n## Space\n\n{}", time_report(rounds), space::table(&days));
+    print!("{report}");
+    fs::write(docs("space.svg"), picture::svg(&days))?;
+    if words.iter().any(|word| word == "--write") {
+        write(&report)
+    } else {
+        Ok(())
+    }
+}
+
+fn docs(name: &str) -> PathBuf {
+    Path::new(env!("CARGO_MANIFEST_DIR")).join("../../docs").join(name)
+}
+
+fn time_report(rounds: usize) -> String {
+    let mut text = format!("## Time\n\nBest of {rounds}, microseconds.\n\n");
+    text += "| store | call | proved | twin | ratio | passes | at most |\n|---|---|---:|---:|---:|---:|---|\n";
+    let (mut stores, mut over) = (Vec::new(), Vec::new());
+    for cases in cases::all() {
+        stores.push(cases[0].store.to_string());
+        let lines = timing::time_all(cases, rounds);
+        lines.iter().for_each(|line| text += &format!("{line}\n"));
+        over.extend(lines.iter().flat_map(|line| line.misses()));
+    }
+    text += &format!("\nThe stores: {}.\n", stores.join("; "));
+    match over.as_slice() {
+        [] => text + "\nAll targets are met.\n",
+        _ => text + "\nMissed:\n\n" + &over.join("\n") + "\n",
+    }
+}
+
+/// Puts the run in the place of the last one.
+fn write(report: &str) -> io::Result<()> {
+    let page = fs::read_to_string(docs("PERFORMANCE.md"))?;
+    let parts = page.split_once(FROM).and_then(|(before, rest)| Some((before, rest.split_once(TO)?.1)));
+    let (before, after) = parts.ok_or_else(|| io::Error::other("docs/PERFORMANCE.md has no place for the run"))?;
+    fs::write(docs("PERFORMANCE.md"), format!("{before}{FROM}\n{report}\n{TO}{after}"))
+}

@@ -1,0 +1,120 @@
+//! Timing one call of the proved store and of the twin, turn about.
+
+use crate::cases::{Case, What};
+use lurdempos::Proved;
+use std::fmt;
+use std::hint::black_box;
+use std::time::{Duration, Instant};
+use terms::Calls;
+use twin::Twin;
+
+/// Most that the proved store may take of the twin's time.
+const MOST: f64 = 1.25;
+
+/// The best times of one call.
+pub struct Line {
+    store: &'static str,
+    call: String,
+    proved: f64,
+    twin: f64,
+    pass: f64,
+    most_passes: Option<f64>,
+}
+
+/// The buffers that calls are made on.
+struct Work {
+    pool: Vec<u8>,
+    table: Vec<u32>,
+    output: Vec<u8>,
+}
+
+/// The lines of one store, all with the best of its read passes.
+pub fn time_all(cases: Vec<Case>, rounds: usize) -> Vec<Line> {
+    let mut lines: Vec<Line> = cases.into_iter().map(|case| time(case, rounds)).collect();
+    let pass = lines.iter().map(|line| line.pass).fold(f64::INFINITY, f64::min);
+    lines.iter_mut().for_each(|line| line.pass = pass);
+    lines
+}
+
+fn time(case: Case, rounds: usize) -> Line {
+    let mut work = Work { pool: case.store.pool.clone(), table: case.store.table.clone(), output: vec![0; 65_536] };
+    let mut best = [Duration::MAX; 3];
+    let mut refusals = [0; 2];
+    for round in 0..rounds {
+        for turn in 0..3 {
+            match (round + turn) % 3 {
+                2 => best[2] = best[2].min(read_pass(&work)),
+                who => {
+                    let store: &dyn Calls = if who == 0 { &Proved } else { &Twin };
+                    let (refusal, taken) = once(&case, store, &mut work);
+                    refusals[who] = refusal;
+                    best[who] = best[who].min(taken);
+                }
+            }
+            if case.what.writes() {
+                work.pool.copy_from_slice(&case.store.pool);
+                work.table.copy_from_slice(&case.store.table);
+            }
+        }
+    }
+    assert_eq!(refusals[0], refusals[1]);
+    let refused = if refusals[0] == 0 { String::new() } else { format!(", refused {}", refusals[0]) };
+    let [proved, twin, pass] = best.map(|time| time.as_nanos() as f64 / 1_000.0);
+    let call = case.what.name() + &refused;
+    Line { store: case.store.name, call, proved, twin, pass, most_passes: case.passes }
+}
+
+/// One call, or the mean of very many if it is a very short one.
+fn once(case: &Case, store: &dyn Calls, work: &mut Work) -> (u32, Duration) {
+    let times = if matches!(case.what, What::TableLength) { 10_000 } else { 1 };
+    let mut refusal = 0;
+    let start = Instant::now();
+    for _ in 0..times {
+        refusal = black_box(case.what.make(store, &mut work.pool, &mut work.table, &mut work.output));
+    }
+    (refusal, start.elapsed() / times)
+}
+
+/// The least that checking a store can cost: reading it all once.
+fn read_pass(work: &Work) -> Duration {
+    let start = Instant::now();
+    black_box(black_box(&work.pool).iter().map(|&byte| byte as u64).sum::<u64>());
+    black_box(black_box(&work.table).iter().map(|&word| word as u64).sum::<u64>());
+    start.elapsed()
+}
+
+impl Line {
+    fn ratio(&self) -> f64 {
+        self.proved / self.twin
+    }
+
+    fn passes(&self) -> f64 {
+        self.proved / self.pass
+    }
+
+    /// The targets that this line misses, in words.
+    pub fn misses(&self) -> Vec<String> {
+        let (store, call) = (self.store, &self.call);
+        let mut misses = Vec::new();
+        if self.ratio() > MOST {
+            misses.push(format!("- {call} on the {store} store: {:.2} times the twin, at most {MOST}", self.ratio()));
+        }
+        if let Some(most) = self.most_passes.filter(|&most| self.passes() > most) {
+            misses.push(format!("- {call} on the {store} store: {:.1} read passes, at most {most}", self.passes()));
+        }
+        misses
+    }
+}
+
+impl fmt::Display for Line {
+    fn fmt(&self, f: &mut fmt::Formatter<'_>) -> fmt::Result {
+        let short = self.proved < 1.0;
+        let time = |time: f64| if short { format!("{time:.4}") } else { format!("{time:.1}") };
+        let passes = if short { String::new() } else { format!("{:.1}", self.passes()) };
+        let most = self.most_passes.map_or(String::new(), |most| format!("{most} passes, "));
+        let mark = if self.misses().is_empty() { "met" } else { "**missed**" };
+        let (store, call, ratio) = (self.store, &self.call, self.ratio());
+        let (proved, twin) = (time(self.proved), time(self.twin));
+        write!(f, "| {store} | {call} | {proved} | {twin} | {ratio:.2} | {passes} | {most}{MOST} × twin: {mark} |")
+    }
+}

@@ -1,0 +1,78 @@
+/*
+ * A first image kept and restored, from C (and, since it compiles as both,
+ * from C++). Prints what the calls answer; ends with status 1 at the first
+ * answer that is not as expected.
+ */
+#include "lurdempos.h"
+
+#include <stdio.h>
+#include <string.h>
+
+#define TILLS 2
+#define VERSIONS 4
+#define BLOCKS 16
+#define RECORDS 8
+#define CELLS 32
+#define TABLE_WORDS 512
+
+static uint8_t pool[CELLS * LURDEMPOS_BLOCK_BYTES];
+static uint32_t table[TABLE_WORDS];
+
+static int expect(const char *call, uint32_t refusal, uint32_t expected)
+{
+    printf("%s: refusal %u\n", call, (unsigned)refusal);
+    return refusal == expected;
+}
+
+static size_t words_needed(void)
+{
+    struct lurdempos_table_length_answer a =
+        lurdempos_table_length(TILLS, VERSIONS, BLOCKS, RECORDS, CELLS);
+    return a.refusal == LURDEMPOS_ACCEPTED && a.words <= TABLE_WORDS ? a.words : 0;
+}
+
+int main(void)
+{
+    uint8_t image[500], output[512];
+    struct lurdempos_lay_out_answer laid_out;
+    struct lurdempos_backup_answer backup;
+    struct lurdempos_restore_answer restored;
+    struct lurdempos_listing_answer listing;
+    struct lurdempos_tally_answer tally;
+    struct lurdempos_retire_answer retired;
+    size_t words = words_needed();
+
+    memset(image, 'a', sizeof image);
+    memset(output, 0xee, sizeof output);
+    laid_out = lurdempos_lay_out(pool, sizeof pool, table, words, TILLS,
+                                 VERSIONS, BLOCKS, RECORDS, CELLS);
+    if (!expect("lay out", laid_out.refusal, LURDEMPOS_ACCEPTED))
+        return 1;
+    backup = lurdempos_backup(pool, sizeof pool, table, words, 1, image,
+                              sizeof image);
+    if (!expect("backup", backup.refusal, LURDEMPOS_ACCEPTED) || backup.version != 1)
+        return 1;
+    restored = lurdempos_restore(pool, sizeof pool, table, words, 1, 1, output,
+                                 sizeof output);
+    if (!expect("restore", restored.refusal, LURDEMPOS_ACCEPTED)
+        || restored.length != sizeof image || restored.hops != 0
+        || memcmp(image, output, sizeof image) != 0 || output[500] != 0xee)
+        return 1;
+    listing = lurdempos_listing(pool, sizeof pool, table, words, 1);
+    if (!expect("listing", listing.refusal, LURDEMPOS_ACCEPTED)
+        || listing.oldest != 1 || listing.newest != 1 || listing.last != 1)
+        return 1;
+    /* Seven equal blocks and one that is short: two cells would do, but only
+     * whole segments are shared. */
+    tally = lurdempos_tally(pool, sizeof pool, table, words);
+    if (!expect("tally", tally.refusal, LURDEMPOS_ACCEPTED) || tally.cells != 8
+        || tally.records != 1 || tally.counts != 8)
+        return 1;
+    retired = lurdempos_retire(pool, sizeof pool, table, words, 1, 2);
+    if (!expect("retire of 2", retired.refusal, LURDEMPOS_NOT_HELD))
+        return 1;
+    pool[0] ^= 1;
+    table[0] = 17;
+    tally = lurdempos_tally(pool, sizeof pool, table, words);
+    return expect("tally of a damaged store", tally.refusal, LURDEMPOS_NOT_SOUND) ? 0 : 1;
+}

@@ -1,0 +1,129 @@
+//! A call with its arguments, and random lists of calls.
+
+use crate::images::Images;
+use crate::whole::Till;
+use crate::{Keeper, Random};
+use std::fmt;
+use terms::{Capacities, BLOCK, LAST_NUMBER};
+
+#[derive(Clone)]
+pub enum Call {
+    TableLength(Capacities),
+    LayOut(Capacities),
+    Backup { till: u32, image: Vec<u8> },
+    Restore { till: u32, version: u32, room: usize },
+    Retire { till: u32, version: u32 },
+    Listing { till: u32 },
+    Tally,
+}
+
+impl fmt::Debug for Call {
+    fn fmt(&self, f: &mut fmt::Formatter<'_>) -> fmt::Result {
+        match self {
+            Call::TableLength(capacities) => write!(f, "table length {:?}", capacities.to_array()),
+            Call::LayOut(capacities) => write!(f, "lay out {:?}", capacities.to_array()),
+            Call::Backup { till, image } => write!(f, "backup till {till}, {} bytes", image.len()),
+            Call::Restore { till, version, room } => write!(f, "restore till {till}, version {version}, room {room}"),
+            Call::Retire { till, version } => write!(f, "retire till {till}, version {version}"),
+            Call::Listing { till } => write!(f, "listing till {till}"),
+            Call::Tally => write!(f, "tally"),
+        }
+    }
+}
+
+/// How a list goes: how often in a hundred it retires, and how many sorts of blocks its images have.
+#[derive(Clone, Copy, Debug)]
+pub struct Style {
+    pub retires: usize,
+    pub kinds: usize,
+}
+
+/// Random calls, most of them such as a box makes, some with wrong arguments.
+pub struct List {
+    capacities: Capacities,
+    style: Style,
+    images: Images,
+}
+
+impl List {
+    pub fn new(random: &mut Random, capacities: Capacities, style: Style) -> List {
+        List { capacities, style, images: Images::new(random, capacities.blocks as usize, style.kinds) }
+    }
+
+    pub fn next(&self, random: &mut Random, keeper: &Keeper) -> Call {
+        let number = random.below(self.capacities.tills as usize) as u32;
+        let till = &keeper.tills()[number as usize];
+        let wrong = random.percent(4);
+        let till_number = if wrong && random.percent(30) { self.no_till(random) } else { number };
+        let retire = if till.held.len() == self.capacities.versions as usize { 60 } else { self.style.retires };
+        match random.below(100) {
+            0..=3 => Call::Tally,
+            4..=7 => Call::Listing { till: till_number },
+            8 => Call::TableLength(self.capacities_near(random)),
+            9 => self.refused_lay_out(random),
+            10..=29 => self.restore(random, till_number, till, wrong),
+            _ if random.percent(retire) => {
+                let version = if wrong || random.percent(5) { any_version(random, till) } else { till.oldest() };
+                Call::Retire { till: till_number, version }
+            }
+            _ => Call::Backup { till: till_number, image: self.image(random, keeper, till, wrong) },
+        }
+    }
+
+    fn no_till(&self, random: &mut Random) -> u32 {
+        *random.pick(&[self.capacities.tills, self.capacities.tills + 1, 16, u32::MAX])
+    }
+
+    fn image(&self, random: &mut Random, keeper: &Keeper, till: &Till, wrong: bool) -> Vec<u8> {
+        if wrong {
+            return vec![7; *random.pick(&[0, self.capacities.image_bytes() + 1])];
+        }
+        let other = random.pick(keeper.tills()).newest_image();
+        self.images.next(random, till.newest_image(), other)
+    }
+
+    fn restore(&self, random: &mut Random, number: u32, till: &Till, wrong: bool) -> Call {
+        let version = if wrong { any_version(random, till) } else { held_version(random, till) };
+        let length = till.held.get(&version).map_or(0, Vec::len);
+        let room = match random.below(6) {
+            0 => length.saturating_sub(1 + random.below(BLOCK)),
+            1 => length + random.below(3 * BLOCK),
+            2 => self.capacities.image_bytes(),
+            _ => length,
+        };
+        Call::Restore { till: number, version, room }
+    }
+
+    /// The store's capacities but for one of them.
+    fn capacities_near(&self, random: &mut Random) -> Capacities {
+        let mut five = self.capacities.to_array();
+        let one = random.below(5);
+        let largest = Capacities::LARGEST.to_array()[one];
+        five[one] = *random.pick(&[0, 1, largest, largest + 1, u32::MAX, five[one] + 1]);
+        let [tills, versions, blocks, records, cells] = five;
+        Capacities::new(tills, versions, blocks, records, cells)
+    }
+
+    /// A laying out that the store's own buffers do not fit.
+    fn refused_lay_out(&self, random: &mut Random) -> Call {
+        let capacities = self.capacities_near(random);
+        if capacities == self.capacities {
+            Call::Tally
+        } else {
+            Call::LayOut(capacities)
+        }
+    }
+}
+
+fn held_version(random: &mut Random, till: &Till) -> u32 {
+    till.oldest() + random.below(till.held.len().max(1)) as u32
+}
+
+fn any_version(random: &mut Random, till: &Till) -> u32 {
+    let near = [0, till.oldest().wrapping_sub(1), till.newest(), till.last + 1, LAST_NUMBER, u32::MAX];
+    if random.percent(50) {
+        *random.pick(&near)
+    } else {
+        held_version(random, till)
+    }
+}

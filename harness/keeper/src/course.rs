@@ -1,0 +1,241 @@
+//! One list of calls put to several stores and to the keeper: after each call all stores must have answered alike and
+//! have left the same pool, table and output, and both must be what the keeper knows.
+
+use crate::events::Events;
+use crate::{Call, Keeper};
+use std::collections::BTreeSet;
+use terms::{Calls, Capacities, Refusal, LAST_NUMBER};
+
+/// What outputs are filled with before a restore.
+const UNTOUCHED: u8 = 0xa5;
+
+/// A store with its two buffers.
+pub struct Lane {
+    pub store: Box<dyn Calls>,
+    pub pool: Vec<u8>,
+    pub table: Vec<u32>,
+}
+
+pub struct Course {
+    capacities: Capacities,
+    lanes: Vec<Lane>,
+    keeper: Keeper,
+    /// Pool and table as the last accepted call left them.
+    pool: Vec<u8>,
+    table: Vec<u32>,
+    /// Refusals met, each with the call's letter.
+    pub met: BTreeSet<(char, u32)>,
+    /// Calls made and accepted, and what they did to the records.
+    pub made: usize,
+    pub accepted: usize,
+    pub events: Events,
+}
+
+/// An answer as numbers, the refusal first, and the output that was lent.
+type Answer = ([u32; 4], Vec<u8>);
+
+impl Course {
+    /// Lays the same store out for each.
+    pub fn new(capacities: Capacities, stores: Vec<Box<dyn Calls>>) -> Course {
+        let lanes: Vec<Lane> = stores.into_iter().map(|store| lane(store, capacities)).collect();
+        let keeper = Keeper::new(capacities.tills);
+        Course::start(capacities, lanes, keeper)
+    }
+
+    /// Starts from a sound store, whatever calls it may come from; the keeper gets what the first of the stores has.
+    pub fn from_store(pool: &[u8], table: &[u32], stores: Vec<Box<dyn Calls>>) -> Course {
+        let [tills, versions, blocks, records, cells] = [0, 1, 2, 3, 4].map(|n| table[n]);
+        let capacities = Capacities::new(tills, versions, blocks, records, cells);
+        let keeper = keeper_of(stores[0].as_ref(), pool, table, capacities);
+        let lane = |store| Lane { store, pool: pool.to_vec(), table: table.to_vec() };
+        Course::start(capacities, stores.into_iter().map(lane).collect(), keeper)
+    }
+
+    fn start(capacities: Capacities, lanes: Vec<Lane>, keeper: Keeper) -> Course {
+        let (pool, table) = (lanes[0].pool.clone(), lanes[0].table.clone());
+        let (met, events) = (BTreeSet::new(), Events::default());
+        let mut course = Course { capacities, lanes, keeper, pool, table, met, made: 0, accepted: 0, events };
+        course.lanes_agree(&Call::LayOut(capacities));
+        course
+    }
+
+    pub fn keeper(&self) -> &Keeper {
+        &self.keeper
+    }
+
+    pub fn buffers(&self) -> (&[u8], &[u32]) {
+        (&self.pool, &self.table)
+    }
+
+    /// Makes one call of all stores and compares. Answers the refusal's number.
+    pub fn call(&mut self, call: &Call) -> [u32; 4] {
+        let mut answers: Vec<Answer> = self.lanes.iter_mut().map(|lane| answer(lane, call)).collect();
+        let (first, output) = answers.swap_remove(0);
+        for (other, other_output) in &answers {
+            assert_eq!(first, *other, "{}: answers differ", self.place(call));
+            assert!(output == *other_output, "{}: outputs differ", self.place(call));
+        }
+        let accepted = first[0] == 0;
+        self.met.insert((letter(call), first[0]));
+        self.made += 1;
+        self.accepted += accepted as usize;
+        if accepted && matches!(call, Call::Backup { .. } | Call::Retire { .. }) {
+            let records = self.table.len() - 19 * self.capacities.records as usize;
+            self.events += Events::between(&self.table[records..], &self.lanes[0].table[records..]);
+            self.pool.copy_from_slice(&self.lanes[0].pool);
+            self.table.copy_from_slice(&self.lanes[0].table);
+        }
+        self.lanes_agree(call);
+        self.judge(call, first, &output);
+        first
+    }
+
+    /// All stores have the buffers that the last accepted call left.
+    fn lanes_agree(&mut self, call: &Call) {
+        for lane in &self.lanes {
+            assert!(lane.pool == self.pool, "{}: pool of the {} differs", self.place(call), lane.store.name());
+            assert!(lane.table == self.table, "{}: table of the {} differs", self.place(call), lane.store.name());
+        }
+    }
+
+    fn place(&self, call: &Call) -> String {
+        format!("call {} on {:?}, {call:?}", self.made, self.capacities.to_array())
+    }
+
+    /// The answer and output are what the keeper knows, which then follows the call.
+    fn judge(&mut self, call: &Call, answer: [u32; 4], output: &[u8]) {
+        let expected = self.refusal(call);
+        let left_open = expected.is_none() && matches!(call, Call::Backup { .. });
+        let number = expected.map_or(0, Refusal::number);
+        let fits = answer[0] == number || left_open && [14, 16].contains(&answer[0]);
+        assert!(fits, "{}: answered {}, the keeper has {number}", self.place(call), answer[0]);
+        if answer[0] != 0 {
+            assert_eq!(answer[1..], [0; 3], "{}: a field beside the refusal", self.place(call));
+            assert!(output.iter().all(|&byte| byte == UNTOUCHED), "{}: output altered", self.place(call));
+            return;
+        }
+        match call {
+            Call::Backup { till, image } => {
+                self.keeper.file(*till, image);
+                assert_eq!(answer[1], self.keeper.tills()[*till as usize].last, "{}", self.place(call));
+            }
+            Call::Retire { till, version } => {
+                let struck = self.keeper.strike(*till, *version).expect("the keeper held it");
+                assert_eq!(answer[1] as usize, struck.len(), "{}", self.place(call));
+            }
+            Call::Restore { till, version, .. } => self.judge_restore(call, *till, *version, answer, output),
+            Call::Listing { till } => {
+                let listing = self.keeper.tills()[*till as usize].listing();
+                assert_eq!(answer[1..], [listing.oldest, listing.newest, listing.last], "{}", self.place(call));
+            }
+            Call::Tally => {
+                let cells = self.pool.chunks(64).filter(|cell| cell.iter().any(|&byte| byte != 0)).count();
+                assert_eq!(answer[1] as usize, cells, "{}", self.place(call));
+            }
+            Call::TableLength(_) | Call::LayOut(_) => {}
+        }
+    }
+
+    fn judge_restore(&self, call: &Call, number: u32, version: u32, answer: [u32; 4], output: &[u8]) {
+        let till = &self.keeper.tills()[number as usize];
+        let image = &till.held[&version];
+        assert_eq!(answer[1] as usize, image.len(), "{}", self.place(call));
+        assert!(output[..image.len()] == image[..], "{}: another image", self.place(call));
+        let later = &output[image.len()..];
+        assert!(later.iter().all(|&byte| byte == UNTOUCHED), "{}: wrote too far", self.place(call));
+        let hops = answer[2] as usize;
+        assert!(hops <= till.newer(version), "{}: chain of {hops}", self.place(call));
+    }
+
+    /// The refusal that the keeper expects. Of a backup's, 14 and 16 are beyond it.
+    fn refusal(&self, call: &Call) -> Option<Refusal> {
+        match call {
+            Call::TableLength(capacities) => (!capacities.in_range()).then_some(Refusal::Capacity),
+            Call::LayOut(capacities) if !capacities.in_range() => Some(Refusal::Capacity),
+            Call::LayOut(_) => Some(Refusal::Lengths),
+            Call::Tally => None,
+            Call::Listing { till } => self.keeper.till(*till).is_none().then_some(Refusal::NoSuchTill),
+            Call::Backup { till, image } => self.backup_refusal(*till, image.len()),
+            Call::Restore { till, version, room } => {
+                let Some(till) = self.keeper.till(*till) else { return Some(Refusal::NoSuchTill) };
+                let Some(image) = till.held.get(version) else { return Some(Refusal::NotHeld) };
+                (*room < image.len()).then_some(Refusal::ShortOutput)
+            }
+            Call::Retire { till, version } => {
+                let Some(till) = self.keeper.till(*till) else { return Some(Refusal::NoSuchTill) };
+                let is_held = till.held.contains_key(version);
+                if is_held {
+                    (*version != till.oldest()).then_some(Refusal::NotOldest)
+                } else {
+                    Some(Refusal::NotHeld)
+                }
+            }
+        }
+    }
+
+    fn backup_refusal(&self, till: u32, length: usize) -> Option<Refusal> {
+        let Some(till) = self.keeper.till(till) else { return Some(Refusal::NoSuchTill) };
+        if length == 0 || length > self.capacities.image_bytes() {
+            Some(Refusal::ImageLength)
+        } else if till.held.len() == self.capacities.versions as usize {
+            Some(Refusal::TillFull)
+        } else {
+            (till.last == LAST_NUMBER).then_some(Refusal::NumbersSpent)
+        }
+    }
+}
+
+/// A store laid out in buffers that were not blank.
+fn lane(store: Box<dyn Calls>, capacities: Capacities) -> Lane {
+    let [0, words] = store.table_length(capacities) else { panic!("{}: no length", store.name()) };
+    let (mut pool, mut table) = (vec![1; capacities.pool_bytes()], vec![1; words as usize]);
+    assert_eq!(store.lay_out(&mut pool, &mut table, capacities), [0], "{}: lay out", store.name());
+    Lane { store, pool, table }
+}
+
+/// A keeper of what a store has now.
+fn keeper_of(store: &dyn Calls, pool: &[u8], table: &[u32], capacities: Capacities) -> Keeper {
+    let mut keeper = Keeper::new(capacities.tills);
+    for till in 0..capacities.tills {
+        let [0, oldest, newest, last] = store.listing(pool, table, till) else { panic!("an unsound store") };
+        keeper.begin(till, if newest == 0 { last } else { oldest - 1 });
+        for version in (oldest..=newest).filter(|&version| version != 0) {
+            let mut image = vec![0; capacities.image_bytes()];
+            let [0, length, _] = store.restore(pool, table, till, version, &mut image) else { panic!("not restored") };
+            keeper.file(till, &image[..length as usize]);
+        }
+    }
+    keeper
+}
+
+/// Makes one call of one store.
+pub fn answer(lane: &mut Lane, call: &Call) -> Answer {
+    let Lane { store, pool, table } = lane;
+    let mut output = Vec::new();
+    let numbers = match call {
+        Call::TableLength(capacities) => store.table_length(*capacities).to_vec(),
+        Call::LayOut(capacities) => store.lay_out(pool, table, *capacities).to_vec(),
+        Call::Backup { till, image } => store.backup(pool, table, *till, image).to_vec(),
+        Call::Restore { till, version, room } => {
+            output.resize(*room, UNTOUCHED);
+            store.restore(pool, table, *till, *version, &mut output).to_vec()
+        }
+        Call::Retire { till, version } => store.retire(pool, table, *till, *version).to_vec(),
+        Call::Listing { till } => store.listing(pool, table, *till).to_vec(),
+        Call::Tally => store.tally(pool, table).to_vec(),
+    };
+    (std::array::from_fn(|i| numbers.get(i).copied().unwrap_or(0)), output)
+}
+
+/// The call's letter in what was met.
+fn letter(call: &Call) -> char {
+    match call {
+        Call::TableLength(_) => 'l',
+        Call::LayOut(_) => 'o',
+        Call::Backup { .. } => 'b',
+        Call::Restore { .. } => 'r',
+        Call::Retire { .. } => 'q',
+        Call::Listing { .. } => 'i',
+        Call::Tally => 't',
+    }
+}

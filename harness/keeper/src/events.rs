@@ -1,0 +1,61 @@
+//! What happened to the records in a call, told from the table before and after it: so that a test can show that its
+//! lists went every way of the method.
+
+use std::ops::AddAssign;
+
+#[derive(Clone, Copy, Debug, Default, PartialEq, Eq)]
+pub struct Events {
+    /// Records taken for a new segment.
+    pub taken: usize,
+    /// Records in use that a new segment used once more.
+    pub shared: usize,
+    /// Records that lost some positions: few, so that only their cells were cleared.
+    pub cleared: usize,
+    /// Records that lost many and were copied together.
+    pub rebuilt: usize,
+    /// Records that lost many, with no run to copy to.
+    pub stuck: usize,
+    /// Records that lost all positions.
+    pub freed: usize,
+}
+
+impl AddAssign for Events {
+    fn add_assign(&mut self, other: Events) {
+        self.taken += other.taken;
+        self.shared += other.shared;
+        self.cleared += other.cleared;
+        self.rebuilt += other.rebuilt;
+        self.stuck += other.stuck;
+        self.freed += other.freed;
+    }
+}
+
+impl Events {
+    pub fn each(&self) -> [usize; 6] {
+        [self.taken, self.shared, self.cleared, self.rebuilt, self.stuck, self.freed]
+    }
+
+    /// From the records' words before and after a call.
+    pub fn between(before: &[u32], after: &[u32]) -> Events {
+        let mut events = Events::default();
+        for (old, new) in before.chunks(19).zip(after.chunks(19)).filter(|(old, new)| old != new) {
+            events += one(old, new);
+        }
+        events
+    }
+}
+
+fn one(old: &[u32], new: &[u32]) -> Events {
+    let (held, kept) = (old[0], old[0] & new[0]);
+    let (s, r) = (held.count_ones(), (held & !new[0]).count_ones());
+    let moved = (0..8).any(|i| kept >> i & 1 == 1 && old[3 + i] != new[3 + i]);
+    let more = (0..8).any(|i| new[11 + i] > old[11 + i]);
+    Events {
+        taken: (held == 0) as usize,
+        shared: (held != 0 && more) as usize,
+        cleared: (r > 0 && 5 * r < s) as usize,
+        rebuilt: (r > 0 && kept != 0 && moved) as usize,
+        stuck: (5 * r >= s && r > 0 && kept != 0 && !moved) as usize,
+        freed: (held != 0 && new[0] == 0) as usize,
+    }
+}

@@ -1,0 +1,20 @@
+//! What the stores are tried with: the page's keeper of whole images, random images and calls to feed it, and the
+//! course that puts one list of calls to several stores and the keeper and compares all they answer and leave.
+
+pub mod calls;
+pub mod closings;
+pub mod course;
+pub mod day;
+pub mod dense;
+pub mod events;
+pub mod images;
+pub mod inspect;
+pub mod sketch;
+pub mod whole;
+
+mod random;
+
+pub use calls::Call;
+pub use course::Course;
+pub use random::Random;
+pub use whole::Keeper;

@@ -1,0 +1,196 @@
+//! Any sound stores, most of them such as no list of calls leads to: records of equal content, cells in any order,
+//! direct pointers where indirect ones would do, numbers that begin anywhere.
+
+use crate::Random;
+use terms::{Capacities, BLOCK, LAST_NUMBER, SEGMENT};
+
+#[derive(Clone, Copy, PartialEq)]
+enum Position {
+    Null,
+    Held { cell: usize, count: u32 },
+    Removed,
+}
+
+#[derive(Clone, Copy, PartialEq)]
+enum Pointer {
+    Null,
+    Direct(usize, usize),
+    Indirect(usize),
+}
+
+struct Version {
+    length: usize,
+    pointers: Vec<Pointer>,
+}
+
+/// A till's versions stand newest first while they are made.
+struct Till {
+    last: u32,
+    versions: Vec<Version>,
+}
+
+struct Sketch {
+    capacities: Capacities,
+    records: Vec<[Position; SEGMENT]>,
+    tills: Vec<Till>,
+    pool: Vec<u8>,
+}
+
+/// A small sound store: its pool and its table.
+pub fn sound_store(random: &mut Random) -> (Vec<u8>, Vec<u32>) {
+    let mut upto = |most| random.between(1, most) as u32;
+    let capacities = Capacities::new(upto(3), upto(4), upto(20), upto(7), upto(56));
+    let mut sketch = Sketch { capacities, records: vec![], tills: vec![], pool: vec![0; capacities.pool_bytes()] };
+    sketch.draw_records(random);
+    sketch.tills = (0..capacities.tills).map(|_| sketch.draw_till(random)).collect();
+    sketch.count();
+    sketch.strike_unused(random);
+    sketch.fill_cells(random);
+    let words = sketch.words();
+    (sketch.pool, words)
+}
+
+impl Sketch {
+    /// Records with positions of each kind, held ones in cells of any order, all counts 0.
+    fn draw_records(&mut self, random: &mut Random) {
+        let mut cells: Vec<usize> = (0..self.capacities.cells as usize).collect();
+        (1..cells.len()).rev().for_each(|n| cells.swap(n, random.below(n + 1)));
+        for _ in 0..self.capacities.records {
+            let (nulls, removed) = (random.below(80), random.below(30));
+            let mut draw = |_| match cells.pop() {
+                Some(cell) if !random.percent(nulls) && !random.percent(removed) => Position::Held { cell, count: 0 },
+                _ if random.percent(removed) => Position::Removed,
+                _ => Position::Null,
+            };
+            self.records.push(std::array::from_fn(&mut draw));
+        }
+    }
+
+    fn draw_till(&self, random: &mut Random) -> Till {
+        let last = *random.pick(&[0, 1, 2, 3, 4, 9, 1_000, LAST_NUMBER - 1, LAST_NUMBER]);
+        let held = random.below(1 + self.capacities.versions.min(last) as usize);
+        let mut versions: Vec<Version> = Vec::new();
+        for _ in 0..held {
+            let newer = versions.last().map_or(&[][..], |newer| &newer.pointers);
+            let version = self.draw_version(random, newer);
+            versions.push(version);
+        }
+        Till { last, versions }
+    }
+
+    fn draw_version(&self, random: &mut Random, newer: &[Pointer]) -> Version {
+        let length = random.between(1, self.capacities.image_bytes());
+        let length = if random.percent(50) { length.next_multiple_of(BLOCK) } else { length };
+        let (directs, indirects) = (random.below(101), random.below(101));
+        let named: Vec<usize> = (0..newer.len()).filter(|&n| newer[n] != Pointer::Null).collect();
+        let held = |k: usize, i: usize| matches!(self.records[k][i], Position::Held { .. });
+        let mut draw = || {
+            let (k, i) = (random.below(self.records.len()), random.below(SEGMENT));
+            if !named.is_empty() && random.percent(indirects) {
+                Pointer::Indirect(*random.pick(&named))
+            } else if held(k, i) && random.percent(directs) {
+                Pointer::Direct(k, i)
+            } else {
+                Pointer::Null
+            }
+        };
+        Version { length, pointers: (0..length.div_ceil(BLOCK)).map(|_| draw()).collect() }
+    }
+
+    /// Counts every direct pointer.
+    fn count(&mut self) {
+        for pointer in self.tills.iter().flat_map(|till| &till.versions).flat_map(|version| &version.pointers) {
+            if let Pointer::Direct(k, i) = *pointer {
+                if let Position::Held { count, .. } = &mut self.records[k][i] {
+                    *count += 1;
+                }
+            }
+        }
+    }
+
+    /// Held positions that no pointer names become removed or null; a record that then holds none is free.
+    fn strike_unused(&mut self, random: &mut Random) {
+        let whole = random.percent(50);
+        for record in &mut self.records {
+            for position in record.iter_mut() {
+                if matches!(position, Position::Held { count: 0, .. } | Position::Removed) {
+                    *position = if whole || random.percent(50) { Position::Null } else { Position::Removed };
+                }
+            }
+            if !record.iter().any(|position| matches!(position, Position::Held { .. })) {
+                *record = [Position::Null; SEGMENT];
+            }
+        }
+    }
+
+    /// Few different blocks, so that cells and records come out equal; zero after the ends of versions.
+    fn fill_cells(&mut self, random: &mut Random) {
+        let (letters, alike) = (random.between(1, 4), random.percent(50));
+        for (n, position) in self.records.iter().flatten().enumerate() {
+            if let Position::Held { cell, .. } = *position {
+                let letter = if alike { n % SEGMENT % letters } else { random.below(letters) };
+                self.pool[BLOCK * cell..BLOCK * (cell + 1)].fill(b'a' + letter as u8);
+            }
+        }
+        for till in &self.tills {
+            for (n, version) in till.versions.iter().enumerate() {
+                let traced = self.trace(till, n, version.pointers.len() - 1);
+                if let (Some(cell), tail @ 1..) = (traced, version.length % BLOCK) {
+                    self.pool[BLOCK * cell + tail..BLOCK * (cell + 1)].fill(0);
+                }
+            }
+        }
+    }
+
+    fn trace(&self, till: &Till, version: usize, block: usize) -> Option<usize> {
+        match till.versions[version].pointers[block] {
+            Pointer::Null => None,
+            Pointer::Indirect(newer) => self.trace(till, version - 1, newer),
+            Pointer::Direct(k, i) => match self.records[k][i] {
+                Position::Held { cell, .. } => Some(cell),
+                _ => None,
+            },
+        }
+    }
+
+    /// The table's words.
+    fn words(&self) -> Vec<u32> {
+        let [_, versions, blocks, ..] = self.capacities.to_array().map(|one| one as usize);
+        let mut words = [&self.capacities.to_array()[..], &[0; 3]].concat();
+        for till in &self.tills {
+            let held = till.versions.len() as u32;
+            words.extend([till.last, held, 0, 0]);
+            for (version, number) in till.versions.iter().rev().zip(till.last + 1 - held..) {
+                words.extend([number, version.length as u32, 0]);
+                words.extend(version.pointers.iter().map(pointer_word));
+                words.extend(vec![0; blocks - version.pointers.len()]);
+            }
+            words.extend(vec![0; (versions - held as usize) * (3 + blocks)]);
+        }
+        self.records.iter().for_each(|record| words.extend(record_words(record)));
+        words
+    }
+}
+
+fn pointer_word(pointer: &Pointer) -> u32 {
+    match *pointer {
+        Pointer::Null => 0,
+        Pointer::Direct(k, i) => (1 << 24) + (16 * k + i) as u32,
+        Pointer::Indirect(n) => (2 << 24) + n as u32,
+    }
+}
+
+fn record_words(record: &[Position; SEGMENT]) -> [u32; 19] {
+    let mut words = [0; 19];
+    for (i, position) in record.iter().enumerate() {
+        match *position {
+            Position::Null => {}
+            Position::Removed => words[1] |= 1 << i,
+            Position::Held { cell, count } => {
+                words[0] |= 1 << i;
+                (words[3 + i], words[11 + i]) = (cell as u32, count);
+            }
+        }
+    }
+    words
+}

@@ -1,0 +1,74 @@
+//! The page's keeper of whole images.
+
+use std::collections::BTreeMap;
+use terms::Listing;
+
+/// For each till the last number given and the held versions, each a whole image.
+pub struct Keeper {
+    tills: Vec<Till>,
+}
+
+#[derive(Clone, Default)]
+pub struct Till {
+    pub last: u32,
+    pub held: BTreeMap<u32, Vec<u8>>,
+}
+
+impl Keeper {
+    pub fn new(tills: u32) -> Keeper {
+        Keeper { tills: vec![Till::default(); tills as usize] }
+    }
+
+    pub fn tills(&self) -> &[Till] {
+        &self.tills
+    }
+
+    pub fn till(&self, till: u32) -> Option<&Till> {
+        self.tills.get(till as usize)
+    }
+
+    /// A till whose numbers begin after this one.
+    pub fn begin(&mut self, till: u32, last: u32) {
+        self.tills[till as usize].last = last;
+    }
+
+    /// An accepted backup files the image under the till's next number.
+    pub fn file(&mut self, till: u32, image: &[u8]) {
+        let till = &mut self.tills[till as usize];
+        till.last += 1;
+        till.held.insert(till.last, image.to_vec());
+    }
+
+    /// An accepted retire strikes the version named.
+    pub fn strike(&mut self, till: u32, version: u32) -> Option<Vec<u8>> {
+        self.tills[till as usize].held.remove(&version)
+    }
+
+    /// All images' bytes.
+    pub fn bytes(&self) -> usize {
+        self.tills.iter().flat_map(|till| till.held.values()).map(Vec::len).sum()
+    }
+}
+
+impl Till {
+    pub fn oldest(&self) -> u32 {
+        self.held.first_key_value().map_or(0, |(&number, _)| number)
+    }
+
+    pub fn newest(&self) -> u32 {
+        self.held.last_key_value().map_or(0, |(&number, _)| number)
+    }
+
+    pub fn newest_image(&self) -> Option<&[u8]> {
+        self.held.last_key_value().map(|(_, image)| image.as_slice())
+    }
+
+    /// How many held versions are newer than this one.
+    pub fn newer(&self, version: u32) -> usize {
+        self.held.range(version + 1..).count()
+    }
+
+    pub fn listing(&self) -> Listing {
+        Listing { oldest: self.oldest(), newest: self.newest(), last: self.last }
+    }
+}

@@ -1,0 +1,58 @@
+//! The seven calls with answers as bare numbers, so that one test can be put to the proved store and to the twin.
+
+use crate::{Capacities, Listing, Refusal, Restored, Tally};
+
+/// The calls on lent buffers. An answer is the refusal's number, 0 if the call is accepted, then the page's fields.
+pub trait Calls {
+    fn name(&self) -> &'static str;
+    fn table_length(&self, capacities: Capacities) -> [u32; 2];
+    fn lay_out(&self, pool: &mut [u8], table: &mut [u32], capacities: Capacities) -> [u32; 1];
+    fn backup(&self, pool: &mut [u8], table: &mut [u32], till: u32, image: &[u8]) -> [u32; 2];
+    fn restore(&self, pool: &[u8], table: &[u32], till: u32, version: u32, output: &mut [u8]) -> [u32; 3];
+    fn retire(&self, pool: &mut [u8], table: &mut [u32], till: u32, version: u32) -> [u32; 2];
+    fn listing(&self, pool: &[u8], table: &[u32], till: u32) -> [u32; 4];
+    fn tally(&self, pool: &[u8], table: &[u32]) -> [u32; 4];
+}
+
+/// An accepted answer as bare numbers.
+pub trait Fields<const N: usize> {
+    fn fields(self) -> [u32; N];
+}
+
+impl Fields<1> for () {
+    fn fields(self) -> [u32; 1] {
+        [0]
+    }
+}
+
+impl Fields<2> for u32 {
+    fn fields(self) -> [u32; 2] {
+        [0, self]
+    }
+}
+
+impl Fields<3> for Restored {
+    fn fields(self) -> [u32; 3] {
+        [0, self.length, self.hops]
+    }
+}
+
+impl Fields<4> for Listing {
+    fn fields(self) -> [u32; 4] {
+        [0, self.oldest, self.newest, self.last]
+    }
+}
+
+impl Fields<4> for Tally {
+    fn fields(self) -> [u32; 4] {
+        [0, self.cells, self.records, self.counts]
+    }
+}
+
+/// An answer as bare numbers: with a refusal every other field is 0.
+pub fn numbers<const N: usize>(answer: Result<impl Fields<N>, Refusal>) -> [u32; N] {
+    answer.map_or_else(
+        |refusal| std::array::from_fn(|i| if i == 0 { refusal.number() } else { 0 }),
+        |accepted| accepted.fields(),
+    )
+}

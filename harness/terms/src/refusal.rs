@@ -1,0 +1,94 @@
+//! Why a call is refused.
+
+use std::fmt;
+
+/// A refusal, with the page's number as its value and the page's words as its text.
+#[derive(Clone, Copy, Debug, PartialEq, Eq, PartialOrd, Ord, Hash)]
+#[repr(u32)]
+pub enum Refusal {
+    Capacity = 1,
+    Lengths = 2,
+    NoSuchTill = 3,
+    ImageLength = 4,
+    ShortOutput = 5,
+    Unsound = 10,
+    TillFull = 11,
+    NumbersSpent = 12,
+    NotOldest = 13,
+    NoRecord = 14,
+    NotHeld = 15,
+    NoRun = 16,
+}
+
+impl Refusal {
+    pub const ALL: [Refusal; 12] = [
+        Refusal::Capacity,
+        Refusal::Lengths,
+        Refusal::NoSuchTill,
+        Refusal::ImageLength,
+        Refusal::ShortOutput,
+        Refusal::Unsound,
+        Refusal::TillFull,
+        Refusal::NumbersSpent,
+        Refusal::NotOldest,
+        Refusal::NoRecord,
+        Refusal::NotHeld,
+        Refusal::NoRun,
+    ];
+
+    /// The page's number.
+    pub const fn number(self) -> u32 {
+        self as u32
+    }
+
+    /// The refusal that has this number, if one has.
+    pub fn from_number(number: u32) -> Option<Refusal> {
+        Refusal::ALL.into_iter().find(|refusal| refusal.number() == number)
+    }
+
+    /// The page's words.
+    pub const fn words(self) -> &'static str {
+        match self {
+            Refusal::Capacity => "a capacity outside its range",
+            Refusal::Lengths => "in laying out, pool or table of another length than needed",
+            Refusal::NoSuchTill => "till number not below the tills",
+            Refusal::ImageLength => "image empty, or longer than 64 × blocks per image",
+            Refusal::ShortOutput => "output shorter than the version",
+            Refusal::Unsound => "pool and table are not a sound store",
+            Refusal::TillFull => "the till holds its full number of versions",
+            Refusal::NumbersSpent => "its last given number is 65,535",
+            Refusal::NotOldest => "retire of a held version that is not its till's oldest",
+            Refusal::NoRecord => "a segment to be placed in step 1 finds no free record",
+            Refusal::NotHeld => "that version is not held",
+            Refusal::NoRun => "a segment to be placed finds no run",
+        }
+    }
+}
+
+impl fmt::Display for Refusal {
+    fn fmt(&self, f: &mut fmt::Formatter<'_>) -> fmt::Result {
+        write!(f, "refused, {}: {}", self.number(), self.words())
+    }
+}
+
+impl std::error::Error for Refusal {}
+
+#[cfg(test)]
+mod tests {
+    use super::Refusal;
+
+    #[test]
+    fn numbers_lead_back() {
+        for refusal in Refusal::ALL {
+            assert_eq!(Refusal::from_number(refusal.number()), Some(refusal));
+        }
+        for number in [0, 6, 7, 8, 9, 17, u32::MAX] {
+            assert_eq!(Refusal::from_number(number), None);
+        }
+    }
+
+    #[test]
+    fn text_has_number_and_words() {
+        assert_eq!(Refusal::NotHeld.to_string(), "refused, 15: that version is not held");
+    }
+}

@@ -1,0 +1,162 @@
+//! A folder to work in, and the tool run in it as a person would.
+#![allow(dead_code)]
+
+use std::fs;
+use std::io::Write;
+use std::os::unix::process::ExitStatusExt;
+use std::path::{Path, PathBuf};
+use std::process::{Child, Command, Output, Stdio};
+
+pub const TOOL: &str = env!("CARGO_BIN_EXE_lurdempos");
+
+/// A folder that is empty at first and goes at the end.
+pub struct Bench(PathBuf);
+
+impl Bench {
+    pub fn new(name: &str) -> Bench {
+        let folder = Path::new(env!("CARGO_TARGET_TMPDIR")).join(format!("{name}-{}", std::process::id()));
+        let _ = fs::remove_dir_all(&folder);
+        fs::create_dir_all(&folder).unwrap();
+        Bench(folder)
+    }
+
+    /// With a small store of 2 tills, 4 versions, images of 16 blocks, 8 records and 64 cells.
+    pub fn with_store(name: &str) -> Bench {
+        let bench = Bench::new(name);
+        let made = bench.run("init s --tills 2 --versions 4 --blocks 16 --records 8 --cells 64");
+        made.accepted();
+        bench
+    }
+
+    pub fn path(&self, name: &str) -> PathBuf {
+        self.0.join(name)
+    }
+
+    pub fn read(&self, name: &str) -> Vec<u8> {
+        fs::read(self.path(name)).unwrap()
+    }
+
+    pub fn write(&self, name: &str, bytes: impl AsRef<[u8]>) {
+        fs::write(self.path(name), bytes).unwrap();
+    }
+
+    /// The names in the folder.
+    pub fn names(&self) -> Vec<String> {
+        let mut names: Vec<String> =
+            fs::read_dir(&self.0).unwrap().map(|entry| entry.unwrap().file_name().into_string().unwrap()).collect();
+        names.sort();
+        names
+    }
+
+    /// A command of the tool in this folder, its words set apart by spaces.
+    pub fn command(&self, line: &str) -> Command {
+        let mut command = Command::new(TOOL);
+        command.args(line.split_whitespace()).current_dir(&self.0).stdin(Stdio::null());
+        command
+    }
+
+    pub fn run(&self, line: &str) -> Run {
+        Run::of(line, self.command(line).output().unwrap())
+    }
+
+    pub fn run_with(&self, line: &str, variable: &str, value: u32) -> Run {
+        Run::of(line, self.command(line).env(variable, value.to_string()).output().unwrap())
+    }
+
+    /// With these bytes on standard input.
+    pub fn fed(&self, line: &str, input: &[u8]) -> Run {
+        let mut child = self.spawn(line);
+        // The tool may have read enough before the end.
+        let _ = child.stdin.take().unwrap().write_all(input);
+        Run::of(line, child.wait_with_output().unwrap())
+    }
+
+    pub fn spawn(&self, line: &str) -> Child {
+        let mut command = self.command(line);
+        command.stdin(Stdio::piped()).stdout(Stdio::piped()).stderr(Stdio::piped()).spawn().unwrap()
+    }
+
+    /// A line of the shell, with the tool as `lurdempos`.
+    pub fn shell(&self, line: &str) -> Run {
+        let path = format!("{}:{}", Path::new(TOOL).parent().unwrap().display(), std::env::var("PATH").unwrap());
+        let mut command = Command::new("sh");
+        command.args(["-c", line]).current_dir(&self.0).env("PATH", path).stdin(Stdio::null());
+        Run::of(line, command.output().unwrap())
+    }
+}
+
+impl Drop for Bench {
+    fn drop(&mut self) {
+        let _ = fs::remove_dir_all(&self.0);
+    }
+}
+
+/// How a run ended.
+#[derive(Debug)]
+pub struct Run {
+    pub line: String,
+    pub status: Option<i32>,
+    pub signal: Option<i32>,
+    pub bytes: Vec<u8>,
+    pub out: String,
+    pub err: String,
+}
+
+impl Run {
+    pub fn of(line: &str, Output { status, stdout, stderr }: Output) -> Run {
+        let (out, err) = (String::from_utf8_lossy(&stdout).into_owned(), String::from_utf8_lossy(&stderr).into_owned());
+        assert!(!err.contains("panicked"), "{line}: {err}");
+        Run { line: line.into(), status: status.code(), signal: status.signal(), bytes: stdout, out, err }
+    }
+
+    /// Status 0 and no word on standard error.
+    pub fn accepted(&self) -> &Run {
+        assert_eq!((self.status, self.err.as_str()), (Some(0), ""), "{self:?}");
+        self
+    }
+
+    pub fn says(&self, words: &str) -> &Run {
+        assert!(self.out.contains(words), "{words:?} is not in {self:?}");
+        self
+    }
+
+    /// Another status, no word on standard output, and these words on standard error.
+    pub fn fails(&self, status: i32, words: &[&str]) -> &Run {
+        assert_eq!((self.status, self.out.as_str()), (Some(status), ""), "{self:?}");
+        words.iter().for_each(|words| assert!(self.err.contains(words), "{words:?} is not in {self:?}"));
+        assert!(self.err.starts_with("lurdempos: "), "{self:?}");
+        self
+    }
+}
+
+/// An image of blocks, each filled with a letter; a dot is a block of zeros.
+pub fn letters(text: &str) -> Vec<u8> {
+    text.bytes().flat_map(|letter| [if letter == b'.' { 0 } else { letter }; 64]).collect()
+}
+
+/// A store's file by docs/FORMAT.md, from its parts.
+pub fn file_of(pool: &[u8], table: &[u32]) -> Vec<u8> {
+    let mut bytes = b"lurdempos\r\n\x1a".to_vec();
+    bytes.extend(1u32.to_le_bytes());
+    bytes.extend((pool.len() as u64).to_le_bytes());
+    bytes.extend((table.len() as u64).to_le_bytes());
+    bytes.extend(pool);
+    table.iter().for_each(|word| bytes.extend(word.to_le_bytes()));
+    bytes
+}
+
+/// Pseudo-random numbers from a seed, the same on every machine.
+pub struct Random(pub u64);
+
+impl Random {
+    pub fn next(&mut self) -> u64 {
+        self.0 = self.0.wrapping_add(0x9e37_79b9_7f4a_7c15);
+        let mixed = (self.0 ^ self.0 >> 30).wrapping_mul(0xbf58_476d_1ce4_e5b9);
+        let mixed = (mixed ^ mixed >> 27).wrapping_mul(0x94d0_49bb_1331_11eb);
+        mixed ^ mixed >> 31
+    }
+
+    pub fn below(&mut self, limit: usize) -> usize {
+        (self.next() % limit as u64) as usize
+    }
+}

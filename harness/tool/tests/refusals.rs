@@ -1,0 +1,137 @@
+//! Each refusal that the tool can meet: its number, its words, what to do, exit status 1, and nothing altered.
+
+mod common;
+use common::{file_of, letters, Bench};
+use lurdempos::{Capacities, Store};
+
+/// Refused with this number and these words; the folder stays as it is.
+fn refused(bench: &Bench, line: &str, number: u32, words: &[&str]) {
+    let before: Vec<(String, Vec<u8>)> =
+        bench.names().into_iter().map(|name| (name.clone(), bench.read(&name))).collect();
+    let run = bench.run(line);
+    run.fails(1, &[&format!("lurdempos: refused, {number}: "), "Here: ", "What to do: "]).fails(1, words);
+    let after: Vec<(String, Vec<u8>)> =
+        bench.names().into_iter().map(|name| (name.clone(), bench.read(&name))).collect();
+    assert!(before == after, "{line} altered something");
+}
+
+#[test]
+fn capacities_1() {
+    let bench = Bench::new("refusal-1");
+    let out_of_range = [
+        ("--tills 0", "--tills 0, but 1 to 16"),
+        ("--tills 17", "--tills 17, but 1 to 16"),
+        ("--versions 0", "--versions 0, but 1 to 64"),
+        ("--versions 65", "--versions 65, but 1 to 64"),
+        ("--blocks 0", "images of 0 blocks"),
+        ("--blocks 1025", "images of 1025 blocks"),
+        ("--image-bytes 0", "images of 0 blocks"),
+        ("--image-bytes 65537", "images of 1025 blocks"),
+        ("--records 0", "--records 0, but 1 to 4096"),
+        ("--records 4097", "--records 4097, but 1 to 4096"),
+        ("--cells 0", "--cells 0, but 1 to 32768"),
+        ("--cells 4294967295", "--cells 4294967295, but 1 to 32768"),
+        ("--image-bytes 4294967295", "blocks of 64 bytes, but 1 to 1024"),
+    ];
+    for (option, words) in out_of_range {
+        refused(&bench, &format!("init s {option}"), 1, &[words, "choose each from its range"]);
+    }
+    assert!(bench.names().is_empty());
+}
+
+#[test]
+fn tills_3() {
+    let bench = Bench::with_store("refusal-3");
+    bench.write("image", "x");
+    for line in ["backup s 2 image", "restore s 2 1 out", "retire s 2 1", "list s 2", "list s 2 --json"] {
+        refused(&bench, line, 3, &["there is no till 2, this store has tills 0 to 1", "lurdempos list s"]);
+    }
+    refused(&bench, "list s 4294967295", 3, &["there is no till 4294967295"]);
+    bench.run("init one --tills 1 --cells 2").accepted();
+    refused(&bench, "list one 1", 3, &["this store has till 0 alone"]);
+}
+
+#[test]
+fn images_4() {
+    let bench = Bench::with_store("refusal-4");
+    bench.write("empty", "");
+    bench.write("long", [1; 1025]);
+    bench.write("huge", vec![1; 300_000]);
+    refused(&bench, "backup s 0 empty", 4, &["the image has 0 bytes, this store takes 1 to 1024", "--image-bytes"]);
+    refused(&bench, "backup s 0 long", 4, &["the image has 1025 bytes"]);
+    refused(&bench, "backup s 0 huge", 4, &["the image has more than 65536 bytes"]);
+    refused(&bench, "backup s 0 /dev/zero", 4, &["the image has more than 65536 bytes"]);
+    bench.fed("backup s 0 -", &[]).fails(1, &["refused, 4: "]);
+    bench.fed("backup s 0 -", &[1; 1025]).fails(1, &["refused, 4: "]);
+    bench.fed("backup s 0 -", &[1; 1024]).accepted();
+}
+
+#[test]
+fn full_tills_11() {
+    let bench = Bench::with_store("refusal-11");
+    bench.write("image", letters("A"));
+    (0..4).for_each(|_| assert_eq!(bench.run("backup s 1 image").status, Some(0)));
+    refused(&bench, "backup s 1 image", 11, &["till 1 holds 4 already", "`lurdempos retire s 1 1`"]);
+    bench.run("retire s 1 1").accepted();
+    bench.run("backup s 1 image").accepted().says("version 5 kept");
+    refused(&bench, "backup s 1 image", 11, &["`lurdempos retire s 1 2`"]);
+    std::fs::copy(bench.path("s"), bench.path("it's")).unwrap();
+    refused(&bench, "backup it's 1 image", 11, &[r"`lurdempos retire 'it'\''s' 1 2`"]);
+}
+
+#[test]
+fn spent_numbers_12() {
+    let bench = Bench::new("refusal-12");
+    let (pool, mut table) = Store::new(Capacities::new(1, 2, 1, 1, 1)).unwrap().into_parts();
+    table[8] = 65_535;
+    bench.write("s", file_of(&pool, &table));
+    bench.write("image", "x");
+    bench.run("check s").accepted();
+    refused(&bench, "backup s 0 image", 12, &["till 0 can give no number after 65535", "go on in a new store"]);
+    bench.run("list s").accepted().says("till 0: no version held, the last was 65535");
+}
+
+#[test]
+fn retires_13_and_15() {
+    let bench = Bench::with_store("refusal-13");
+    bench.write("image", letters("A"));
+    refused(&bench, "retire s 0 1", 15, &["till 0 holds no version", "`lurdempos list s`"]);
+    bench.run("backup s 0 image").accepted();
+    refused(&bench, "retire s 0 2", 15, &["till 0 holds version 1 alone", "`lurdempos list s 0`"]);
+    bench.run("backup s 0 image").accepted();
+    bench.run("backup s 0 image").accepted();
+    refused(&bench, "retire s 0 3", 13, &["version 3 of till 0 has to wait for version 1", "`lurdempos retire s 0 1`"]);
+    for version in ["0", "4", "65536", "4294967295"] {
+        refused(&bench, &format!("retire s 0 {version}"), 15, &["till 0 holds versions 1 to 3"]);
+        refused(&bench, &format!("restore s 0 {version} out"), 15, &["till 0 holds versions 1 to 3"]);
+        refused(&bench, &format!("restore s 0 {version} -"), 15, &["till 0 holds versions 1 to 3"]);
+    }
+    bench.write("out", "an old output");
+    refused(&bench, "restore s 1 1 out", 15, &["till 1 holds no version"]);
+}
+
+#[test]
+fn no_record_14_and_no_run_16() {
+    let bench = Bench::new("refusal-14");
+    bench.run("init records --tills 1 --blocks 16 --records 1 --cells 64").accepted();
+    bench.run("init cells --tills 1 --blocks 16 --records 8 --cells 15").accepted();
+    bench.write("image", letters("ABCDEFGHIJKLMNOP"));
+    refused(&bench, "backup records 0 image", 14, &["the store's 1 segment records", "--records"]);
+    refused(&bench, "backup cells 0 image", 16, &["the store's 15 cells", "--cells", "retire the oldest versions"]);
+}
+
+#[test]
+fn unsound_10() {
+    let bench = Bench::with_store("refusal-10");
+    bench.fed("backup s 0 -", &letters("ABC")).accepted();
+    bench.write("image", "x");
+    let mut bytes = bench.read("s");
+    bytes[32 + 64 * 60] = 1; // a free cell that is not zero
+    bench.write("s", &bytes);
+    let lines =
+        ["backup s 0 image", "restore s 0 1 out", "restore s 0 1 -", "retire s 0 1", "list s", "list s 0 --json"];
+    for line in lines.into_iter().chain(["tally s", "check s", "map s", "map s --output m", "list s 9"]) {
+        refused(&bench, line, 10, &["pool and table are not a sound store", "s has been damaged", "lurdempos check"]);
+    }
+    assert_eq!(bench.names(), ["image", "s"]);
+}

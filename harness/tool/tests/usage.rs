@@ -1,0 +1,115 @@
+//! Help, versions, and wrong command lines: exit status 2, and nothing altered.
+
+mod common;
+use common::Bench;
+
+const COMMANDS: [&str; 9] = ["init", "backup", "restore", "retire", "list", "tally", "check", "map", "demo"];
+
+#[test]
+fn help_and_version() {
+    let bench = Bench::new("help");
+    let overview = bench.run("--help").accepted().out.clone();
+    COMMANDS.iter().for_each(|name| assert!(overview.contains(&format!("\n  {name} ")), "{name}"));
+    assert_eq!(bench.run("-h").accepted().out, overview);
+    assert_eq!(bench.run("help").accepted().out, overview);
+    for name in COMMANDS {
+        let help = bench.run(&format!("{name} --help")).accepted().out.clone();
+        assert!(help.starts_with(&format!("Usage: lurdempos {name}")), "{help}");
+        assert_eq!(bench.run(&format!("help {name}")).accepted().out, help);
+        assert_eq!(bench.run(&format!("{name} some words -h")).accepted().out, help);
+    }
+    let version = format!("lurdempos {}\n", env!("CARGO_PKG_VERSION"));
+    assert_eq!(bench.run("--version").accepted().out, version);
+    assert_eq!(bench.run("-V").accepted().out, version);
+    assert!(bench.names().is_empty());
+}
+
+#[test]
+fn no_command() {
+    let bench = Bench::new("no-command");
+    bench.run("").fails(2, &["a command is missing", "Usage: lurdempos COMMAND"]);
+    bench.run("bakcup").fails(2, &["there is no command `bakcup`", "choose one of init, backup,"]);
+    bench.run("--halp").fails(2, &["there is no command `--halp`"]);
+    bench.run("help bakcup").fails(2, &["there is no command `bakcup`"]);
+    bench.run("--version now").fails(2, &["one argument too many: now"]);
+    bench.run("help list tally").fails(2, &["one argument too many: tally"]);
+}
+
+/// Wrong lines, and what is said about them.
+const WRONG: [(&str, &str); 29] = [
+    ("init", "an argument is missing"),
+    ("init n m", "one argument too many: m"),
+    ("init n --till 3", "unknown option --till"),
+    ("init n --tills", "option --tills needs a value"),
+    ("init n --tills 3 --tills=3", "option --tills is given twice"),
+    ("init n --blocks 3 --image-bytes 3", "--image-bytes and --blocks say the same"),
+    ("init n --json", "unknown option --json"),
+    ("init n -t", "unknown option -t"),
+    ("backup s 0", "an argument is missing"),
+    ("backup s 0 image more", "one argument too many: more"),
+    ("backup s -1 image", "unknown option -1"),
+    ("backup - 0 image", "FILE has to be a file"),
+    ("restore s 0 1", "an argument is missing"),
+    ("restore s 0 1 s", "is the store itself"),
+    ("restore s 0 1 ./s", "is the store itself"),
+    ("map s --output s", "is the store itself"),
+    ("retire s 0", "an argument is missing"),
+    ("list", "an argument is missing"),
+    ("list s 0 1", "one argument too many: 1"),
+    ("list s --json --json", "option --json is given twice"),
+    ("list s --json=yes", "unknown option --json=yes"),
+    ("tally s 0", "one argument too many: 0"),
+    ("check", "an argument is missing"),
+    ("check -", "FILE has to be a file"),
+    ("map s --output", "option --output needs a value"),
+    ("map s --output=", "option --output needs a file"),
+    ("demo now", "one argument too many: now"),
+    ("init x.lurdempos-new", "are for the tool's own drafts"),
+    ("restore s 0 1 s.lurdempos-new", "are for the tool's own drafts"),
+];
+
+#[test]
+fn wrong_lines() {
+    let bench = Bench::with_store("wrong-lines");
+    bench.write("image", "x");
+    let before = bench.read("s");
+    bench.run("backup s 0 image").accepted();
+    let kept = bench.read("s");
+    assert_ne!(before, kept);
+    for (line, words) in WRONG {
+        bench.run(line).fails(2, &[words]);
+    }
+    assert_eq!((bench.read("s"), bench.names()), (kept, vec!["image".to_string(), "s".into()]));
+}
+
+#[test]
+fn numbers_are_strict() {
+    let bench = Bench::with_store("numbers");
+    for word in ["", " 1", "1 ", "+1", "1.0", "1e1", "0x1", "01", "1_0", "1,0", "one", "١", "1\n"] {
+        let run = |words: &[&str]| common::Run::of(word, bench.command("").args(words).output().unwrap());
+        run(&["list", "s", word]).fails(2, &["TILL has to be a number in plain digits"]);
+        run(&["backup", "s", word, "-"]).fails(2, &["TILL has to be a number in plain digits"]);
+        run(&["restore", "s", "0", word, "out"]).fails(2, &["VERSION has to be a number in plain digits"]);
+        run(&["retire", "s", "0", word]).fails(2, &["VERSION has to be a number in plain digits"]);
+        run(&["init", "n", "--tills", word]).fails(2, &["--tills has to be a number in plain digits"]);
+    }
+    bench.run("list s 4294967296").fails(2, &["TILL is larger than any number here"]);
+    bench.run("init n --cells 99999999999999999999999").fails(2, &["--cells is larger than any number here"]);
+    assert_eq!(bench.names(), ["s"]);
+}
+
+#[test]
+fn options_anywhere_and_odd_names() {
+    use std::os::unix::ffi::OsStrExt;
+    let bench = Bench::new("odd-names");
+    bench.run("init --tills 1 --cells 4 -- --tills").accepted();
+    bench.run("check -- --tills").accepted().says("--tills: sound");
+    bench.run("init ./- --cells 4").accepted();
+    bench.run("check ./-").accepted();
+    let odd = std::ffi::OsStr::from_bytes(b"\xff\xfe <&>");
+    let run = |words: &[&str]| bench.command("").args(words).arg(odd).output().unwrap();
+    assert!(run(&["init", "--cells", "4"]).status.success());
+    assert!(run(&["list", "--json"]).status.success());
+    assert!(String::from_utf8(run(&["map"]).stdout).unwrap().contains("&lt;&amp;&gt;"));
+    assert_eq!(bench.command("list").arg("--").arg(odd).arg(odd).output().unwrap().status.code(), Some(2));
+}

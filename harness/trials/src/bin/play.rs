@@ -1,0 +1,60 @@
+//! Random lists of calls for as long as wanted: `play --seed N --calls M`, `--full` for stores of the largest
+//! capacities. It stops at the first difference between the proved store, the twin and the keeper.
+
+use keeper::calls::Style;
+use keeper::events::Events;
+use keeper::Random;
+use std::collections::{BTreeMap, BTreeSet};
+use std::process::ExitCode;
+use terms::Capacities;
+use trials::history;
+
+struct Wish {
+    seed: u64,
+    calls: usize,
+    full: bool,
+}
+
+fn main() -> ExitCode {
+    let Some(wish) = wish(std::env::args().skip(1)) else {
+        eprintln!("play [--seed N] [--calls M] [--full]");
+        return ExitCode::from(2);
+    };
+    play(wish);
+    ExitCode::SUCCESS
+}
+
+fn wish(mut words: impl Iterator<Item = String>) -> Option<Wish> {
+    let mut wish = Wish { seed: 1, calls: 100_000, full: false };
+    while let Some(word) = words.next() {
+        match word.as_str() {
+            "--seed" => wish.seed = words.next()?.parse().ok()?,
+            "--calls" => wish.calls = words.next()?.parse().ok()?,
+            "--full" => wish.full = true,
+            _ => return None,
+        }
+    }
+    Some(wish)
+}
+
+fn play(wish: Wish) {
+    let mut random = Random::new(wish.seed);
+    let (mut made, mut stores, mut events) = (0, 0, Events::default());
+    let mut met: BTreeMap<u32, usize> = BTreeMap::new();
+    while made < wish.calls {
+        let (capacities, style) = history::small(&mut random);
+        let full = (Capacities::LARGEST, Style { kinds: random.between(20, 2_000), ..style });
+        let (capacities, style) = if wish.full { full } else { (capacities, style) };
+        let seed = random.number();
+        println!("store {stores}: {:?}, {style:?}, seed {seed}", capacities.to_array());
+        let course = history::run(seed, capacities, style, (wish.calls - made).min(2_000), 100);
+        made += course.made;
+        stores += 1;
+        events += course.events;
+        let numbers: BTreeSet<u32> = course.met.iter().map(|&(_, number)| number).collect();
+        numbers.into_iter().for_each(|number| *met.entry(number).or_default() += 1);
+    }
+    println!("{made} calls on {stores} stores, no difference");
+    println!("{events:?}");
+    println!("stores that met each number: {met:?}");
+}

@@ -1,0 +1,71 @@
+//! Any pool and table, sound or not: both stores give the same answers and leave the same buffers.
+
+use keeper::course::{answer, Lane};
+use keeper::{Call, Random};
+use lurdempos::Proved;
+use std::collections::BTreeSet;
+use terms::{BLOCK, SEGMENT};
+use twin::Twin;
+
+/// What one round of calls was answered.
+pub type Refusals = BTreeSet<u32>;
+
+/// Puts each call to both stores, each time on a fresh copy. Answers the refusals met, after making sure that 10 is
+/// said by every call or by none, and by the twin's own check.
+pub fn compare(pool: &[u8], table: &[u32], calls: &[Call]) -> Refusals {
+    let mut proved = Lane { store: Box::new(Proved), pool: pool.to_vec(), table: table.to_vec() };
+    let mut plain = Lane { store: Box::new(Twin), pool: pool.to_vec(), table: table.to_vec() };
+    let mut refusals = Refusals::new();
+    let sound = twin::is_sound(pool, table);
+    for call in calls {
+        let (said, expected) = (answer(&mut proved, call), answer(&mut plain, call));
+        assert!(said == expected, "{call:?}: proved store {:?}, twin {:?}", said.0, expected.0);
+        assert_eq!(said.0[0] == 10, !sound, "{call:?}: verdict");
+        assert!(proved.pool == plain.pool && proved.table == plain.table, "{call:?}: buffers differ");
+        if said.0[0] != 0 {
+            assert!(proved.pool == pool && proved.table == table, "{call:?}: altered though refused");
+        }
+        refusals.insert(said.0[0]);
+        for lane in [&mut proved, &mut plain] {
+            lane.pool.copy_from_slice(pool);
+            lane.table.copy_from_slice(table);
+        }
+    }
+    refusals
+}
+
+/// One call of each sort that reads a store, for this sound one.
+pub fn each_call(random: &mut Random, pool: &[u8], table: &[u32]) -> Vec<Call> {
+    let [tills, blocks] = [0, 2].map(|n| table[n] as usize);
+    let till = random.below(tills) as u32;
+    let version = random.below(6) as u32;
+    let mut image = if random.percent(70) { of_records(random, pool, table) } else { of_letters(random) };
+    image.truncate(BLOCK * blocks);
+    vec![
+        Call::Tally,
+        Call::Listing { till },
+        Call::Restore { till, version, room: BLOCK * blocks },
+        Call::Retire { till, version },
+        Call::Backup { till, image },
+    ]
+}
+
+fn of_letters(random: &mut Random) -> Vec<u8> {
+    let letters: Vec<u8> = (0..random.between(1, 20)).map(|_| b'a' + random.below(4) as u8).collect();
+    letters.iter().flat_map(|&letter| [letter; BLOCK]).collect()
+}
+
+/// An image of segments that records have.
+fn of_records(random: &mut Random, pool: &[u8], table: &[u32]) -> Vec<u8> {
+    let records: Vec<&[u32]> = table[table.len() - 19 * table[3] as usize..].chunks(19).collect();
+    let mut image = Vec::new();
+    for _ in 0..3 {
+        let record = *random.pick(&records);
+        for i in 0..SEGMENT {
+            let at = BLOCK * record[3 + i] as usize;
+            let block = if record[0] >> i & 1 == 1 { &pool[at..at + BLOCK] } else { &[0; BLOCK] };
+            image.extend_from_slice(block);
+        }
+    }
+    image
+}

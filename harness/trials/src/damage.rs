@@ -1,0 +1,109 @@
+//! Damage to a sound store: plausible words and bytes in wrong places, and buffers of wrong lengths.
+
+use keeper::Random;
+use terms::BLOCK;
+
+/// Alters pool or table in one place or two. The store has so many records.
+pub fn damage(random: &mut Random, pool: &mut [u8], table: &mut [u32], records: usize) {
+    let at = table.len() - 19 * records;
+    let (here, there) = (random.below(table.len()), random.below(table.len()));
+    let (cell, other) = (BLOCK * random.below(pool.len() / BLOCK), BLOCK * random.below(pool.len() / BLOCK));
+    match random.below(15) {
+        0 => table[here] ^= 1 << random.below(32),
+        1 => table[here] = random.edge(),
+        2 => table[here] = table[there],
+        3 => table.swap(here, there),
+        4 => table[here] = table[here].wrapping_add(1),
+        5 => table[here] = table[here].wrapping_sub(1),
+        6 => table[here] = 0,
+        7 => table[here] = (1 + random.below(3) as u32) << 24 | random.below(100) as u32,
+        8 => pool[cell..cell + BLOCK].fill(0),
+        9 => pool[cell + random.below(BLOCK)] ^= 1 << random.below(8),
+        10 => pool.copy_within(cell..cell + BLOCK, other),
+        11 => swap_records(random, &mut table[at..]),
+        12 => renumber(random, &mut table[..at]),
+        13 => double(random, pool, &mut table[at..]),
+        _ => swap_cells(random, pool, &mut table[at..]),
+    }
+}
+
+/// Two records change places, their pointers stay: mostly unsound, but not if the two have the same counts.
+fn swap_records(random: &mut Random, records: &mut [u32]) {
+    let (one, other) = (random.below(records.len() / 19), random.below(records.len() / 19));
+    (0..19).for_each(|n| records.swap(19 * one + n, 19 * other + n));
+}
+
+/// Two cells change places, with the positions that name them: as sound as before.
+fn swap_cells(random: &mut Random, pool: &mut [u8], records: &mut [u32]) {
+    let cells = pool.len() / BLOCK;
+    let (one, other) = (random.below(cells), random.below(cells));
+    (0..BLOCK).for_each(|n| pool.swap(BLOCK * one + n, BLOCK * other + n));
+    for record in records.chunks_mut(19) {
+        for i in (0..8).filter(|i| record[0] >> i & 1 == 1).collect::<Vec<_>>() {
+            match record[3 + i] as usize {
+                cell if cell == one => record[3 + i] = other as u32,
+                cell if cell == other => record[3 + i] = one as u32,
+                _ => {}
+            }
+        }
+    }
+}
+
+/// A till's numbers all rise or fall by as much: sound while they stay in range.
+fn renumber(random: &mut Random, words: &mut [u32]) {
+    let [tills, versions, blocks] = [0, 1, 2].map(|n| words[n] as usize);
+    let by = *random.pick(&[1, 2, 3, 1_000, 65_530, u32::MAX, u32::MAX - 1, u32::MAX - 2]);
+    let (till, slot) = (4 + versions * (3 + blocks), 3 + blocks);
+    if words.len() != 8 + tills * till {
+        return;
+    }
+    let words = &mut words[8 + random.below(tills) * till..];
+    words[0] = words[0].wrapping_add(by);
+    for n in 0..(words[1] as usize).min(versions) {
+        words[4 + n * slot] = words[4 + n * slot].wrapping_add(by);
+    }
+}
+
+/// Two positions name one cell, and the other's cell is cleared: nothing else is wrong.
+fn double(random: &mut Random, pool: &mut [u8], records: &mut [u32]) {
+    let held: Vec<usize> = (0..records.len())
+        .filter(|n| (3..11).contains(&(n % 19)) && records[n / 19 * 19] >> (n % 19 - 3) & 1 == 1)
+        .collect();
+    if held.len() > 1 {
+        let (one, other) = (*random.pick(&held), *random.pick(&held));
+        let at = BLOCK * records[one] as usize;
+        if one != other && at < pool.len() {
+            pool[at..at + BLOCK].fill(0);
+            records[one] = records[other];
+        }
+    }
+}
+
+/// A buffer too long or too short, by a little or by all.
+pub fn lengths(random: &mut Random, pool: &mut Vec<u8>, table: &mut Vec<u32>) {
+    match random.below(8) {
+        0 => pool.push(0),
+        1 => pool.truncate(pool.len() - 1),
+        2 => pool.truncate(pool.len() - BLOCK),
+        3 => pool.clear(),
+        4 => table.push(0),
+        5 => table.truncate(table.len() - 1),
+        6 => table.truncate(random.below(9)),
+        _ => table.truncate(random.below(table.len())),
+    }
+}
+
+/// A table of any words, or of plausible ones, after a good header or not.
+pub fn garbage(random: &mut Random, table: &mut [u32]) {
+    let from = if random.percent(80) { 8 } else { 0 };
+    let plain = random.percent(50);
+    for word in &mut table[from.min(8)..] {
+        *word = match random.below(4) {
+            _ if plain => random.number() as u32,
+            0 => random.edge(),
+            1 => random.below(8) as u32,
+            2 => (1 + random.below(2) as u32) << 24 | random.below(64) as u32,
+            _ => 0,
+        };
+    }
+}

@@ -1,0 +1,33 @@
+//! Random lists of calls from the empty store, the proved store against the twin and the keeper.
+
+use crate::stores;
+use keeper::calls::{List, Style};
+use keeper::inspect::inspect;
+use keeper::{Course, Random};
+use terms::Capacities;
+
+/// Small capacities of every shape, and a style of list to go with them.
+pub fn small(random: &mut Random) -> (Capacities, Style) {
+    let tills = random.between(1, 4) as u32;
+    let versions = random.between(1, 9) as u32;
+    let blocks = *random.pick(&[1, 7, 8, 9, 16, 20, 33]);
+    let records = random.between(1, 40) as u32;
+    let cells = *random.pick(&[1, 6, 12, 24, 50, 64, 65, 130, 300]);
+    let style = Style { retires: *random.pick(&[5, 20, 45]), kinds: random.between(2, 14) };
+    (Capacities::new(tills, versions, blocks, records, cells), style)
+}
+
+/// Runs one list of so many calls, and looks into the words every so often.
+pub fn run(seed: u64, capacities: Capacities, style: Style, calls: usize, look: usize) -> Course {
+    let mut random = Random::new(seed);
+    let list = List::new(&mut random, capacities, style);
+    let mut course = Course::new(capacities, stores());
+    for n in 1..=calls {
+        course.call(&list.next(&mut random, course.keeper()));
+        if n % look == 0 {
+            let (pool, table) = course.buffers();
+            inspect(pool, table, course.keeper());
+        }
+    }
+    course
+}

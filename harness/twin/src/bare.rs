@@ -1,0 +1,40 @@
+//! The twin's calls with answers as bare numbers.
+
+use terms::{numbers, Calls, Capacities};
+
+/// The twin, where a test can be put to more than one store.
+pub struct Twin;
+
+impl Calls for Twin {
+    fn name(&self) -> &'static str {
+        "twin"
+    }
+
+    fn table_length(&self, capacities: Capacities) -> [u32; 2] {
+        numbers(crate::table_length(capacities).map(|words| words as u32))
+    }
+
+    fn lay_out(&self, pool: &mut [u8], table: &mut [u32], capacities: Capacities) -> [u32; 1] {
+        numbers(crate::lay_out(pool, table, capacities))
+    }
+
+    fn backup(&self, pool: &mut [u8], table: &mut [u32], till: u32, image: &[u8]) -> [u32; 2] {
+        numbers(crate::backup(pool, table, till, image))
+    }
+
+    fn restore(&self, pool: &[u8], table: &[u32], till: u32, version: u32, output: &mut [u8]) -> [u32; 3] {
+        numbers(crate::restore(pool, table, till, version, output))
+    }
+
+    fn retire(&self, pool: &mut [u8], table: &mut [u32], till: u32, version: u32) -> [u32; 2] {
+        numbers(crate::retire(pool, table, till, version))
+    }
+
+    fn listing(&self, pool: &[u8], table: &[u32], till: u32) -> [u32; 4] {
+        numbers(crate::listing(pool, table, till))
+    }
+
+    fn tally(&self, pool: &[u8], table: &[u32]) -> [u32; 4] {
+        numbers(crate::tally(pool, table))
+    }
+}

@@ -1,0 +1,146 @@
+//! The store once more in plain Rust, on the same two buffers: written from the page and docs/FORMAT.md alone, so that
+//! the proved store has something to be compared with and raced against. Nothing here is proved.
+
+mod bare;
+mod layout;
+mod place;
+mod runs;
+mod sound;
+mod sweep;
+mod trace;
+mod turn;
+
+pub use bare::Twin;
+use layout::{Layout, Place, Pointer, Record, RecordWords, SLOT_HEAD, TILL_HEAD};
+use terms::{Capacities, Listing, Refusal, Restored, Tally, BLOCK, LAST_NUMBER};
+
+/// Words of the table that these capacities need.
+pub fn table_length(capacities: Capacities) -> Result<usize, Refusal> {
+    Layout::new(capacities).map(|layout| layout.table_words()).ok_or(Refusal::Capacity)
+}
+
+/// Makes an empty store.
+pub fn lay_out(pool: &mut [u8], table: &mut [u32], capacities: Capacities) -> Result<(), Refusal> {
+    let words = table_length(capacities)?;
+    if pool.len() != capacities.pool_bytes() || table.len() != words {
+        return Err(Refusal::Lengths);
+    }
+    pool.fill(0);
+    table.fill(0);
+    table[..5].copy_from_slice(&capacities.to_array());
+    Ok(())
+}
+
+/// Whether pool and table are a sound store.
+pub fn is_sound(pool: &[u8], table: &[u32]) -> bool {
+    sound::check(pool, table).is_ok()
+}
+
+/// Oldest and newest held number of a till, and the last given.
+pub fn listing(pool: &[u8], table: &[u32], till: u32) -> Result<Listing, Refusal> {
+    let layout = sound::check(pool, table)?.layout;
+    let till = layout.till_of(table, layout.till(till)?);
+    let newest = if till.held() == 0 { 0 } else { till.last() };
+    Ok(Listing { oldest: till.oldest(), newest, last: till.last() })
+}
+
+/// Occupied cells, records in use, sum of all counts.
+pub fn tally(pool: &[u8], table: &[u32]) -> Result<Tally, Refusal> {
+    let layout = sound::check(pool, table)?.layout;
+    let (records, _) = table[layout.records_at()..].as_chunks();
+    Ok(records.iter().map(Record::read).fold(Tally::default(), |sum, record| Tally {
+        cells: sum.cells + record.held.count_ones(),
+        records: sum.records + (record.held != 0) as u32,
+        counts: sum.counts + record.counts.iter().sum::<u32>(),
+    }))
+}
+
+/// Files an image as a till's next version and answers its number.
+pub fn backup(pool: &mut [u8], table: &mut [u32], till: u32, image: &[u8]) -> Result<u32, Refusal> {
+    let sound::Found { layout, mut occupied } = sound::check(pool, table)?;
+    let till = layout.till(till)?;
+    if image.is_empty() || image.len() > BLOCK * layout.blocks {
+        return Err(Refusal::ImageLength);
+    }
+    let (last, held) = (layout.till_of(table, till).last(), layout.till_of(table, till).held());
+    if held == layout.versions {
+        return Err(Refusal::TillFull);
+    }
+    if last == LAST_NUMBER {
+        return Err(Refusal::NumbersSpent);
+    }
+    let (cells, _) = pool.as_chunks_mut();
+    let (words, records) = parts(table, &layout);
+    let segments = place::segments(image);
+    let plan = place::plan(&segments, cells, records, &mut occupied)?;
+    let pointers = plan.carry_out(&segments, cells, records);
+
+    let blocks = image.len().div_ceil(BLOCK);
+    let (before, slot) = words[layout.till_at(till) + TILL_HEAD..].split_at_mut(held * layout.slot_words());
+    if let Some(previous) = before.chunks_exact_mut(layout.slot_words()).last() {
+        let used = (previous[1] as usize).div_ceil(BLOCK);
+        let image = &segments.as_flattened()[..blocks];
+        let let_go = turn::turn(&mut previous[SLOT_HEAD..][..used], image, cells, records);
+        sweep::let_go(let_go, cells, records, &mut occupied);
+    }
+    slot[..2].copy_from_slice(&[last + 1, image.len() as u32]);
+    slot[SLOT_HEAD..][..blocks].copy_from_slice(&pointers[..blocks]);
+    words[layout.till_at(till)..][..2].copy_from_slice(&[last + 1, held as u32 + 1]);
+    Ok(last + 1)
+}
+
+/// Writes a held version's image to the output.
+pub fn restore(pool: &[u8], table: &[u32], till: u32, version: u32, output: &mut [u8]) -> Result<Restored, Refusal> {
+    let layout = sound::check(pool, table)?.layout;
+    let till = layout.till_of(table, layout.till(till)?);
+    let slot = till.slot_with(version)?;
+    let length = till.length(slot);
+    let output = output.get_mut(..length).ok_or(Refusal::ShortOutput)?;
+    let (cells, _) = pool.as_chunks::<BLOCK>();
+    let (records, _) = table[layout.records_at()..].as_chunks();
+    let mut longest = 0;
+    for (n, part) in output.chunks_mut(BLOCK).enumerate() {
+        let (place, hops) = trace::trace(till, slot, n);
+        match place {
+            Some(at) => part.copy_from_slice(&cells[Record::cell(&records[at.record], at.position)][..part.len()]),
+            None => part.fill(0),
+        }
+        longest = longest.max(hops);
+    }
+    Ok(Restored { length: length as u32, hops: longest })
+}
+
+/// Takes a till's oldest version away and answers its length.
+pub fn retire(pool: &mut [u8], table: &mut [u32], till: u32, version: u32) -> Result<u32, Refusal> {
+    let sound::Found { layout, mut occupied } = sound::check(pool, table)?;
+    let till = layout.till(till)?;
+    let before = layout.till_of(table, till);
+    if before.slot_with(version)? != 0 {
+        return Err(Refusal::NotOldest);
+    }
+    let (length, held) = (before.length(0), before.held());
+    let let_go: Vec<Place> = before.pointers(0).iter().filter_map(|&word| direct(word)).collect();
+    let (words, records) = parts(table, &layout);
+    let (cells, _) = pool.as_chunks_mut();
+    sweep::let_go(let_go, cells, records, &mut occupied);
+
+    let till = &mut words[layout.till_at(till)..];
+    till[1] -= 1;
+    let slots = &mut till[TILL_HEAD..][..held * layout.slot_words()];
+    slots.copy_within(layout.slot_words().., 0);
+    slots[(held - 1) * layout.slot_words()..].fill(0);
+    Ok(length as u32)
+}
+
+fn direct(word: u32) -> Option<Place> {
+    match Pointer::read(word) {
+        Some(Pointer::Direct(place)) => Some(place),
+        _ => None,
+    }
+}
+
+/// The words before the records, and the records.
+fn parts<'a>(table: &'a mut [u32], layout: &Layout) -> (&'a mut [u32], &'a mut [RecordWords]) {
+    let (words, records) = table.split_at_mut(layout.records_at());
+    (words, records.as_chunks_mut().0)
+}

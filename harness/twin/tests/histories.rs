@@ -1,0 +1,49 @@
+//! Long lists of calls, the twin against the keeper of whole images.
+
+use keeper::calls::{List, Style};
+use keeper::closings::Shop;
+use keeper::inspect::inspect;
+use keeper::{Call, Course, Random};
+use terms::Capacities;
+use twin::Twin;
+
+fn history(seed: u64, capacities: Capacities, style: Style, calls: usize) {
+    let mut random = Random::new(seed);
+    let list = List::new(&mut random, capacities, style);
+    let mut course = Course::new(capacities, vec![Box::new(Twin)]);
+    for n in 0..calls {
+        course.call(&list.next(&mut random, course.keeper()));
+        if n % 50 == 0 {
+            inspect(course.buffers().0, course.buffers().1, course.keeper());
+        }
+    }
+}
+
+#[test]
+fn small_stores() {
+    for seed in 0..40 {
+        let cells = [6, 12, 24, 48, 200][seed as usize % 5];
+        let capacities = Capacities::new(1 + seed as u32 % 3, 1 + seed as u32 % 7, 20, 4 + seed as u32, cells);
+        history(seed, capacities, Style { retires: 20, kinds: 3 + seed as usize % 9 }, 1_000);
+    }
+}
+
+#[test]
+fn a_shop() {
+    let capacities = Capacities::new(4, 16, 520, 600, 4_000);
+    let mut course = Course::new(capacities, vec![Box::new(Twin)]);
+    let mut shop = Shop::new(1, 4);
+    for day in 0..40 {
+        for till in 0..4 {
+            let oldest = course.keeper().tills()[till as usize].oldest();
+            if day >= 16 {
+                assert_eq!(course.call(&Call::Retire { till, version: oldest })[0], 0);
+            }
+            let image = shop.close(till as usize).to_vec();
+            assert_eq!(course.call(&Call::Backup { till, image })[0], 0, "day {day}, till {till}");
+            let oldest = course.keeper().tills()[till as usize].oldest();
+            course.call(&Call::Restore { till, version: oldest, room: 40_000 });
+        }
+        inspect(course.buffers().0, course.buffers().1, course.keeper());
+    }
+}

@@ -1,0 +1,71 @@
+//! The calls on lent buffers: the same as the archive's, with slices for pointers and lengths. Answers are bare numbers,
+//! the refusal first.
+
+use crate::raw;
+use terms::{Calls, Capacities};
+
+/// The proved store. Slices that are lent are valid for as long as a call lasts, lengths are theirs, and the lent
+/// buffers do not overlap, since one that is written is lent to nobody else: this is all that the archive asks for.
+pub struct Proved;
+
+impl Calls for Proved {
+    fn name(&self) -> &'static str {
+        "proved store"
+    }
+
+    fn table_length(&self, capacities: Capacities) -> [u32; 2] {
+        let [tills, versions, blocks, records, cells] = capacities.to_array();
+        // SAFETY: no memory is lent.
+        let answer = unsafe { raw::lurdempos_table_length(tills, versions, blocks, records, cells) };
+        [answer.refusal, answer.words]
+    }
+
+    fn lay_out(&self, pool: &mut [u8], table: &mut [u32], capacities: Capacities) -> [u32; 1] {
+        let [tills, versions, blocks, records, cells] = capacities.to_array();
+        let (bytes, words) = (pool.len(), table.len());
+        let (pool, table) = (pool.as_mut_ptr(), table.as_mut_ptr());
+        // SAFETY: both parts are slices, lent for writing to this call alone.
+        let answer =
+            unsafe { raw::lurdempos_lay_out(pool, bytes, table, words, tills, versions, blocks, records, cells) };
+        [answer.refusal]
+    }
+
+    fn backup(&self, pool: &mut [u8], table: &mut [u32], till: u32, image: &[u8]) -> [u32; 2] {
+        let (bytes, words) = (pool.len(), table.len());
+        let (pool, table) = (pool.as_mut_ptr(), table.as_mut_ptr());
+        // SAFETY: all three are slices, the first two lent for writing to this call alone.
+        let answer = unsafe { raw::lurdempos_backup(pool, bytes, table, words, till, image.as_ptr(), image.len()) };
+        [answer.refusal, answer.version]
+    }
+
+    fn restore(&self, pool: &[u8], table: &[u32], till: u32, version: u32, output: &mut [u8]) -> [u32; 3] {
+        let room = output.len();
+        let output = output.as_mut_ptr();
+        // SAFETY: all three are slices, the output lent for writing to this call alone.
+        let answer = unsafe {
+            let (bytes, words) = (pool.len(), table.len());
+            raw::lurdempos_restore(pool.as_ptr(), bytes, table.as_ptr(), words, till, version, output, room)
+        };
+        [answer.refusal, answer.length, answer.hops]
+    }
+
+    fn retire(&self, pool: &mut [u8], table: &mut [u32], till: u32, version: u32) -> [u32; 2] {
+        let (bytes, words) = (pool.len(), table.len());
+        let (pool, table) = (pool.as_mut_ptr(), table.as_mut_ptr());
+        // SAFETY: both parts are slices, lent for writing to this call alone.
+        let answer = unsafe { raw::lurdempos_retire(pool, bytes, table, words, till, version) };
+        [answer.refusal, answer.length]
+    }
+
+    fn listing(&self, pool: &[u8], table: &[u32], till: u32) -> [u32; 4] {
+        // SAFETY: both parts are slices, lent for reading.
+        let answer = unsafe { raw::lurdempos_listing(pool.as_ptr(), pool.len(), table.as_ptr(), table.len(), till) };
+        [answer.refusal, answer.oldest, answer.newest, answer.last]
+    }
+
+    fn tally(&self, pool: &[u8], table: &[u32]) -> [u32; 4] {
+        // SAFETY: both parts are slices, lent for reading.
+        let answer = unsafe { raw::lurdempos_tally(pool.as_ptr(), pool.len(), table.as_ptr(), table.len()) };
+        [answer.refusal, answer.cells, answer.records, answer.counts]
+    }
+}

@@ -1,0 +1,10 @@
+//! The proved till version store for Rust: [`Store`] owns its two buffers; [`Proved`] makes the calls on buffers that the
+//! caller lends. `raw` has the archive's own functions.
+
+mod lent;
+pub mod raw;
+mod store;
+
+pub use lent::Proved;
+pub use store::{table_length, Store};
+pub use terms::{Calls, Capacities, Listing, Refusal, Restored, Tally, BLOCK, LAST_NUMBER, SEGMENT};

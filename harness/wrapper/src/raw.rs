@@ -1,0 +1,117 @@
+//! The archive's functions and answers, as include/lurdempos.h has them. A slice is a pointer and a length in elements.
+
+/// Of a table length.
+#[repr(C)]
+#[derive(Clone, Copy, Debug, PartialEq, Eq)]
+pub struct LengthAnswer {
+    pub refusal: u32,
+    pub words: u32,
+}
+
+/// Of a laying out.
+#[repr(C)]
+#[derive(Clone, Copy, Debug, PartialEq, Eq)]
+pub struct LayOutAnswer {
+    pub refusal: u32,
+}
+
+/// Of a backup.
+#[repr(C)]
+#[derive(Clone, Copy, Debug, PartialEq, Eq)]
+pub struct BackupAnswer {
+    pub refusal: u32,
+    pub version: u32,
+}
+
+/// Of a restore.
+#[repr(C)]
+#[derive(Clone, Copy, Debug, PartialEq, Eq)]
+pub struct RestoreAnswer {
+    pub refusal: u32,
+    pub length: u32,
+    pub hops: u32,
+}
+
+/// Of a retire.
+#[repr(C)]
+#[derive(Clone, Copy, Debug, PartialEq, Eq)]
+pub struct RetireAnswer {
+    pub refusal: u32,
+    pub length: u32,
+}
+
+/// Of a listing.
+#[repr(C)]
+#[derive(Clone, Copy, Debug, PartialEq, Eq)]
+pub struct ListingAnswer {
+    pub refusal: u32,
+    pub oldest: u32,
+    pub newest: u32,
+    pub last: u32,
+}
+
+/// Of a tally.
+#[repr(C)]
+#[derive(Clone, Copy, Debug, PartialEq, Eq)]
+pub struct TallyAnswer {
+    pub refusal: u32,
+    pub cells: u32,
+    pub records: u32,
+    pub counts: u32,
+}
+
+extern "C" {
+    pub fn lurdempos_table_length(tills: u32, versions: u32, blocks: u32, records: u32, cells: u32) -> LengthAnswer;
+
+    pub fn lurdempos_lay_out(
+        pool: *mut u8,
+        pool_len: usize,
+        table: *mut u32,
+        table_len: usize,
+        tills: u32,
+        versions: u32,
+        blocks: u32,
+        records: u32,
+        cells: u32,
+    ) -> LayOutAnswer;
+
+    pub fn lurdempos_backup(
+        pool: *mut u8,
+        pool_len: usize,
+        table: *mut u32,
+        table_len: usize,
+        till: u32,
+        image: *const u8,
+        image_len: usize,
+    ) -> BackupAnswer;
+
+    pub fn lurdempos_restore(
+        pool: *const u8,
+        pool_len: usize,
+        table: *const u32,
+        table_len: usize,
+        till: u32,
+        version: u32,
+        output: *mut u8,
+        output_len: usize,
+    ) -> RestoreAnswer;
+
+    pub fn lurdempos_retire(
+        pool: *mut u8,
+        pool_len: usize,
+        table: *mut u32,
+        table_len: usize,
+        till: u32,
+        version: u32,
+    ) -> RetireAnswer;
+
+    pub fn lurdempos_listing(
+        pool: *const u8,
+        pool_len: usize,
+        table: *const u32,
+        table_len: usize,
+        till: u32,
+    ) -> ListingAnswer;
+
+    pub fn lurdempos_tally(pool: *const u8, pool_len: usize, table: *const u32, table_len: usize) -> TallyAnswer;
+}

@@ -1,0 +1,98 @@
+//! A store that owns its two buffers.
+
+use crate::Proved;
+use terms::{Calls, Capacities, Listing, Refusal, Restored, Tally, BLOCK};
+
+/// Words of the table that these capacities need.
+pub fn table_length(capacities: Capacities) -> Result<usize, Refusal> {
+    let [refusal, words] = Proved.table_length(capacities);
+    accepted(refusal).map(|()| words as usize)
+}
+
+/// A store with its pool and its table. Every call checks both before it does anything.
+#[derive(Clone, Debug, PartialEq, Eq)]
+pub struct Store {
+    pool: Vec<u8>,
+    table: Vec<u32>,
+}
+
+impl Store {
+    /// An empty store.
+    pub fn new(capacities: Capacities) -> Result<Store, Refusal> {
+        // Capacities out of range are refused before anything is allocated for them.
+        let mut table = vec![0; table_length(capacities)?];
+        let mut pool = vec![0; BLOCK * capacities.cells as usize];
+        let [refusal] = Proved.lay_out(&mut pool, &mut table, capacities);
+        accepted(refusal).map(|()| Store { pool, table })
+    }
+
+    /// A store from pool and table kept elsewhere, if they are a sound one.
+    pub fn from_parts(pool: Vec<u8>, table: Vec<u32>) -> Result<Store, Refusal> {
+        let store = Store { pool, table };
+        store.tally().map(|_| store)
+    }
+
+    pub fn into_parts(self) -> (Vec<u8>, Vec<u32>) {
+        (self.pool, self.table)
+    }
+
+    pub fn pool(&self) -> &[u8] {
+        &self.pool
+    }
+
+    pub fn table(&self) -> &[u32] {
+        &self.table
+    }
+
+    /// The capacities that it was laid out with.
+    pub fn capacities(&self) -> Capacities {
+        let [tills, versions, blocks, records, cells] = [0, 1, 2, 3, 4].map(|n| self.table[n]);
+        Capacities::new(tills, versions, blocks, records, cells)
+    }
+
+    /// Files an image as the till's next version and answers its number.
+    pub fn backup(&mut self, till: u32, image: &[u8]) -> Result<u32, Refusal> {
+        let [refusal, version] = Proved.backup(&mut self.pool, &mut self.table, till, image);
+        accepted(refusal).map(|()| version)
+    }
+
+    /// Writes a version's image to the start of the output.
+    pub fn restore(&self, till: u32, version: u32, output: &mut [u8]) -> Result<Restored, Refusal> {
+        let [refusal, length, hops] = Proved.restore(&self.pool, &self.table, till, version, output);
+        accepted(refusal).map(|()| Restored { length, hops })
+    }
+
+    /// A version's image.
+    pub fn image(&self, till: u32, version: u32) -> Result<Vec<u8>, Refusal> {
+        let mut image = vec![0; self.capacities().image_bytes()];
+        let restored = self.restore(till, version, &mut image)?;
+        image.truncate(restored.length as usize);
+        Ok(image)
+    }
+
+    /// Takes the till's oldest version away and answers its length.
+    pub fn retire(&mut self, till: u32, version: u32) -> Result<u32, Refusal> {
+        let [refusal, length] = Proved.retire(&mut self.pool, &mut self.table, till, version);
+        accepted(refusal).map(|()| length)
+    }
+
+    /// Oldest and newest held number of a till, and the last given.
+    pub fn listing(&self, till: u32) -> Result<Listing, Refusal> {
+        let [refusal, oldest, newest, last] = Proved.listing(&self.pool, &self.table, till);
+        accepted(refusal).map(|()| Listing { oldest, newest, last })
+    }
+
+    /// Occupied cells, records in use, sum of all counts.
+    pub fn tally(&self) -> Result<Tally, Refusal> {
+        let [refusal, cells, records, counts] = Proved.tally(&self.pool, &self.table);
+        accepted(refusal).map(|()| Tally { cells, records, counts })
+    }
+}
+
+/// The refusal of this number, or none for 0.
+fn accepted(number: u32) -> Result<(), Refusal> {
+    match number {
+        0 => Ok(()),
+        _ => Err(Refusal::from_number(number).expect("the page has this number")),
+    }
+}

@@ -1,0 +1,41 @@
+//! The owning store, as a program uses it.
+
+use lurdempos::{table_length, Capacities, Listing, Refusal, Restored, Store, Tally};
+
+fn small() -> Store {
+    Store::new(Capacities::new(2, 4, 16, 8, 32)).expect("good capacities")
+}
+
+#[test]
+fn a_version_comes_back() {
+    let mut store = small();
+    let image: Vec<u8> = (0..700).map(|n| n as u8).collect();
+    assert_eq!(store.backup(1, &image), Ok(1));
+    assert_eq!(store.backup(1, &image[..650]), Ok(2));
+    assert_eq!(store.image(1, 1).as_deref(), Ok(&image[..]));
+    assert_eq!(store.image(1, 2).as_deref(), Ok(&image[..650]));
+    assert_eq!(store.restore(1, 2, &mut [0; 1_024]), Ok(Restored { length: 650, hops: 0 }));
+    assert_eq!(store.listing(1), Ok(Listing { oldest: 1, newest: 2, last: 2 }));
+    assert_eq!(store.listing(0), Ok(Listing::default()));
+    assert_eq!(store.retire(1, 1), Ok(700));
+    assert_eq!(store.retire(1, 2), Ok(650));
+    assert_eq!(store.tally(), Ok(Tally::default()));
+}
+
+#[test]
+fn refusals_have_the_pages_words() {
+    assert_eq!(Store::new(Capacities::new(17, 1, 1, 1, 1)), Err(Refusal::Capacity));
+    assert_eq!(table_length(Capacities::LARGEST), Ok(1_129_544));
+    let refusal = small().backup(2, &[1]).unwrap_err();
+    assert_eq!(refusal.to_string(), "refused, 3: till number not below the tills");
+}
+
+#[test]
+fn parts_are_checked() {
+    let store = small();
+    let (mut pool, table) = store.clone().into_parts();
+    assert_eq!(Store::from_parts(pool.clone(), table.clone()), Ok(store));
+    pool[5] = 1;
+    assert_eq!(Store::from_parts(pool, table), Err(Refusal::Unsound));
+    assert_eq!(Store::from_parts(Vec::new(), Vec::new()), Err(Refusal::Unsound));
+}
