@@ -7,7 +7,7 @@
  * given. A buffer's length counts its elements: bytes of a pool, image or
  * output, words of a table. A buffer of length 0 needs a pointer that is not
  * null. The pool, the table, the image and the output of one call must not
- * overlap. A call needs about 512 KiB of stack.
+ * overlap. A call needs less than 512 KiB of stack.
  *
  * Every answer begins with a refusal. 0 is an accepted call. A refused call
  * answers 0 in every other field and alters no buffer.

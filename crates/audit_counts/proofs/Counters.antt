@@ -62,6 +62,11 @@ module _ (w : ℕ) (cs : List ℕ) where
           let a = eqb-false (w / kindUnit) 1 e in
           rw (ne-eqb w (kindUnit + k) (λ z. a (omega arith))) (omega arith)
 
+-- a word of another kind is not counted
+pub bumped-other : (w : ℕ) (cs : List ℕ) → (w / 16777216 ≡ 1 → ⊥) → cs ≡ bumped w cs
+unfolding bumped
+bumped-other w cs h = rw (ne-eqb (w / kindUnit) 1 h)
+
 -- ---- tallied
 
 pub tallied-turn : (ws : List ℕ) (i : ℕ) (cs : List ℕ) → i < length ws → tallied (drop i ws) cs ≡ tallied (drop (i + 1) ws) (bumped (getD ws i 0) cs)

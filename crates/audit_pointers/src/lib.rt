@@ -11,8 +11,8 @@ ghost use Rattle.model.specs.Records.{isHeld, cellOf, positionAt};
 ghost use Rattle.model.specs.Table.{wordToPointer, shelfIn, versionIn, versionsIn};
 ghost use Rattle.model.specs.Trace.{endOf};
 ghost use Rattle.model.specs.Sound.{isNull, leads};
-ghost use Rattle.audit_counts.specs.Counters.{tallied};
-ghost use Rattle.audit_pointers.specs.Good.{PointersGood};
+ghost use Rattle.audit_counts.specs.Counters.{bumped, tallied};
+ghost use Rattle.audit_pointers.specs.Good.{PointerGood, PointersGood};
 use numbers::Block;
 use numbers::Cell;
 use numbers::RecordNumber;
@@ -67,19 +67,21 @@ fn not_null(words: &[u32], b: Block) -> bool
     kind == 2
 }
 
-// Whether a pointer leads to a held position, or to a block of the next newer version that is not null.
-fn pointer_leads(records: &[u32], newer: &[u32], w: u32) -> bool
-    ensures { λ r. ⌜ ((pool : List ℕ) → r ≡ leads (shelfIn baseMeasures pool (now (records .entry))) (map wordToPointer (now (newer .entry))) (wordToPointer w)) ⌝ }
+// Whether a word says a pointer that leads to a held position, or to a block of the next newer version that is not null. It is counted.
+fn pointer_good(records: &[u32], newer: &[u32], w: u32, counts: &mut [u32]) -> bool
+    requires { ⌜ ((k : ℕ) → getD (now counts) k 0 + 1 < 2 ^ 32) ⌝ }
+    ensures { λ r. ⌜ ((pool : List ℕ) → Tells r (PointerGood (shelfIn baseMeasures pool (now (records .entry))) (now (newer .entry)) w)) × (r ≡ true → now (counts .exit) ≡ bumped w (now (counts .entry))) ⌝ }
 {
     let kind = w / 0x100_0000;
     let low = w % 0x100_0000;
-    if kind == 1 {
-        return held_at(records, RecordNumber(low / 16), (low % 16) as usize);
-    }
     if kind == 2 {
         return not_null(newer, Block(low));
     }
-    true
+    if kind == 1 {
+        audit_counts::bump(counts, w);
+        return held_at(records, RecordNumber(low / 16), (low % 16) as usize);
+    }
+    w == 0
 }
 
 // Whether each of some words says a pointer, which does. They are counted on the way, so that one pass serves for all.
@@ -89,14 +91,9 @@ pub fn pointers_good(records: &[u32], newer: &[u32], words: &[u32], counts: &mut
 {
     let mut i: usize = 0;
     while i < words.len() {
-        let w = words[i];
-        if !audit_words::pointer_form(w) {
+        if !pointer_good(records, newer, words[i], counts) {
             return false;
         }
-        if !pointer_leads(records, newer, w) {
-            return false;
-        }
-        audit_counts::bump(counts, w);
         i += 1;
     }
     true

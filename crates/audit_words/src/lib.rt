@@ -7,21 +7,7 @@ ghost use Rattle.lists.specs.Tells.{Tells};
 ghost use Rattle.lists.specs.Lists.{allZero};
 ghost use Rattle.lists.specs.Rows.{chunks};
 ghost use Rattle.lists.specs.Each.{Each};
-ghost use Rattle.audit_words.specs.Words.{bitOf, PointerSays, SlotFrame, PositionForm, RecordForm};
-
-// Whether a word says a pointer.
-pub fn pointer_form(w: u32) -> bool
-    ensures { λ r. ⌜ Tells r (PointerSays w) ⌝ }
-{
-    let kind = w / 0x100_0000;
-    if kind == 1 {
-        return true;
-    }
-    if kind == 2 {
-        return true;
-    }
-    w == 0
-}
+ghost use Rattle.audit_words.specs.Words.{bitOf, SlotFrame, PositionForm, RecordForm};
 
 // Whether all words are zero. No exit from the loop, so that the compiler takes many words at a time.
 pub fn zeros(words: &[u32]) -> bool

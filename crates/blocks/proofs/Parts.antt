@@ -10,7 +10,7 @@ use borrow.Rule.Slice.PartMut.{midOf, putMid, post-is, mid-len}
 use Rattle.lists.specs.Lists.{every, allZero, sameNumbers}
 use Rattle.lists.specs.Rows.{fill}
 use Rattle.lists.proofs.Slices.{drop-end, tail-all, tail-put, cut-small, cut-is}
-use Rattle.lists.proofs.Rows.{fill-split, fill-zeros, zero-fill}
+use Rattle.lists.proofs.Rows.{fill-all, fill-split, fill-take, fill-zeros, zero-fill}
 use Rattle.model.specs.Image.{blockFrom}
 use Rattle.lists.proofs.Appends.{same-append}
 use Rattle.lists.proofs.Written.{copied-part}
@@ -87,3 +87,13 @@ module _ (l : List ℕ) (at s e : ℕ) (hs : s ≡ min (length l) at) (he : e �
   cut-put cell xs ys n ex ey =
       let lc : length cut ≡ e - s = length-take-le (e - s) (drop s l) (omega (arith, length-drop s l)) in
       put-filled cut cell xs ys (e - s) 64 lc (omega (arith, cut-fits)) n ex ey ∙ cut-block
+
+-- a block that the image's end does not cut
+pub whole-same : (l cell : List ℕ) (at : ℕ) → at + 64 ≤ length l → length cell ≡ 64
+    → sameNumbers (take 64 (drop 0 cell)) (take 64 (drop 0 (take (at + 64 - at) (drop at l)))) ≡ sameNumbers cell (blockFrom 64 l at)
+unfolding blockFrom
+whole-same l cell at h n =
+    let k : at + 64 - at ≡ 64 = omega arith in
+    let w : length (take 64 (drop at l)) ≡ 64 = length-take-le 64 (drop at l) (omega (arith, length-drop at l)) in
+    rw k
+    (ap₂ sameNumbers (take-all 64 cell (omega arith)) (take-all 64 (take 64 (drop at l)) (omega (arith, w)) ∙ sym (fill-all 64 (take 64 (drop at l)) w) ∙ fill-take 64 (drop at l)))

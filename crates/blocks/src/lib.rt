@@ -163,14 +163,26 @@ pub fn block_zero(image: &[u8], at: usize) -> bool
     all_zero(&image[start..end])
 }
 
-// Whether the image's block at a byte equals a cell.
-pub fn block_same(image: &[u8], at: usize, cell: &[u8]) -> bool
+// Whether the image's block at a byte, which the image's end may cut, equals a cell.
+fn end_same(image: &[u8], at: usize, cell: &[u8]) -> bool
     requires { ⌜ (at ≤ 131072) × (length (now cell) ≡ 64) ⌝ }
     ensures { λ r. ⌜ r ≡ sameNumbers (now (cell .entry)) (blockFrom 64 (now (image .entry)) at) ⌝ }
 {
     let start = least(image.len(), at);
     let end = least(image.len(), at + Block::BYTES);
     same_padded(&image[start..end], cell)
+}
+
+// Whether the image's block at a byte equals a cell. Most blocks are not cut, and their first byte is looked at straight away.
+pub fn block_same(image: &[u8], at: usize, cell: &[u8]) -> bool
+    requires { ⌜ (at ≤ 131072) × (length (now cell) ≡ 64) ⌝ }
+    ensures { λ r. ⌜ r ≡ sameNumbers (now (cell .entry)) (blockFrom 64 (now (image .entry)) at) ⌝ }
+{
+    let end = at + Block::BYTES;
+    if end <= image.len() {
+        return piece_same(cell, &image[at..end], 0);
+    }
+    end_same(image, at, cell)
 }
 
 // The image's block at a byte goes into a cell.

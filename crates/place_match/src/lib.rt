@@ -1,7 +1,7 @@
 // The lowest whole record that equals a segment of the image; a segment's blocks that are not null: their mask, and their copies in consecutive cells.
 ghost use mathlib.Core.Path.{_≡_};
 ghost use Prim.Native.Nat.{ℕ, _+_, _*_, _/_, _≤_, _<_};
-ghost use lib.ListN.{length};
+ghost use lib.ListN.{length, take, drop};
 ghost use lib.Seq.{sets};
 ghost use Rattle.lists.specs.Lists.{firstFrom};
 ghost use Rattle.model.specs.Measures.{baseMeasures};
@@ -10,52 +10,57 @@ ghost use Rattle.model.specs.Image.{blockFrom, blocksFrom};
 ghost use Rattle.model.specs.Records.{holds, equals};
 ghost use Rattle.model.specs.Place.{nonNull};
 ghost use Rattle.model.specs.Table.{positionOf, segmentIn, recordsIn, cellsIn, shelfIn};
-ghost use Rattle.place_words.specs.Words.{asOption, RowFits, Sized};
+ghost use Rattle.place_words.specs.Words.{asOption, RowFits, RowSays, Sized};
 ghost use Rattle.place_words.specs.Marks.{mark, marks, kept};
 use numbers::Block;
 use numbers::Cell;
 
-// Whether a position holds the image's block at a byte.
-fn position_holds(image: &[u8], at: usize, pool: &[u8], held: u32, removed: u32, cell: Cell) -> bool
-    requires { ⌜ (at ≤ 131072) × (held < 2) × (removed < 2) × (cell .0 < length (now pool) / 64) × (length (now pool) / 64 ≤ 32768) ⌝ }
-    ensures { λ r. ⌜ ((s : Shelf) (n : ℕ) → s .cells ≡ cellsIn 64 (now (pool .entry)) → r ≡ holds s (positionOf held removed (cell .0) n) (blockFrom 64 (now (image .entry)) at)) ⌝ }
+// Whether a position that is not removed holds the image's block at a byte. The bit is the block's mark.
+fn position_holds(image: &[u8], at: usize, bit: u32, pool: &[u8], held: u32, cell: Cell) -> bool
+    requires { ⌜ (at ≤ 131072) × (bit ≡ mark (blockFrom 64 (now image) at)) × (held < 2) × (cell .0 < length (now pool) / 64) × (length (now pool) / 64 ≤ 32768) ⌝ }
+    ensures { λ r. ⌜ ((s : Shelf) (n : ℕ) → s .cells ≡ cellsIn 64 (now (pool .entry)) → r ≡ holds s (positionOf held 0 (cell .0) n) (blockFrom 64 (now (image .entry)) at)) ⌝ }
 {
     if held == 1 {
         let from = cell.byte();
         let end = from + Block::BYTES;
         return blocks::block_same(image, at, &pool[from..end]);
     }
-    if removed == 1 {
-        return false;
-    }
-    blocks::block_zero(image, at)
+    bit == 0
 }
 
-// Whether a record equals the segment of the image that begins at a byte.
-fn record_equals(image: &[u8], from: usize, pool: &[u8], row: &[u32]) -> bool
-    requires { ⌜ (from ≤ 65536) × (length (now row) ≡ 19) × (length (now pool) / 64 ≤ 32768) × RowFits (length (now pool) / 64) (now row) ⌝ }
+// Whether a record equals the segment of the image that begins at a byte, whose mask is given. A record that has lost a position equals none, and
+// one whose held mask is less than the segment's lacks a block: neither is compared.
+fn record_equals(image: &[u8], from: usize, mask: u32, pool: &[u8], row: &[u32]) -> bool
+    requires { ⌜ (from ≤ 65536) × (mask ≡ marks (blocksFrom 64 (now image) from 8)) × (length (now row) ≡ 19) × (length (now pool) / 64 ≤ 32768) × RowFits (length (now pool) / 64) (now row) × RowSays (now row) ⌝ }
     ensures { λ r. ⌜ ((s : Shelf) → s .cells ≡ cellsIn 64 (now (pool .entry)) → r ≡ equals s (blocksFrom 64 (now (image .entry)) from 8) (segmentIn 8 (now (row .entry)))) ⌝ }
 {
+    if row[1] != 0 {
+        return false;
+    }
     let mut held = row[0];
-    let mut removed = row[1];
+    if held < mask {
+        return false;
+    }
+    let mut m = mask;
     let mut at = from;
     let mut i: usize = 0;
     while i < 8 {
         let cell = row[3 + i];
-        if !position_holds(image, at, pool, held % 2, removed % 2, Cell(cell)) {
+        if !position_holds(image, at, m % 2, pool, held % 2, Cell(cell)) {
             return false;
         }
         held = held / 2;
-        removed = removed / 2;
+        m = m / 2;
         at = at + 64;
         i = i + 1;
     }
     true
 }
 
-// The lowest record that equals the segment, or how many records there are.
-pub fn match_record(image: &[u8], from: usize, pool: &[u8], records: &[u32]) -> usize
-    requires { ⌜ (from ≤ 65536) × Sized (now pool) (now records) ⌝ }
+// The lowest record that equals the segment, whose mask is given, or how many records there are.
+pub fn match_record(image: &[u8], from: usize, mask: u32, pool: &[u8], records: &[u32]) -> usize
+    requires { ⌜ (from ≤ 65536) × (mask ≡ marks (blocksFrom 64 (now image) from 8)) × Sized (now pool) (now records) ⌝ }
+    requires { ⌜ ((k : ℕ) → k < length (now records) / 19 → RowSays (take 19 (drop (k * 19) (now records)))) ⌝ }
     ensures { λ r. ⌜ (asOption (length (now (records .entry)) / 19) r ≡ firstFrom (equals (shelfIn baseMeasures (now (pool .entry)) (now (records .entry))) (blocksFrom 64 (now (image .entry)) from 8)) 0 (recordsIn 8 (now (records .entry)))) × (r ≤ length (now (records .entry)) / 19) ⌝ }
 {
     let count = records.len() / 19;
@@ -63,7 +68,7 @@ pub fn match_record(image: &[u8], from: usize, pool: &[u8], records: &[u32]) -> 
     while k < count {
         let start = k * 19;
         let end = start + 19;
-        if record_equals(image, from, pool, &records[start..end]) {
+        if record_equals(image, from, mask, pool, &records[start..end]) {
             return k;
         }
         k = k + 1;

@@ -108,7 +108,7 @@ fn place_blocks(
     ensures { λ r. ⌜ Did (shelfIn baseMeasures (now (pool .entry)) (now (records .entry))) (placeSegment (shelfIn baseMeasures (now (pool .entry)) (now (records .entry))) (blocksFrom 64 (now (image .entry)) from 8)) (r .refusal) (r .record) (now (pool .entry)) (now (records .entry)) (now (pool .exit)) (now (records .exit)) (now (free .exit)) (now (words .exit)) ⌝ }
 {
     let count = records.len() / 19;
-    let k = place_match::match_record(image, from, pool, records);
+    let k = place_match::match_record(image, from, mask, pool, records);
     if k == count {
         return write_segment(image, from, pool, records, free, words, mask);
     }

@@ -1,60 +1,58 @@
+use mathlib.Core.Path.{_∙_}
 use native.Mathlib.Omega.{arith}
-use mathlib.Core.Path.{_≡_, _∙_}
 use denote.Ref.{now}
-use Rattle.blocks.proofs.Parts.{cut-same}
+use Rattle.blocks.proofs.Parts.{whole-same}
 use borrow.Author.Needs.{needs}
 use Rattle.blocks.proofs.block_same.Statement.{statement}
 use Rattle.blocks.proofs.block_same.Tie as tie
 use Rattle.blocks.proofs.block_same.Reads as reads
 use Rattle.blocks.proofs.block_same.Lts as lts
-use Rattle.blocks.proofs.least.Reads as least-reads
-use Rattle.blocks.proofs.same_padded.Reads as same-padded-reads
+use Rattle.blocks.proofs.end_same.Reads as end-same-reads
+use Rattle.blocks.proofs.piece_same.Reads as piece-same-reads
 
--- src/lib.rt:170:9
-least-requires : tie.Need-least-requires
-least-requires c κs = search needs
+-- src/lib.rt:181:15
+add-end : tie.Need-add-end
+add-end c = search needs
 
--- src/lib.rt:171:34
-add-least : tie.Need-add-least
-add-least c = search needs
+-- src/lib.rt:183:33
+sub-piece-same : tie.Need-sub-piece-same
+sub-piece-same c = search needs
 
--- src/lib.rt:171:9
-least-requires-2 : tie.Need-least-requires-2
-least-requires-2 c κs = search needs
+-- src/lib.rt:183:33
+part-piece-same-start : tie.Need-part-piece-same-start
+part-piece-same-start c = search needs
 
--- src/lib.rt:172:17
-sub-same-padded : tie.Need-sub-same-padded
-sub-same-padded c = search needs
+-- src/lib.rt:183:33
+part-piece-same-end : tie.Need-part-piece-same-end
+part-piece-same-end c = search needs
 
--- src/lib.rt:172:17
-part-same-padded-start : tie.Need-part-same-padded-start
-part-same-padded-start c = search needs
+-- src/lib.rt:183:9
+piece-same-requires : tie.Need-piece-same-requires
+piece-same-requires c κs = search needs
 
--- src/lib.rt:172:17
-part-same-padded-end : tie.Need-part-same-padded-end
-part-same-padded-end c = search needs
-
--- src/lib.rt:172:5
-same-padded-requires : tie.Need-same-padded-requires
-same-padded-requires c κs = search needs
-
--- src/lib.rt:166:1
+-- src/lib.rt:183:9
 returns : tie.Need-returns
 returns c =
-    let a = c .before .before .before .before .before .before .args in
-    let s = c .before .before .before .least in
-    let e = c .before .before .least2 in
-    c .same-padded .ensures ∙ cut-same (now (a .image)) (a .at) (s .result) (e .result) (s .ensures) (e .ensures) (now (a .cell)) (omega arith)
+    let a = c .before .before .before .before .before .args in
+    c .piece-same .ensures ∙ whole-same (now (a .image)) (now (a .cell)) (a .at) (omega arith) (omega arith)
+
+-- src/lib.rt:185:5
+end-same-requires : tie.Need-end-same-requires
+end-same-requires c κs = search needs
+
+-- src/lib.rt:177:1
+returns-2 : tie.Need-returns-2
+returns-2 c = search needs
 
 pub block-same-spec : {M : Type 1} → statement M
 block-same-spec =
     tie.close
     (tie.spec
-    least-requires
-    add-least
-    least-requires-2
-    sub-same-padded
-    part-same-padded-start
-    part-same-padded-end
-    same-padded-requires
-    returns)
+    add-end
+    sub-piece-same
+    part-piece-same-start
+    part-piece-same-end
+    piece-same-requires
+    returns
+    end-same-requires
+    returns-2)

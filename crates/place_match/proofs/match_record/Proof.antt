@@ -15,10 +15,10 @@ use Rattle.place_match.proofs.match_record.Statement.{statement}
 use Rattle.place_match.proofs.match_record.Tie as tie
 
 abbrev Inv-loop : tie.InvT-loop
-Inv-loop image from pool records count k₀ k = (k ≤ count) × (count ≡ length records / 19) × (firstFrom (equals (shelfIn baseMeasures pool records) (blocksFrom 64 image from 8)) k (drop k (recordsIn 8 records)) ≡ firstFrom (equals (shelfIn baseMeasures pool records) (blocksFrom 64 image from 8)) 0 (recordsIn 8 records))
+Inv-loop image from mask pool records count k₀ k = (k ≤ count) × (count ≡ length records / 19) × (firstFrom (equals (shelfIn baseMeasures pool records) (blocksFrom 64 image from 8)) k (drop k (recordsIn 8 records)) ≡ firstFrom (equals (shelfIn baseMeasures pool records) (blocksFrom 64 image from 8)) 0 (recordsIn 8 records))
 
 abbrev μ-loop : tie.MeasureT-loop
-μ-loop image from pool records count k₀ k = count - k
+μ-loop image from mask pool records count k₀ k = count - k
 
 loop-holds : tie.Need-loop-holds Inv-loop μ-loop
 loop-holds c = (search needs, refl, refl)
@@ -47,7 +47,7 @@ record-equals-requires c κs =
     let l = c .before .before .loop in
     let ws = now (a .args .records) in
     let k : l .k * 19 + 19 - l .k * 19 ≡ 19 = omega arith in
-    (omega arith, rw k (length-take-le 19 (drop (l .k * 19) ws) (omega (arith, length-drop (l .k * 19) ws))), omega arith, rw k (a .pre .1 .fits (l .k) (omega arith)))
+    (omega arith, a .pre .0 .1, rw k (length-take-le 19 (drop (l .k * 19) ws) (omega (arith, length-drop (l .k * 19) ws))), omega arith, rw k (a .pre .0 .2 .fits (l .k) (omega arith)), rw k (a .pre .1 (l .k) (omega arith)))
 
 returns : tie.Need-returns Inv-loop μ-loop
 returns c =

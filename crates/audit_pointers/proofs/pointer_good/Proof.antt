@@ -1,0 +1,77 @@
+use native.Mathlib.Omega.{arith}
+use borrow.Author.Needs.{needs}
+use mathlib.Core.Path.{_≡_, sym, _∙_}
+use mathlib.Core.List.{List, map}
+use Prim.Native.Nat.{ℕ}
+use denote.Ref.{now}
+use borrow.Author.Tests.{eqb-true, eq-eqb}
+use Rattle.model.specs.Measures.{baseMeasures}
+use Rattle.model.specs.Table.{wordToPointer, shelfIn}
+use Rattle.model.specs.Sound.{leads}
+use Rattle.audit_words.proofs.Pointers.{read-direct, read-indirect, read-other, direct-says, indirect-says, null-says, other-says}
+use Rattle.audit_counts.proofs.Counters.{bumped-other}
+use borrow.Author.Needs.{needs}
+use Rattle.audit_pointers.proofs.pointer_good.Statement.{statement}
+use Rattle.audit_pointers.proofs.pointer_good.Tie as tie
+use Rattle.audit_pointers.proofs.pointer_good.Reads as reads
+use Rattle.audit_pointers.proofs.pointer_good.Lts as lts
+use Rattle.audit_counts.proofs.bump.Reads as bump-reads
+use Rattle.audit_pointers.proofs.held_at.Reads as held-at-reads
+use Rattle.audit_pointers.proofs.not_null.Reads as not-null-reads
+
+-- src/lib.rt:78:9
+not-null-requires : tie.Need-not-null-requires
+not-null-requires c κs = search needs
+
+-- src/lib.rt:78:9
+returns : tie.Need-returns
+returns c =
+    let w = c .before .before .before .before .before .args .w in
+    let k = c .before .if1 .taken in
+    let e : (pool : List ℕ) → c .not-null .result ≡ leads (shelfIn baseMeasures pool (now (c .before .before .before .before .before .args .records))) (map wordToPointer (now (c .before .before .before .before .before .args .newer))) (wordToPointer w) = λ pool. rw (read-indirect w k) (c .not-null .ensures) in
+    (λ pool. record { holds = λ t. record { say = indirect-says w k; lead = sym (e pool) ∙ t }; seen = λ g. e pool ∙ g .lead }, λ t. bumped-other w _ (λ z. omega (arith, k, z)))
+
+-- src/lib.rt:81:9
+bump-requires : tie.Need-bump-requires
+bump-requires c κs = search needs
+
+-- src/lib.rt:82:57
+cast-held-at : tie.Need-cast-held-at
+cast-held-at c = search needs
+
+-- src/lib.rt:82:9
+held-at-requires : tie.Need-held-at-requires
+held-at-requires c κs = search needs
+
+-- src/lib.rt:82:9
+same-length : tie.Need-same-length
+same-length c = search needs
+
+-- src/lib.rt:82:9
+returns-2 : tie.Need-returns-2
+returns-2 c =
+    let w = c .before .before .before .before .before .before .before .before .before .before .args .w in
+    let k = c .before .before .before .before .before .if2 .taken in
+    let e : (pool : List ℕ) → c .held-at .result ≡ leads (shelfIn baseMeasures pool (now (c .before .before .before .before .before .before .before .before .before .before .args .records))) (map wordToPointer (now (c .before .before .before .before .before .before .before .before .before .before .args .newer))) (wordToPointer w) = λ pool. rw (read-direct w k) (c .held-at .ensures pool) in
+    (λ pool. record { holds = λ t. record { say = direct-says w k; lead = sym (e pool) ∙ t }; seen = λ g. e pool ∙ g .lead }, λ t. c .before .before .before .bump .ensures)
+
+-- src/lib.rt:71:1
+returns-3 : tie.Need-returns-3
+returns-3 c =
+    let w = c .before .before .before .before .before .args .w in
+    let n = c .if2 .left in
+    let m = c .before .if1 .left in
+    (λ pool. record { holds = λ t. record { say = null-says w (eqb-true w 0 t); lead = rw (read-other w n m) }; seen = λ g. eq-eqb w 0 (other-says w n m (g .say)) }, λ t. bumped-other w _ n)
+
+pub pointer-good-spec : {M : Type 1} → statement M
+pointer-good-spec =
+    tie.close
+    (tie.spec
+    not-null-requires
+    returns
+    bump-requires
+    cast-held-at
+    held-at-requires
+    same-length
+    returns-2
+    returns-3)
