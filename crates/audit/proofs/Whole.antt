@@ -37,7 +37,8 @@ use Rattle.audit_counts.proofs.Counts.{counts-sound, sound-counts}
 use Rattle.audit_tills.specs.Says.{TillSays}
 use Rattle.audit.specs.Good.{Body}
 use Rattle.lists.proofs.Filled.{rows-fixed, parts-wide, with-long}
-use Rattle.audit.proofs.Ranges.{range-of, lengths-of, lengths-at}
+use Rattle.audit.proofs.Ranges.{lengths-of, lengths-at}
+use Rattle.audit_header.proofs.InRange.{range-of}
 use Rattle.audit.proofs.Tills.{TillFine, till-fine, fine-till, till-small}
 
 -- ---- the answer

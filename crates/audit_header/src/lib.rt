@@ -5,35 +5,20 @@ ghost use Prim.Native.Nat.{ℕ, _+_, _*_, _≤_, _<_};
 ghost use lib.ListN.{length};
 ghost use Rattle.lists.specs.Tells.{Tells};
 ghost use Rattle.audit_header.specs.Header.{Ranges, Lengths, Header};
-
-// Whether a number lies between two others.
-fn within(low: u32, high: u32, n: u32) -> bool
-    ensures { λ r. ⌜ Tells r ((low ≤ n) × (n ≤ high)) ⌝ }
-{
-    if n < low {
-        return false;
-    }
-    n <= high
-}
+use layout::Capacities;
 
 // Whether the capacities are in range.
 fn ranges(table: &[u32]) -> bool
     requires { ⌜ 8 ≤ length (now table) ⌝ }
     ensures { λ r. ⌜ Tells r (Ranges (now (table .entry))) ⌝ }
 {
-    if !within(1, 16, table[0]) {
-        return false;
-    }
-    if !within(1, 64, table[1]) {
-        return false;
-    }
-    if !within(1, 1024, table[2]) {
-        return false;
-    }
-    if !within(1, 4096, table[3]) {
-        return false;
-    }
-    within(1, 32768, table[4])
+    layout::in_range(Capacities {
+        tills: table[0],
+        versions: table[1],
+        blocks: table[2],
+        records: table[3],
+        cells: table[4],
+    })
 }
 
 // Whether the lengths are those of the capacities.

@@ -13,12 +13,12 @@ use Rattle.model.specs.State.{Version, Till}
 use Rattle.model.specs.Table.{shapeOf, stateIn, tillToWords, pointerWord, wordToPointer}
 use Rattle.laws.proofs.Fits.{VersionFits, TillFits}
 use Rattle.laws.proofs.Measures.{sizes}
-use Rattle.laws.proofs.RoundTrip.{length-till}
+use Rattle.laws.proofs.RoundTrip.{length-till, held-word, last-word}
 use Rattle.laws.proofs.Stores.{Sound, header, fits, found}
 use Rattle.laws.proofs.Tills.{there, few, last-most}
 use Rattle.accept.specs.Accept.{Free}
 use Rattle.filing.specs.Filing.{Room, SlotLeft, FewBlocks, Whole, Held}
-use Rattle.filing.proofs.Slots.{held-word, last-word, few-blocks}
+use Rattle.filing.proofs.Slots.{few-blocks}
 use Rattle.ready.proofs.Newest.{Good, newest-good, newest-few, words-back}
 use Rattle.shelve.specs.Shelve.{Pointed}
 

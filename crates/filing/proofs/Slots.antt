@@ -10,12 +10,12 @@ use borrow.Rule.Slice.PartMut.{midOf, putMid}
 use Rattle.lists.specs.Each.{Each}
 use Rattle.lists.specs.Rows.{fill, rows, joined}
 use Rattle.lists.proofs.Rows.{fill-split, fill-zeros, length-fill, fill-add, length-rows, wide-all, rows-append}
-use Rattle.lists.proofs.Slices.{mid-is, mid-put, drop-same, tail-is, tail-put}
+use Rattle.lists.proofs.Slices.{mid-is, mid-put, drop-same, tail-is, tail-put, none-left}
 use Rattle.lists.proofs.Filled.{over-fill, over-zeros}
 use Rattle.model.specs.State.{Pointer, Version, Till}
 use Rattle.model.specs.Table.{pointerWord, versionToWords, tillToWords}
 use Rattle.model.specs.Calls.{newestPointers, withNewestPointers, tillWith}
-use Rattle.laws.proofs.RoundTrip.{length-version, length-till}
+use Rattle.laws.proofs.RoundTrip.{length-version, length-till, held-word, last-word}
 use Rattle.filing.specs.Filing.{newestAt, Room, FewBlocks, Whole, Held, turnedTill, addedTill, SameHead, SlotLeft}
 
 -- ---- the versions before the newest, and the newest
@@ -126,25 +126,13 @@ newest-slot (suc k) w n h m = let e : suc k - 1 ≡ k = omega arith in rw e (ome
 pub next-slot : (k w n : ℕ) → 4 + (k + 1) * w ≤ n → 4 + k * w + w ≤ n
 next-slot k w n m = let e : k + 1 ≡ suc k = omega arith in omega (arith, subst (λ (j : ℕ). 4 + j * w ≤ n) e m, suc-mul k w)
 
-pub held-word : (v b : ℕ) (t : Till) → getD (tillToWords v b t) 1 0 ≡ length (t .versions)
-unfolding tillToWords
-held-word v b t = refl
-
-pub last-word : (v b : ℕ) (t : Till) → getD (tillToWords v b t) 0 0 ≡ t .last
-unfolding tillToWords
-last-word v b t = refl
-
 -- ---- the newest version's pointers
 
 cong-till : (v b last : ℕ) (vs ws : List Version) → vs ≡ ws → tillToWords v b (record { last = last; versions = vs }) ≡ tillToWords v b (record { last = last; versions = ws })
 cong-till v b last vs ws e = ap (λ (us : List Version). tillToWords v b (record { last = last; versions = us })) e
 
-none : (vs : List Version) → length vs ≡ 0 → vs ≡ []
-none [] z = refl
-none (v ∷ vs) z = absurd (omega (arith, z))
-
 pub none-held : (v b : ℕ) (t : Till) (till : List ℕ) → till ≡ tillToWords v b t → getD till 1 0 ≡ 0 → t .versions ≡ []
-none-held v b t till et z = none (t .versions) (sym (held-word v b t) ∙ ap (λ (l : List ℕ). getD l 1 0) (sym et) ∙ z)
+none-held v b t till et z = none-left (t .versions) (sym (held-word v b t) ∙ ap (λ (l : List ℕ). getD l 1 0) (sym et) ∙ z)
 
 pub no-newest : (v b : ℕ) (t : Till) (till out : List ℕ) → till ≡ tillToWords v b t → getD till 1 0 ≡ 0 → take 0 out ≡ map pointerWord (newestPointers (t .versions))
 unfolding newestPointers

@@ -20,7 +20,7 @@ use Rattle.model.specs.Records.{isHeld, cellOf, countOf, cellsOf, namedCells, p
 use Rattle.model.specs.Sound.{isSound, isTill, isNumbered, leadsTo, nextPointers, allPointers, areCounted, allCounted}
 use Rattle.model.specs.Calls.{emptyTill, tillOf, heldFrom}
 use Rattle.laws.proofs.Sweep.{countIn, named-one}
-use Rattle.laws.proofs.Counts.{at}
+use Rattle.laws.proofs.Counts.{at, held-positive}
 use Rattle.laws.proofs.Place.{held-named}
 use Rattle.laws.proofs.Serves.{pointersOf, Valid, sound-valid}
 use Rattle.history.specs.Demand.{pointersHeld, LedTo}
@@ -55,21 +55,6 @@ position-of c (held d n ∷ seg) h = go (eqb c d) refl (λ l. position-of c seg 
 position-of c (removed ∷ seg) h = let z = position-of c seg h in (suc (z .0), z .1, z .2)
 
 -- a held position is counted
-positions-positive : (ps : List Pointer) (k i : ℕ) (seg : Segment) → areCounted ps k i seg ≡ true → (j : ℕ)
-    → isHeld (getD seg j nullPosition) ≡ true → 0 < countOf (getD seg j nullPosition)
-unfolding areCounted
-positions-positive ps k i [] h j e = absurd (false≢true e)
-positions-positive ps k i (nullPosition ∷ seg) h zero e = absurd (false≢true e)
-positions-positive ps k i (held c n ∷ seg) h zero e = ltb-true 0 n (clause _ 0 (clause _ 0 h))
-positions-positive ps k i (removed ∷ seg) h zero e = absurd (false≢true e)
-positions-positive ps k i (p ∷ seg) h (suc j) e = positions-positive ps k (suc i) seg (clause _ 1 h) j e
-
-pub held-positive : (ps : List Pointer) (k : ℕ) (segs : List Segment) → allCounted ps k segs ≡ true → (j i : ℕ) → isHeld (at segs j i) ≡ true → 0 < countOf (at segs j i)
-unfolding allCounted
-held-positive ps k [] h j i e = absurd (false≢true e)
-held-positive ps k (seg ∷ segs) h zero i e = positions-positive ps k 0 seg (clause _ 0 h) i e
-held-positive ps k (seg ∷ segs) h (suc j) i e = held-positive ps (suc k) segs (clause _ 1 h) j i e
-
 -- the pointer, the version and the till that lead to a position
 leads-is : (k i : ℕ) (p : Pointer) → leadsTo k i p ≡ true → p ≡ direct k i
 leads-is k i nullPointer h = absurd (false≢true h)

@@ -26,10 +26,9 @@ use Rattle.model.specs.Calls.{emptyTill, tillOf, heldFrom}
 use Rattle.laws.proofs.Sweep.{named-one}
 use Rattle.laws.proofs.Clean.{Whole, zero-whole}
 use Rattle.laws.proofs.Counts.{at, leads-itself}
-use Rattle.laws.proofs.Place.{held-named}
+use Rattle.laws.proofs.Place.{held-named, counted-held}
 use Rattle.laws.proofs.Measures.{parts-enough}
 use Rattle.laws.proofs.Serves.{pointersOf, Valid, sound-valid, end-counted, till-among}
-use Rattle.laws.proofs.Retire.{counted-held}
 use Rattle.laws.proofs.Fits.{Proper}
 use Rattle.laws.proofs.Named.{inside-any}
 use Rattle.history.specs.Keeper.{keptFrom}

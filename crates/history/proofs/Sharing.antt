@@ -24,7 +24,7 @@ use Rattle.model.specs.Sound.{isNull, leads, leadsTo, nextPointers, areTraceabl
 use Rattle.model.specs.Calls.{newestPointers, withNewestPointers}
 use Rattle.laws.proofs.Sweep.{Exact}
 use Rattle.laws.proofs.Place.{isIndirect}
-use Rattle.laws.proofs.Turn.{NewOk, turn-at, turned, held-full, turn-length, plain-end, lead-at, extended, traced-same}
+use Rattle.laws.proofs.Turn.{NewOk, turn-at, turned, held-full, turn-length, plain-end, lead-at, extended, traced-same, last-plain}
 use Rattle.laws.proofs.Serves.{pointersOf, Serves, traced-again}
 use Rattle.laws.proofs.Empty.{zero-null}
 use Rattle.history.specs.Kinds.{zeroKind, directKind, kindOf, kindAt, kindFor}
@@ -125,11 +125,6 @@ module _ (s : Shape) (p : Shelf) (x : Exact p) (bs : List Block) (newV : Version
       kind-turned (some n) = refl
   turned-kinded (indirect n) l = absurd (false≢true l)
 
-  not-indirect : (q : Pointer) → leads p [] q ≡ true → isIndirect q ≡ false
-  not-indirect nullPointer e = refl
-  not-indirect (direct k i) e = refl
-  not-indirect (indirect b) e = absurd (false≢true e)
-
   nothing-newer : tracedBlocks (s .measures .blockBytes) p [] ≡ []
   unfolding tracedBlocks
   nothing-newer = refl
@@ -142,7 +137,7 @@ module _ (s : Shape) (p : Shelf) (x : Exact p) (bs : List Block) (newV : Version
   own-block : (v : Version) (n : ℕ) → leads p [] (getD (v .pointers) n nullPointer) ≡ true
       → tracedBlock (s .measures .blockBytes) p (v ∷ []) n ≡ blockAt (s .measures .blockBytes) p (getD (v .pointers) n nullPointer)
   unfolding tracedBlock endOf
-  own-block v n l = ap (blockAt (s .measures .blockBytes) p) (plain-end (getD (v .pointers) n nullPointer) _ (not-indirect (getD (v .pointers) n nullPointer) l))
+  own-block v n l = ap (blockAt (s .measures .blockBytes) p) (plain-end (getD (v .pointers) n nullPointer) _ (last-plain p (getD (v .pointers) n nullPointer) l))
 
   new-last : Kinded (s .measures .blockBytes) p (newV ∷ [])
   new-last = (λ n. new-kinded n ∙ ap (kindFor (tracedBlock (s .measures .blockBytes) p (newV ∷ []) n)) (sym nothing-newer), tt)

@@ -29,12 +29,12 @@ use Rattle.laws.proofs.Fits.{Proper}
 use Rattle.laws.proofs.Measures.{parts-some}
 use Rattle.laws.proofs.Sweep.{Exact}
 use Rattle.laws.proofs.Counts.{at, leads-itself}
-use Rattle.laws.proofs.Place.{PlacedOk, isIndirect}
+use Rattle.laws.proofs.Place.{PlacedOk, isIndirect, counted-held}
 use Rattle.laws.proofs.Segments.{PlaceOk, place-ok}
 use Rattle.laws.proofs.Image.{blocks-length, segments-ok, segments-joined, padding, last-zero}
 use Rattle.laws.proofs.Turn.{NewOk, turn-count, extended, extended-traceable, plain-end}
 use Rattle.laws.proofs.Serves.{pointersOf, Serves, Valid, sound-valid, valid-sound, tills-again}
-use Rattle.laws.proofs.Retire.{Finished, finish, counted-held, pointers-set, passed, theAfter, no-refusal}
+use Rattle.laws.proofs.Retire.{Finished, finish, pointers-set, passed, theAfter, no-refusal}
 
 -- ---- the pointers that are kept of those placed
 

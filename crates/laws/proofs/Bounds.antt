@@ -22,8 +22,8 @@ use Rattle.laws.proofs.Sweep.{countIn}
 use Rattle.laws.proofs.Clean.{SegmentFits}
 use Rattle.laws.proofs.Counts.{at, leads-itself}
 use Rattle.laws.proofs.Serves.{pointersOf, Valid, sound-valid}
-use Rattle.laws.proofs.Retire.{counted-held}
 use Rattle.laws.proofs.Fits.{Fit, VersionFits, TillFits, StateFits, state-fits, held-in, record-in}
+use Rattle.laws.proofs.Place.{counted-held}
 
 -- ---- the pointers of a store
 

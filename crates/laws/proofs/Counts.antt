@@ -231,3 +231,20 @@ unfolding count
 pointer-counted k i [] n h = absurd (false≢true h)
 pointer-counted k i (p ∷ ps) zero h = rw h (omega arith)
 pointer-counted k i (p ∷ ps) (suc n) h = omega (arith, pointer-counted k i ps n h)
+
+-- ---- a held position is counted at least once
+
+positions-positive : (ps : List Pointer) (k i : ℕ) (seg : Segment) → areCounted ps k i seg ≡ true → (j : ℕ)
+    → isHeld (getD seg j nullPosition) ≡ true → 0 < countOf (getD seg j nullPosition)
+unfolding areCounted
+positions-positive ps k i [] h j e = absurd (false≢true e)
+positions-positive ps k i (nullPosition ∷ seg) h zero e = absurd (false≢true e)
+positions-positive ps k i (held c n ∷ seg) h zero e = ltb-true 0 n (clause _ 0 (clause _ 0 h))
+positions-positive ps k i (removed ∷ seg) h zero e = absurd (false≢true e)
+positions-positive ps k i (p ∷ seg) h (suc j) e = positions-positive ps k (suc i) seg (clause _ 1 h) j e
+
+pub held-positive : (ps : List Pointer) (k : ℕ) (segs : List Segment) → allCounted ps k segs ≡ true → (j i : ℕ) → isHeld (at segs j i) ≡ true → 0 < countOf (at segs j i)
+unfolding allCounted
+held-positive ps k [] h j i e = absurd (false≢true e)
+held-positive ps k (seg ∷ segs) h zero i e = positions-positive ps k 0 seg (clause _ 0 h) i e
+held-positive ps k (seg ∷ segs) h (suc j) i e = held-positive ps (suc k) segs (clause _ 1 h) j i e

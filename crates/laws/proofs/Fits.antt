@@ -73,7 +73,7 @@ record-in [] k i h = absurd (false≢true h)
 record-in (seg ∷ segs) zero i h = zero-lt-suc (length segs)
 record-in (seg ∷ segs) (suc k) i h = suc-le-suc (record-in segs k i h)
 
-pointer-in : (ps : List Pointer) (n : ℕ) → not (isNull (getD ps n nullPointer)) ≡ true → n < length ps
+pub pointer-in : (ps : List Pointer) (n : ℕ) → not (isNull (getD ps n nullPointer)) ≡ true → n < length ps
 pointer-in [] n h = absurd (false≢true h)
 pointer-in (p ∷ ps) zero h = zero-lt-suc (length ps)
 pointer-in (p ∷ ps) (suc n) h = suc-le-suc (pointer-in ps n h)

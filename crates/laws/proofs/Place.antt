@@ -219,7 +219,7 @@ bit-one b h = go (allZero b) refl
     go true e = absurd (not-suc-le-zero (subst (λ (t : Bool). 0 < untick t) e h))
     go false e = e
 
-counted-held : (p : Position) → 0 < countOf p → isHeld p ≡ true
+pub counted-held : (p : Position) → 0 < countOf p → isHeld p ≡ true
 counted-held nullPosition h = absurd (not-suc-le-zero h)
 counted-held (held c n) h = refl
 counted-held removed h = absurd (not-suc-le-zero h)

@@ -25,13 +25,9 @@ use Rattle.laws.proofs.Clean.{ShelfFits, Cleared, sweep-clears, clean-h
 use Rattle.laws.proofs.Counts.{at, Counted, lower-count, lower-cell, lower-all-named, lower-all-fits, lower-all-length}
 use Rattle.laws.proofs.Fits.{record-in}
 use Rattle.laws.proofs.Serves.{pointersOf, Serves, Valid, sound-valid, valid-sound, tills-again}
+use Rattle.laws.proofs.Place.{counted-held}
 
 -- ---- release and sweep, for a backup and a retire
-
-pub counted-held : (p : Position) → 0 < countOf p → isHeld p ≡ true
-counted-held nullPosition h = absurd (not-suc-le-zero h)
-counted-held (held c n) h = refl
-counted-held removed h = absurd (not-suc-le-zero h)
 
 -- `rs` are let go and `ps` stay, of the pointers that the shelf `a` counts
 pub record Finished (m : Measures) (a b : Shelf) (ps : List Pointer) : Type 0 where

@@ -6,7 +6,7 @@ use mathlib.Core.Option.{Option, none, some}
 use Prim.Native.Nat.{ℕ, _+_, _*_, _/_, _%_, _≤_, _<_, min}
 use native.Mathlib.Nat.{min-eq-left, mul-le-mul-right}
 use native.Mathlib.Omega.{arith}
-use lib.ListN.{length, getD, take, drop, length-append, length-map}
+use lib.ListN.{length, getD, take, drop, length-append, length-map, replicate}
 use lib.Seq.{take-at, drop-at, drop-drop, take-all}
 use lib.Dec.{lit<}
 use borrow.Author.Tests.{eqb-true, eq-eqb}
@@ -22,7 +22,7 @@ use Rattle.lists.proofs.Cuts.{parts-rows, chunks-rows, chunks-joined, joined-ch
 use Rattle.lists.proofs.Masks.{half, odd}
 use Rattle.model.specs.Measures.{Shape, slotWords, tillWords, recordWords, tableWords, poolBytes, partsFor, inRange}
 use Rattle.model.specs.State.{Pointer, nullPointer, direct, indirect, Position, nullPosition, held, removed, Segment, Version, Till, State}
-use Rattle.model.specs.Records.{isHeld, isRemoved, cellOf, countOf}
+use Rattle.model.specs.Records.{isHeld, isRemoved, cellOf, countOf, freeSegment}
 use Rattle.model.specs.Table.{kindUnit, pointerWord, recordToWords, versionToWords, tillToWords, headerToWords, stateToWords, stateToBytes, shapeOf, pointerOf, wordToPointer, positionOf, positionsIn, segmentIn, recordsIn, cellsIn, shelfIn, versionIn, versionsIn, tillIn, tillsIn, tillsPart, recordsPart, stateIn}
 use Rattle.model.specs.Sound.{isSound, Store, ifSound, hasLengths, storeAs, storeOf}
 use Rattle.laws.proofs.Fits.{Fit, PointerFits, VersionFits, TillFits, StateFits, state-fits}
@@ -56,6 +56,10 @@ segment-back n seg l =
     ap (take n) (sym (drop-drop n 3 (recordToWords seg)) ∙ drop-at cells counts n (length-map seg cellOf ∙ l))
     ∙ take-all n counts (omega (arith, length-map seg countOf, l)) in
     ap₂ (positionsIn (maskOf isHeld seg) (maskOf isRemoved seg)) first later ∙ positions-back seg
+
+pub free-words : recordToWords (freeSegment 8) ≡ replicate 19 0
+unfolding recordToWords freeSegment maskOf
+free-words = refl
 
 -- ---- a pointer
 
@@ -271,3 +275,13 @@ module _ (pool table : List ℕ) where
       let (l, r) = chosen (hasLengths (shapeOf table) pool table) (ifSound (shapeOf table) table (stateIn (shapeOf table) pool table)) x e in
       let (t, q) = chosen (allOf (sameNumbers (stateToWords (shapeOf table) read) table ∷ isSound (shapeOf table) read ∷ [])) (some (record { shape = shapeOf table; state = read })) x r in
       subst (Found pool table) (ap (storeOr x) q) (read-found l t)
+
+-- ---- the first words of a till
+
+pub last-word : (v b : ℕ) (t : Till) → getD (tillToWords v b t) 0 0 ≡ t .last
+unfolding tillToWords
+last-word v b t = refl
+
+pub held-word : (v b : ℕ) (t : Till) → getD (tillToWords v b t) 1 0 ≡ length (t .versions)
+unfolding tillToWords
+held-word v b t = refl

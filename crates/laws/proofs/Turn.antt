@@ -119,6 +119,12 @@ pub turn-length : (p : Shelf) (bs : List Block) (ps : List Pointer) → length (
 unfolding turn
 turn-length p bs ps = length-map ps (λ q. indirectTo q (target p bs q))
 
+-- a pointer of the newest version is not indirect
+pub last-plain : (shelf : Shelf) (q : Pointer) → leads shelf [] q ≡ true → isIndirect q ≡ false
+last-plain shelf nullPointer e = refl
+last-plain shelf (direct k i) e = refl
+last-plain shelf (indirect b) e = absurd (false≢true e)
+
 pub plain-end : (q : Pointer) (f : ℕ → Pointer) → isIndirect q ≡ false → endVia q f ≡ q
 unfolding endVia
 plain-end nullPointer f h = refl
@@ -177,12 +183,7 @@ module _ (s : Shape) (p : Shelf) (x : Exact p) (bs : List Block) (newV : Version
       let l : leads p [] q ≡ true = lead-at p [] (v .pointers) (clause _ 1 h) n in
       ap (λ (r : Pointer). blockAt (s .measures .blockBytes) p (endVia r (λ b. endOf (newV ∷ []) b))) (turn-at (s .measures) p x bs (v .pointers) n)
       ∙ turned-block (s .measures) p x bs (newV .pointers) ok (λ b. endOf (newV ∷ []) b) new-end q l
-      ∙ ap (blockAt (s .measures .blockBytes) p) (sym (plain-end q _ (not-indirect q l)))
-    where
-      not-indirect : (q : Pointer) → leads p [] q ≡ true → isIndirect q ≡ false
-      not-indirect nullPointer e = refl
-      not-indirect (direct k i) e = refl
-      not-indirect (indirect b) e = absurd (false≢true e)
+      ∙ ap (blockAt (s .measures .blockBytes) p) (sym (plain-end q _ (last-plain p q l)))
   traced-same v (w ∷ vs) h n =
       same-ends (s .measures) p (getD (v .pointers) n nullPointer) (λ b. endOf (extended (w ∷ vs)) b) (λ b. endOf (w ∷ vs) b) (λ j. traced-same w vs (clause _ 3 h) j)
 

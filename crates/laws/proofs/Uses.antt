@@ -17,6 +17,7 @@ use Rattle.model.specs.Image.{zeroBlock}
 use Rattle.model.specs.Records.{cellsOf, namedCells, isHeld}
 use Rattle.model.specs.Sweep.{clearCells, goes, stays, struck, moved}
 use Rattle.lists.proofs.Uses.{numbers, uses, uses-append, uses-here, uses-other}
+use Rattle.lists.proofs.Same.{zeros-zero}
 
 -- 0 for a block of zeros, or past the end, and 1 for any other
 unfoldable pub bit : Block → ℕ
@@ -35,12 +36,8 @@ named-set c (s ∷ segs) (suc k) seg h =
 -- ---- cells that are cleared
 
 zero-bit : (m : Measures) → bit (zeroBlock (m .blockBytes)) ≡ 0
-unfolding bit zeroBlock allZero every
-zero-bit m = ap (λ (b : Bool). cond b 0 1) (go (m .blockBytes))
-  where
-    go : (n : ℕ) → allZero (replicate n 0) ≡ true
-    go zero = refl
-    go (suc n) = go n
+unfolding bit zeroBlock
+zero-bit m = ap (λ (b : Bool). cond b 0 1) (zeros-zero (m .blockBytes))
 
 pub nothing-bit : bit [] ≡ 0
 unfolding bit allZero every

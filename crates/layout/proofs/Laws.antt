@@ -21,6 +21,7 @@ use Rattle.model.specs.Table.{recordToWords, versionToWords, tillToWords, heade
 use Rattle.model.specs.Calls.{LengthAnswer, LayoutAnswer, emptyTill, emptyState, tableLengthOf, layoutOf, layoutAs, layoutIf}
 use Rattle.layout.specs.declared.Capacities.{Capacities}
 use Rattle.layout.specs.Layout.{capacities, shape, Ranged}
+use Rattle.laws.proofs.RoundTrip.{free-words}
 
 -- ---- ranges
 
@@ -96,10 +97,6 @@ pub empty-bytes : (c : Capacities) (n : ℕ) → n ≡ poolBytes (shape c) → r
 unfolding stateToBytes emptyState poolBytes zeroBlock
 empty-bytes c n e = rw e (sym (zero-cells 64 (c .cells)))
 
-free-record : recordToWords (freeSegment 8) ≡ replicate 19 0
-unfolding recordToWords freeSegment maskOf
-free-record = refl
-
 -- five words written over zeros
 pub empty-words : (c : Capacities) (n : ℕ) → n ≡ tableWords (shape c)
     → set (set (set (set (set (replicate n 0) 0 (c .tills)) 1 (c .versions)) 2 (c .blocks)) 3 (c .records)) 4 (c .cells) ≡ stateToWords (shape c) (emptyState (shape c))
@@ -108,7 +105,7 @@ empty-words c n e =
     let w : ℕ = tillWords (c .versions) (c .blocks) in
     let m : ℕ = c .tills * w + c .records * 19 in
     let long : n ≡ suc (suc (suc (suc (suc (suc (suc (suc m))))))) = omega (arith, e) in
-    rw (long, zero-rows (tillToWords (c .versions) (c .blocks)) emptyTill w (empty-till (c .versions) (c .blocks)) (c .tills), zero-rows recordToWords (freeSegment 8) 19 free-record (c .records), zeros-append)
+    rw (long, zero-rows (tillToWords (c .versions) (c .blocks)) emptyTill w (empty-till (c .versions) (c .blocks)) (c .tills), zero-rows recordToWords (freeSegment 8) 19 free-words (c .records), zeros-append)
 
 -- ---- the answers
 

@@ -8,6 +8,7 @@ use borrow.Author.Tests.{ltb-true, leb-true, eqb-true, lt-ltb, le-leb, eq-eqb, n
 use Rattle.lists.specs.Lists.{every, allOf}
 use Rattle.lists.specs.Each.{Each}
 use Rattle.lists.specs.Tells.{Tells}
+use Rattle.lists.proofs.Tests.{cond-true}
 
 -- ---- Tells
 
@@ -60,15 +61,11 @@ tells-not {r} t = record { holds = refutes t; seen = λ f. ap-not (unseen t f) }
 
 -- ---- cond
 
-both-true : (a b : Bool) → cond a b false ≡ true → (a ≡ true) × (b ≡ true)
-both-true true b e = (refl, e)
-both-true false b e = absurd (clash refl e)
-
 -- one after the other; the second test may count on the first
 pub tells-then : {a b : Bool} {P Q : Type 0} → Tells a P → (P → Tells b Q) → Tells (cond a b false) (P × Q)
 tells-then {a} {b} s t =
     record {
-      holds = λ e. let p = s .holds (both-true a b e .0) in (p, t p .holds (both-true a b e .1));
+      holds = λ e. let p = s .holds (cond-true a b e .0) in (p, t p .holds (cond-true a b e .1));
       seen = λ pq. rw (s .seen (pq .0)) (t (pq .0) .seen (pq .1));
     }
 

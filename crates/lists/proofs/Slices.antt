@@ -142,3 +142,7 @@ module _ (xs : List ℕ) (a k s e : ℕ) (hs : s ≡ min (length xs) a) (he : e 
           let z : s ≡ a = omega (arith, leb-false (length xs) a h) in
           let n : e - a ≡ k = omega (arith, leb-false (length xs) (a + k) h′) in
           rw (z, n) (fill-take k (drop a xs))
+
+pub none-left {ℓ} : {A : Type ℓ} (xs : List A) → length xs ≡ 0 → xs ≡ []
+none-left [] z = refl
+none-left (x ∷ xs) z = absurd (omega (arith, z))

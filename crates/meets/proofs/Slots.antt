@@ -19,7 +19,7 @@ use Rattle.model.specs.Records.{positionAt}
 use Rattle.model.specs.Sound.{nextPointers, isNull, leads, areTraceable, isSound, isTill}
 use Rattle.model.specs.State.{Shelf, Version, Pointer, nullPointer, direct, indirect, State, Till, Segment}
 use Rattle.model.specs.Table.{versionIn, versionToWords, tillToWords, versionsIn, stateToWords, headerToWords, recordToWords}
-use Rattle.laws.proofs.Fits.{record-in, held-in, TillFits, VersionFits}
+use Rattle.laws.proofs.Fits.{record-in, held-in, TillFits, VersionFits, pointer-in}
 use Rattle.laws.proofs.RoundTrip.{length-version, version-back, length-till}
 use Rattle.shelf.specs.Fits.{Fits}
 use Rattle.trace.specs.Versions.{pointersAt, LeadsTo, Traceable, Direct}
@@ -38,17 +38,11 @@ module _ (shelf : Shelf) (eight : (k : ℕ) → length (getD (shelf .records) k 
   next-length [] = ap length (sym none-pointers)
   next-length (v ∷ vs) = refl
 
-  -- what an indirect pointer names is there
-  there : (ps : List Pointer) (n : ℕ) → not (isNull (getD ps n nullPointer)) ≡ true → n < length ps
-  there [] n e = absurd (false≢true e)
-  there (p ∷ ps) zero e = omega arith
-  there (p ∷ ps) (suc n) e = omega (arith, there ps n e)
-
   one-leads : (ps : List Pointer) (p : Pointer) → leads shelf ps p ≡ true → LeadsTo (length ps) p
   unfolding LeadsTo
   one-leads ps nullPointer e = tt
   one-leads ps (direct k i) e = tt
-  one-leads ps (indirect n) e = there ps n e
+  one-leads ps (indirect n) e = pointer-in ps n e
 
   one-fits : (next : List Pointer) (p : Pointer) → leads shelf next p ≡ true → Fits (length (shelf .records) * 19) p
   unfolding Fits positionAt

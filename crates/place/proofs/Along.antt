@@ -13,14 +13,16 @@ use Rattle.model.specs.Measures.{baseMeasures, partsFor}
 use Rattle.model.specs.Place.{Placed, afterSome, placeAll, placeNext, placeSegment}
 use Rattle.model.specs.Runs.{freeCells}
 use Rattle.model.specs.State.{Block, Outcome, Pointer, Shelf, done, refused}
-use Rattle.model.specs.Table.{pointerWord, shelfIn}
+use Rattle.model.specs.Table.{pointerWord, recordsIn, shelfIn}
 use Rattle.place_one.specs.Did.{Did, Done}
+use Rattle.place_seek.specs.Seek.{RestFree}
 use Rattle.place_undo.specs.Undo.{Holds, Steps, undoMark, undoUpto}
 use Rattle.place_words.specs.Marks.{mark}
 use Rattle.place_words.specs.Stored.{Stored, Wf, bytesOf, wordsOf}
 use Rattle.place_words.proofs.Reading.{shelf-records}
 use Rattle.place_words.proofs.Storing.{Back, pool-back, stored-back, words-back}
 use Rattle.place.specs.All.{DidAll, segmentsIn}
+use Rattle.place.proofs.Rest.{rest-after}
 use Rattle.place.proofs.Wider.{stored-wider, wf-wider}
 
 -- ---- marks
@@ -67,13 +69,14 @@ all-refused n [] = refl
 all-refused n (seg ∷ segs) = all-refused n segs
 
 -- `j` segments are placed
-pub record Along (image : List ℕ) (pool₀ ws₀ : List ℕ) (free₀ : List Bool) (placed₀ words₀ : List ℕ) (n : ℕ) (pool ws : List ℕ) (free : List Bool) (placed words : List ℕ) (from j : ℕ) : Type 0 where
+pub record Along (image : List ℕ) (pool₀ ws₀ : List ℕ) (free₀ : List Bool) (placed₀ words₀ : List ℕ) (n used : ℕ) (pool ws : List ℕ) (free : List Bool) (placed words : List ℕ) (from j : ℕ) : Type 0 where
   pub within : j ≤ n
   pub begins : from ≡ j * 512
   pub pointers : List Pointer
   pub stored : Stored 4294967295 pool ws
   pub wf : Wf (2147483648 + j) (shelfIn baseMeasures pool ws)
   pub cells : free ≡ freeCells (shelfIn baseMeasures pool ws)
+  pub rest : RestFree (used + j) (shelfIn baseMeasures pool ws .records)
   pub written : take (j * 8) words ≡ map pointerWord pointers
   pub left : placeAll (done (record { shelf = shelfIn baseMeasures pool ws; pointers = pointers })) (segmentsFrom 64 8 image from (n - j)) ≡ placeAll (done (record { shelf = shelfIn baseMeasures pool₀ ws₀; pointers = [] })) (imageSegments 64 8 image)
   pub steps : Steps placed j (shelfIn baseMeasures pool ws)
@@ -84,16 +87,17 @@ pub record Along (image : List ℕ) (pool₀ ws₀ : List ℕ) (free₀ : List B
   pub samePlaced : length placed ≡ length placed₀
   pub sameWords : length words ≡ length words₀
 
-pub along-start : (image pool ws : List ℕ) (free : List Bool) (placed words : List ℕ) (n : ℕ) → n ≡ segmentsIn image → Stored 2147483648 pool ws → free ≡ freeCells (shelfIn baseMeasures pool ws)
-    → Along image pool ws free placed words n pool ws free placed words 0 0
-unfolding Steps undoUpto imageSegments partsFor
-along-start image pool ws free placed words n e st c = record {
+pub along-start : (image pool ws : List ℕ) (free : List Bool) (placed words : List ℕ) (n used : ℕ) → n ≡ segmentsIn image → Stored 2147483648 pool ws → free ≡ freeCells (shelfIn baseMeasures pool ws) → RestFree used (recordsIn 8 ws)
+    → Along image pool ws free placed words n used pool ws free placed words 0 0
+unfolding Steps undoUpto imageSegments partsFor shelfIn
+along-start image pool ws free placed words n used e st c r = record {
   within = omega arith;
   begins = refl;
   pointers = [];
   stored = stored-wider 2147483648 4294967295 pool ws (omega arith) (omega arith) st;
   wf = wf-wider 2147483648 (2147483648 + 0) (shelfIn baseMeasures pool ws) (omega arith) (st .wf);
   cells = c;
+  rest = λ k h l. r k (omega arith) l;
   written = refl;
   left = let z : n - 0 ≡ (length image + 511) / 512 = omega arith in rw z;
   steps = tt;
@@ -105,8 +109,8 @@ along-start image pool ws free placed words n e st c = record {
   sameWords = refl;
 }
 
-module _ {image pool₀ ws₀ : List ℕ} {free₀ : List Bool} {placed₀ words₀ : List ℕ} {n : ℕ} {pool ws : List ℕ} {free : List Bool} {placed words : List ℕ} {from j : ℕ}
-    (a : Along image pool₀ ws₀ free₀ placed₀ words₀ n pool ws free placed words from j) where
+module _ {image pool₀ ws₀ : List ℕ} {free₀ : List Bool} {placed₀ words₀ : List ℕ} {n used : ℕ} {pool ws : List ℕ} {free : List Bool} {placed words : List ℕ} {from j : ℕ}
+    (a : Along image pool₀ ws₀ free₀ placed₀ words₀ n used pool ws free placed words from j) where
   abbrev s : Shelf
   s = shelfIn baseMeasures pool ws
 
@@ -123,12 +127,12 @@ module _ {image pool₀ ws₀ : List ℕ} {free₀ : List Bool} {placed₀ words
   module _ (h : j < n) (most : n ≤ 128) (hp : length placed₀ ≡ 128) (hw : length words₀ ≡ n * 8) where
     pub along-step : (r mark : ℕ) (pool′ ws′ : List ℕ) (free′ : List Bool) (w : List ℕ) → length pool′ ≡ length pool → length ws′ ≡ length ws → length free′ ≡ length free → length w ≡ 8
         → Did s (placeSegment s (blocksFrom 64 image from 8)) r mark pool ws pool′ ws′ free′ w → r ≡ 0
-        → Along image pool₀ ws₀ free₀ placed₀ words₀ n pool′ ws′ free′ (set placed j mark) (take (j * 8) words ++ (w ++ drop 8 (drop (j * 8) words))) (from + 512) (j + 1)
+        → Along image pool₀ ws₀ free₀ placed₀ words₀ n used pool′ ws′ free′ (set placed j mark) (take (j * 8) words ++ (w ++ drop 8 (drop (j * 8) words))) (from + 512) (j + 1)
     unfolding afterSome
     along-step r mark pool′ ws′ free′ w np nw nf lw d z = go (placeSegment s (blocksFrom 64 image from 8)) refl d
       where
         go : (o : Outcome Placed) → placeSegment s (blocksFrom 64 image from 8) ≡ o → Did s o r mark pool ws pool′ ws′ free′ w
-            → Along image pool₀ ws₀ free₀ placed₀ words₀ n pool′ ws′ free′ (set placed j mark) (take (j * 8) words ++ (w ++ drop 8 (drop (j * 8) words))) (from + 512) (j + 1)
+            → Along image pool₀ ws₀ free₀ placed₀ words₀ n used pool′ ws′ free′ (set placed j mark) (take (j * 8) words ++ (w ++ drop 8 (drop (j * 8) words))) (from + 512) (j + 1)
         go (refused k) e q = absurd (omega (arith, q .0, q .1))
         go (done p) e q =
             let f : Done s p mark pool′ ws′ free′ w = q .1 in
@@ -143,6 +147,7 @@ module _ {image pool₀ ws₀ : List ℕ} {free₀ : List Bool} {placed₀ words
               stored = b .stored;
               wf = rw (b .shelf) (let y : 2147483648 + j + 1 ≡ 2147483648 + (j + 1) = omega arith in subst (λ (x : ℕ). Wf x (p .shelf)) y wf);
               cells = f .cells ∙ ap freeCells (sym (b .shelf));
+              rest = rw (b .shelf) (λ k l m. rest-after s (blocksFrom 64 image from 8) (used + j) (a .rest) p e k (omega arith) m);
               written = words-more words w j lo lw ∙ ap₂ (λ (x y : List ℕ). x ++ y) (a .written) (f .pointers) ∙ sym (map-append pointerWord (a .pointers) (p .pointers));
               left = rw (b .shelf) (rw e at (step-left h));
               steps = rw (b .shelf) (steps-more placed j mark (omega (arith, a .samePlaced)) s (p .shelf) (f .undo) (omega (arith, f .small)) (a .stored .wf) (a .steps));

@@ -12,7 +12,7 @@ ghost use Rattle.model.specs.Place.{placeAll};
 ghost use Rattle.model.specs.Table.{shelfIn};
 ghost use Rattle.place.specs.All.{AllReady, DidAll};
 
-// With the free cells known.
+// With the free cells known. Each segment takes at most one record more, so the search for an equal one need not look at all.
 fn place_segments(
     image: &[u8],
     pool: &mut [u8],
@@ -25,12 +25,22 @@ fn place_segments(
     ensures { λ r. ⌜ DidAll (placeAll (done (record { shelf = shelfIn baseMeasures (now (pool .entry)) (now (records .entry)); pointers = [] })) (imageSegments 64 8 (now (image .entry)))) r (now (pool .entry)) (now (records .entry)) (now (pool .exit)) (now (records .exit)) (now (words .exit)) ⌝ }
 {
     let n = (image.len() + 511) / 512;
+    let used = place_seek::used_records(records);
     let mut from: usize = 0;
     let mut j: usize = 0;
     while j < n {
         let first = j * 8;
         let end = first + 8;
-        let p = place_one::place_segment(image, from, pool, records, free, &mut words[first..end]);
+        let most = used + j;
+        let p = place_one::place_segment(
+            image,
+            from,
+            pool,
+            records,
+            most,
+            free,
+            &mut words[first..end],
+        );
         let refusal = p.refusal;
         if refusal != 0 {
             place_undo::undo_all(pool, records, placed, j);

@@ -2,20 +2,23 @@
 use mathlib.Core.Path.{_∙_, _≡_, ap, refl}
 use mathlib.Core.Bool.{Bool, cond, false, false≢true, not, true}
 use mathlib.Core.List.{List, [], _∷_}
-use Prim.Native.Nat.{_%_, _+_, _-_, _/_, _<_, _≤_, zero-le, ℕ}
+use mathlib.Core.Option.{none}
+use Prim.Native.Nat.{_%_, _+_, _-_, _/_, _<_, _≤_, suc, zero, zero-le, ℕ}
 use native.Mathlib.Omega.{arith}
 use lib.Dec.{eqb}
 use lib.ListN.{drop, getD, length}
-use Rattle.lists.specs.Lists.{allZero, sameNumbers}
+use Rattle.lists.specs.Lists.{allZero, firstFrom, sameNumbers}
 use Rattle.lists.specs.Masks.{maskOf}
 use Rattle.lists.proofs.Slices.{drop-end}
 use Rattle.lists.proofs.Tests.{cond-true}
 use Rattle.model.specs.Image.{blockFrom, blocksFrom}
-use Rattle.model.specs.Records.{cellAt, equals, holds, isHeld, isRemoved}
+use Rattle.model.specs.Records.{cellAt, equals, holds, isFree, isHeld, isRemoved}
 use Rattle.model.specs.State.{Block, Segment, Shelf, held, nullPosition, removed}
 use Rattle.model.specs.Table.{positionOf, positionsIn, recordToWords, segmentIn}
 use Rattle.place_words.specs.Marks.{mark, marks}
 use Rattle.place_words.specs.Words.{RowSays}
+use Rattle.place_seek.specs.Seek.{RestFree}
+use Rattle.place_seek.proofs.Seeking.{free-masks}
 use Rattle.place_words.proofs.Marks.{mark-bit}
 use Rattle.place_words.proofs.Reading.{blocks-next, cell-word, cellWords, countWords, length-cells, length-counts, positions-next}
 
@@ -113,3 +116,25 @@ module _ (shelf : Shelf) where
     lacking m q l =
         let h : getD row 0 0 ≡ maskOf isHeld (segmentIn 8 row) = ap (λ (l : List ℕ). getD l 0 0) s in
         unequal (λ e. omega (arith, equal-more bs (segmentIn 8 row) e))
+
+  -- ---- a free record equals no segment that is not null
+
+  module _ (bs : List Block) (n : 0 < marks bs) where
+    unused : (ps : Segment) → isFree ps ≡ true → equals shelf bs ps ≡ false
+    unused ps f = go (equals shelf bs ps) refl
+      where
+        go : (t : Bool) → equals shelf bs ps ≡ t → t ≡ false
+        go true e = absurd (omega (arith, equal-more bs ps e, free-masks ps f .0))
+        go false e = refl
+
+    none-free : (i : ℕ) (rs : List Segment) → RestFree 0 rs → firstFrom (equals shelf bs) i rs ≡ none
+    unfolding firstFrom
+    none-free i [] r = refl
+    none-free i (ps ∷ rs) r =
+        rw (unused ps (r 0 (omega arith) (omega arith))) (none-free (suc i) rs (λ j h l. r (suc j) (omega arith) (omega arith)))
+
+    -- so the search ends where all others are free
+    pub none-rest : (u i : ℕ) (rs : List Segment) → RestFree u rs → firstFrom (equals shelf bs) i (drop u rs) ≡ none
+    none-rest zero i rs r = none-free i rs r
+    none-rest (suc u) i [] r = unfold firstFrom in refl
+    none-rest (suc u) i (ps ∷ rs) r = none-rest u i rs (λ j h l. r (suc j) (omega arith) (omega arith))

@@ -12,6 +12,7 @@ ghost use Rattle.model.specs.Place.{nonNull};
 ghost use Rattle.model.specs.Table.{positionOf, segmentIn, recordsIn, cellsIn, shelfIn};
 ghost use Rattle.place_words.specs.Words.{asOption, RowFits, RowSays, Sized};
 ghost use Rattle.place_words.specs.Marks.{mark, marks, kept};
+ghost use Rattle.place_seek.specs.Seek.{RestFree};
 use numbers::Block;
 use numbers::Cell;
 
@@ -57,15 +58,25 @@ fn record_equals(image: &[u8], from: usize, mask: u32, pool: &[u8], row: &[u32])
     true
 }
 
-// The lowest record that equals the segment, whose mask is given, or how many records there are.
-pub fn match_record(image: &[u8], from: usize, mask: u32, pool: &[u8], records: &[u32]) -> usize
-    requires { ⌜ (from ≤ 65536) × (mask ≡ marks (blocksFrom 64 (now image) from 8)) × Sized (now pool) (now records) ⌝ }
+// The lowest record that equals the segment, whose mask is given and not 0, or how many records there are. The records from `used` on are free, and
+// a free one equals no such segment: they are not looked at.
+pub fn match_record(
+    image: &[u8],
+    from: usize,
+    mask: u32,
+    pool: &[u8],
+    records: &[u32],
+    used: usize,
+) -> usize
+    requires { ⌜ (from ≤ 65536) × (mask ≡ marks (blocksFrom 64 (now image) from 8)) × Sized (now pool) (now records) × (0 < mask) ⌝ }
     requires { ⌜ ((k : ℕ) → k < length (now records) / 19 → RowSays (take 19 (drop (k * 19) (now records)))) ⌝ }
+    requires { ⌜ RestFree used (recordsIn 8 (now records)) ⌝ }
     ensures { λ r. ⌜ (asOption (length (now (records .entry)) / 19) r ≡ firstFrom (equals (shelfIn baseMeasures (now (pool .entry)) (now (records .entry))) (blocksFrom 64 (now (image .entry)) from 8)) 0 (recordsIn 8 (now (records .entry)))) × (r ≤ length (now (records .entry)) / 19) ⌝ }
 {
     let count = records.len() / 19;
+    let stop = blocks::least(used, count);
     let mut k: usize = 0;
-    while k < count {
+    while k < stop {
         let start = k * 19;
         let end = start + 19;
         if record_equals(image, from, mask, pool, &records[start..end]) {
@@ -73,7 +84,7 @@ pub fn match_record(image: &[u8], from: usize, mask: u32, pool: &[u8], records: 
         }
         k = k + 1;
     }
-    k
+    count
 }
 
 // 0 for a block that is all zero, else 1.

@@ -10,6 +10,7 @@ ghost use Rattle.model.specs.Records.{isFree};
 ghost use Rattle.model.specs.Runs.{scan};
 ghost use Rattle.model.specs.Place.{placeSegment, nonNull};
 ghost use Rattle.model.specs.Table.{recordsIn, shelfIn};
+ghost use Rattle.place_seek.specs.Seek.{RestFree};
 ghost use Rattle.place_words.specs.Words.{asOption};
 ghost use Rattle.runs.specs.Runs.{asRun};
 ghost use Rattle.place_one.specs.Did.{Did};
@@ -64,9 +65,8 @@ fn write_segment(
     requires { ⌜ Ready from (now pool) (now records) (now free) (now words) × Masked (now image) from mask × Unmatched (now image) from (now pool) (now records) ⌝ }
     ensures { λ r. ⌜ Did (shelfIn baseMeasures (now (pool .entry)) (now (records .entry))) (placeSegment (shelfIn baseMeasures (now (pool .entry)) (now (records .entry))) (blocksFrom 64 (now (image .entry)) from 8)) (r .refusal) (r .record) (now (pool .entry)) (now (records .entry)) (now (pool .exit)) (now (records .exit)) (now (free .exit)) (now (words .exit)) ⌝ }
 {
-    let count = records.len() / 19;
     let k = place_seek::free_record(records);
-    if k == count {
+    if k == records.len() / 19 {
         return Placing {
             refusal: 14,
             record: 0,
@@ -80,7 +80,6 @@ fn write_segment(
             record: 0,
         };
     }
-    let n = k as u32;
     write_record(
         image,
         from,
@@ -89,26 +88,27 @@ fn write_segment(
         free,
         words,
         mask,
-        RecordNumber(n),
+        RecordNumber(k as u32),
         run,
     )
 }
 
-// A segment that is not null.
+// A segment that is not null. The records from `used` on are free.
 fn place_blocks(
     image: &[u8],
     from: usize,
     pool: &mut [u8],
     records: &mut [u32],
+    used: usize,
     free: &mut [bool],
     words: &mut [u32],
     mask: u32,
 ) -> Placing
-    requires { ⌜ Ready from (now pool) (now records) (now free) (now words) × Masked (now image) from mask ⌝ }
+    requires { ⌜ Ready from (now pool) (now records) (now free) (now words) × Masked (now image) from mask × RestFree used (recordsIn 8 (now records)) ⌝ }
     ensures { λ r. ⌜ Did (shelfIn baseMeasures (now (pool .entry)) (now (records .entry))) (placeSegment (shelfIn baseMeasures (now (pool .entry)) (now (records .entry))) (blocksFrom 64 (now (image .entry)) from 8)) (r .refusal) (r .record) (now (pool .entry)) (now (records .entry)) (now (pool .exit)) (now (records .exit)) (now (free .exit)) (now (words .exit)) ⌝ }
 {
     let count = records.len() / 19;
-    let k = place_match::match_record(image, from, mask, pool, records);
+    let k = place_match::match_record(image, from, mask, pool, records, used);
     if k == count {
         return write_segment(image, from, pool, records, free, words, mask);
     }
@@ -121,15 +121,17 @@ fn place_blocks(
     Placing { refusal: 0, record }
 }
 
+// The records from `used` on are free.
 pub fn place_segment(
     image: &[u8],
     from: usize,
     pool: &mut [u8],
     records: &mut [u32],
+    used: usize,
     free: &mut [bool],
     words: &mut [u32],
 ) -> Placing
-    requires { ⌜ Ready from (now pool) (now records) (now free) (now words) ⌝ }
+    requires { ⌜ Ready from (now pool) (now records) (now free) (now words) × RestFree used (recordsIn 8 (now records)) ⌝ }
     ensures { λ r. ⌜ Did (shelfIn baseMeasures (now (pool .entry)) (now (records .entry))) (placeSegment (shelfIn baseMeasures (now (pool .entry)) (now (records .entry))) (blocksFrom 64 (now (image .entry)) from 8)) (r .refusal) (r .record) (now (pool .entry)) (now (records .entry)) (now (pool .exit)) (now (records .exit)) (now (free .exit)) (now (words .exit)) ⌝ }
 {
     let mask = place_match::segment_mask(image, from);
@@ -140,5 +142,5 @@ pub fn place_segment(
             record: 0,
         };
     }
-    place_blocks(image, from, pool, records, free, words, mask)
+    place_blocks(image, from, pool, records, used, free, words, mask)
 }

@@ -1,4 +1,4 @@
-// The search for a free record, and which cells are free.
+// The search for a free record, how many records are in use, and which cells are free.
 ghost use mathlib.Core.Path.{_≡_};
 ghost use mathlib.Core.List.{List, []};
 ghost use Prim.Native.Nat.{ℕ, _+_, _*_, _/_, _≤_, _<_};
@@ -7,7 +7,7 @@ ghost use Rattle.lists.specs.Lists.{firstFrom};
 ghost use Rattle.model.specs.Records.{isFree, cellsOf, namedCells};
 ghost use Rattle.model.specs.Table.{segmentIn, recordsIn};
 ghost use Rattle.place_words.specs.Words.{asOption, keptCell, RowFits, RowSays};
-ghost use Rattle.place_seek.specs.Seek.{taken};
+ghost use Rattle.place_seek.specs.Seek.{taken, RestFree};
 use numbers::Cell;
 
 // Whether a record is free.
@@ -38,6 +38,25 @@ pub fn free_record(records: &[u32]) -> usize
         k = k + 1;
     }
     k
+}
+
+// All records from this number on are free: it is the highest one in use and 1.
+pub fn used_records(records: &[u32]) -> usize
+    requires { ⌜ (length (now records) / 19 ≤ 4096) × (length (now records) ≡ length (now records) / 19 * 19) ⌝ }
+    requires { ⌜ ((k : ℕ) → k < length (now records) / 19 → RowSays (take 19 (drop (k * 19) (now records)))) ⌝ }
+    ensures { λ r. ⌜ (r ≤ length (now (records .entry)) / 19) × RestFree r (recordsIn 8 (now (records .entry))) ⌝ }
+{
+    let mut used = records.len() / 19;
+    while 0 < used {
+        let last = used - 1;
+        let start = last * 19;
+        let end = start + 19;
+        if !row_free(&records[start..end]) {
+            return used;
+        }
+        used = last;
+    }
+    used
 }
 
 // A cell is taken, where the bit is set.

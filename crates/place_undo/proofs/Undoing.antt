@@ -27,6 +27,7 @@ use Rattle.place_words.proofs.Reading.{cellWords}
 use Rattle.place_words.proofs.Rowing.{words-counts}
 use Rattle.place_words.proofs.Storing.{Back, bytes-back, cells-put, count-is, pool-back, row-is, row-nineteen, stored-back, table-put, words-back}
 use Rattle.place_undo.specs.Undo.{Holds, Steps, undoIn, undoMark, undoRecord, undoUpto}
+use Rattle.laws.proofs.RoundTrip.{free-words}
 
 -- ---- low words
 
@@ -73,10 +74,6 @@ less-cells [] = refl
 less-cells (nullPosition ∷ ps) = less-cells ps
 less-cells (held c n ∷ ps) = ap (λ (l : List ℕ). c ∷ l) (less-cells ps)
 less-cells (removed ∷ ps) = less-cells ps
-
-free-words : recordToWords (freeSegment 8) ≡ replicate 19 0
-unfolding recordToWords freeSegment maskOf
-free-words = refl
 
 cut : (l : List ℕ) (a : ℕ) → take 8 (drop 11 (take 19 (drop a l))) ≡ take 8 (drop (a + 11) l)
 cut l a = part-part l a 19 11 8 (omega arith)

@@ -19,7 +19,7 @@ use Rattle.model.specs.Sound.{isSound, areCounted, allCounted, allPointers}
 use Rattle.model.specs.State.{Block, Pointer, Position, nullPosition, held, removed, Segment, Shelf, State}
 use Rattle.model.specs.Table.{shelfIn}
 use Rattle.laws.proofs.Bounds.{count-bound}
-use Rattle.laws.proofs.Counts.{at}
+use Rattle.laws.proofs.Counts.{at, held-positive}
 use Rattle.laws.proofs.Fits.{StateFits, state-fits, base-fit}
 use Rattle.laws.proofs.Named.{inside-any}
 use Rattle.laws.proofs.Place.{held-named, zero-eq}
@@ -31,22 +31,6 @@ use Rattle.place_words.specs.Stored.{PositionFits, SegmentFits, Wf, Stored, Who
 use Rattle.place_words.proofs.Storing.{Back, stored-back}
 
 -- ---- what a held position has
-
-positive-in : (ps : List Pointer) (k i : ℕ) (seg : Segment) → areCounted ps k i seg ≡ true → (j : ℕ)
-    → isHeld (getD seg j nullPosition) ≡ true → 0 < countOf (getD seg j nullPosition)
-unfolding areCounted
-positive-in ps k i [] h j e = absurd (false≢true e)
-positive-in ps k i (nullPosition ∷ seg) h zero e = absurd (false≢true e)
-positive-in ps k i (held c n ∷ seg) h zero e = ltb-true 0 n (clause _ 0 (clause _ 0 h))
-positive-in ps k i (removed ∷ seg) h zero e = absurd (false≢true e)
-positive-in ps k i (p ∷ seg) h (suc j) e = positive-in ps k (suc i) seg (clause _ 1 h) j e
-
-positive : (ps : List Pointer) (k : ℕ) (segs : List Segment) → allCounted ps k segs ≡ true → (j i : ℕ)
-    → isHeld (at segs j i) ≡ true → 0 < countOf (at segs j i)
-unfolding allCounted
-positive ps k [] h j i e = absurd (false≢true e)
-positive ps k (seg ∷ segs) h zero i e = positive-in ps k 0 seg (clause _ 0 h) i e
-positive ps k (seg ∷ segs) h (suc j) i e = positive ps (suc k) segs (clause _ 1 h) j i e
 
 position-fits : (bound n : ℕ) (p : Position) → (isHeld p ≡ true → (cellOf p < n) × (0 < countOf p) × (countOf p < bound)) → PositionFits bound n p
 position-fits bound n nullPosition f = tt
@@ -75,7 +59,7 @@ module _ (c : Capacities) (st : State) (sound : isSound (shapeFor c) st ≡ true
   unfolding isSound
   held-fits k i e = (
     inside-any (st .shelf) (v .exact) _ (omega (arith, held-named (getD (st .shelf .records) k []) i e, named-one (cellOf (at (st .shelf .records) k i)) (st .shelf .records) k)),
-    positive (allPointers (st .tills)) 0 (st .shelf .records) (clause _ 5 sound) k i e,
+    held-positive (allPointers (st .tills)) 0 (st .shelf .records) (clause _ 5 sound) k i e,
     omega (arith, count-bound (shapeFor c) (base-fit c) st sound k i),
   )
 

@@ -13,7 +13,7 @@ use Rattle.lists.proofs.Slices.{drop-end}
 use Rattle.lists.proofs.Filled.{shift-fill}
 use Rattle.model.specs.State.{Version, Till}
 use Rattle.model.specs.Table.{versionToWords, tillToWords}
-use Rattle.laws.proofs.RoundTrip.{length-version, length-till}
+use Rattle.laws.proofs.RoundTrip.{length-version, length-till, held-word}
 use Rattle.slots.specs.Slots.{withoutOldest}
 
 -- ---- a till's slots
@@ -36,10 +36,6 @@ till-shift v b last u vs h =
     (ap (λ (z : List ℕ). last ∷ length vs ∷ 0 ∷ 0 ∷ z)
     (shift-fill (v * (3 + b)) (3 + b) (versionToWords b u) (rows (versionToWords b) vs) (length-version b u)
     (omega (arith, rows-most v b (u ∷ vs) h, length-append (versionToWords b u) (rows (versionToWords b) vs), length-version b u))))
-
-pub held-word : (v b : ℕ) (t : Till) → getD (tillToWords v b t) 1 0 ≡ length (t .versions)
-unfolding tillToWords
-held-word v b t = refl
 
 without : (v b : ℕ) (t : Till) → length (t .versions) ≤ v → 0 < getD (tillToWords v b t) 1 0 → movedDown b (tillToWords v b t) ≡ tillToWords v b (withoutOldest t)
 without v b t h some = go (t .last) (t .versions) h some

@@ -13,6 +13,7 @@ use Rattle.laws.proofs.Stores.{tillAt, Sound, Header, header}
 use Rattle.laws.proofs.Tills.{From, till, given, last-most, numbers, in-words, last-word, held-word, oldest-from, newest-from}
 use Rattle.tills.specs.declared.Head.{Head}
 use Rattle.tills.specs.Answers.{tillSize, HeadOf}
+use Rattle.lists.proofs.Slices.{none-left}
 
 pub small : (table : List ℕ) → Header table → (t : ℕ) → t ≤ 16 → (tillSize table ≤ 65732) × (t * tillSize table ≤ 1051712)
 small table h t n = let (a, b) = sizes t (getD table 1 0) (getD table 2 0) n (h .versions) (h .blocks) in (omega (arith, a), b)
@@ -36,10 +37,6 @@ module _ {pool table : List ℕ} (h : Sound pool table) (t : ℕ) (in-table : t 
     held = ap (λ (i : ℕ). getD table (i + 1) 0) begins ∙ held-word h t in-table;
   }
 
-none : (vs : List Version) → length vs ≡ 0 → vs ≡ []
-none [] z = refl
-none (v ∷ vs) z = absurd (omega (arith, z))
-
 module _ {pool table : List ℕ} (h : Sound pool table) (t : ℕ) where
   pub no-till : getD table 0 0 ≤ t → record { refusal = 3; oldest = 0; newest = 0; last = 0 } ≡ listingOf pool table t
   unfolding listingOf listingIn listingRefusal shapeOf
@@ -55,7 +52,7 @@ module _ {pool table : List ℕ} (h : Sound pool table) (t : ℕ) where
     none-held e = go (till h t in-table) (sym (o .held) ∙ e) (o .last) ∙ sym answer
       where
         go : (x : Till) → length (x .versions) ≡ 0 → r .last ≡ x .last → record { refusal = 0; oldest = 0; newest = 0; last = r .last } ≡ listTill x
-        go x z l = rw (l, none (x .versions) z)
+        go x z l = rw (l, none-left (x .versions) z)
 
     pub some-held : (r .held ≡ 0 → ⊥) → record { refusal = 0; oldest = r .last - r .held + 1; newest = r .last; last = r .last } ≡ listingOf pool table t
     unfolding listTill

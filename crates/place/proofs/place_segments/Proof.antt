@@ -6,30 +6,42 @@ use lib.Seq.{length-take-le}
 use borrow.Author.Needs.{needs}
 use denote.Ref.{now}
 use Rattle.lists.specs.Walk.{placed}
+use Rattle.model.specs.Table.{shelfIn}
 use Rattle.place.specs.All.{segmentsIn}
 use Rattle.place.proofs.Along.{Along, along-end, along-start, along-step, along-stop, along-undone}
 use Rattle.place.proofs.place_segments.Statement.{statement}
 use Rattle.place.proofs.place_segments.Tie as tie
 
 abbrev Inv-loop : tie.InvT-loop
-Inv-loop image pool₀ records₀ free₀ placed₀ words₀ n from₀ j₀ pool records free placed words from j = (n ≡ segmentsIn image) × Along image pool₀ records₀ free₀ placed₀ words₀ n pool records free placed words from j
+Inv-loop image pool₀ records₀ free₀ placed₀ words₀ n used from₀ j₀ pool records free placed words from j = (n ≡ segmentsIn image) × Along image pool₀ records₀ free₀ placed₀ words₀ n used pool records free placed words from j
 
 abbrev μ-loop : tie.MeasureT-loop
-μ-loop image pool₀ records₀ free₀ placed₀ words₀ n from₀ j₀ pool records free placed words from j = n - j
+μ-loop image pool₀ records₀ free₀ placed₀ words₀ n used from₀ j₀ pool records free placed words from j = n - j
 
 add-n : tie.Need-add-n Inv-loop μ-loop
 add-n c = search needs
 
+used-records-requires : tie.Need-used-records-requires Inv-loop μ-loop
+used-records-requires c κs =
+    let a = c .before .before .before .before .before .before .before in
+    let st = a .pre .0 .stored in
+    ((st .sized .mostRecords, st .sized .tableSize), st .says)
+
 loop-holds : tie.Need-loop-holds Inv-loop μ-loop
 loop-holds c =
-    let a = c .before .before .before .before .before .before in
-    (refl, along-start (now (a .args .image)) (now (a .args .pool)) (now (a .args .records)) (now (a .args .free)) (now (a .args .placed)) (now (a .args .words)) _ refl (a .pre .0 .stored) (a .pre .1))
+    let a = c .before .before .before .before .before .before .before .before in
+    (refl, along-start (now (a .args .image)) (now (a .args .pool)) (now (a .args .records)) (now (a .args .free)) (now (a .args .placed)) (now (a .args .words)) _ _ refl (a .pre .0 .stored) (a .pre .1) (c .used-records .ensures .1))
 
 mul-first : tie.Need-mul-first Inv-loop μ-loop
 mul-first c = search needs
 
 add-end : tie.Need-add-end Inv-loop μ-loop
 add-end c = search needs
+
+add-most : tie.Need-add-most Inv-loop μ-loop
+add-most c =
+    let a = c .before .before .before .before .before .before .before .before .before .before in
+    omega (arith, c .before .before .used-records .ensures .0, a .pre .0 .stored .sized .mostRecords, c .before .loop .inv .0, a .pre .0 .most)
 
 mul-place-segment : tie.Need-mul-place-segment Inv-loop μ-loop
 mul-place-segment c = omega (arith, c .before .before .before .before .loop .inv .1 .sameWords)
@@ -46,18 +58,20 @@ part-place-segment-end c = omega (arith, c .before .before .before .before .loop
 place-segment-requires : tie.Need-place-segment-requires Inv-loop μ-loop
 place-segment-requires c κs =
     let l = c .before .before .before .before .before .loop in
-    let n : l .j * 8 + 8 - l .j * 8 ≡ 8 = omega arith in
-    record {
-      begins = omega (arith, l .inv .1 .begins);
-      stored = l .inv .1 .stored;
-      cells = l .inv .1 .cells;
-      eight = rw n (length-take-le 8 (drop (l .j * 8) (l .words)) (omega (arith, l .inv .1 .sameWords, length-drop (l .j * 8) (l .words))));
-    }
+    let n : l .j * 8 + 8 - l .j * 8 ≡ 8 = omega arith in (
+      record {
+        begins = omega (arith, l .inv .1 .begins);
+        stored = l .inv .1 .stored;
+        cells = l .inv .1 .cells;
+        eight = rw n (length-take-le 8 (drop (l .j * 8) (l .words)) (omega (arith, l .inv .1 .sameWords, length-drop (l .j * 8) (l .words))));
+      },
+      unfold shelfIn in l .inv .1 .rest,
+    )
 
 undo-all-requires : tie.Need-undo-all-requires Inv-loop μ-loop
 undo-all-requires c κs =
     let l = c .before .before .before .before .before .before .before .before .before .before .before .before .before .before .before .before .before .before .loop in
-    let a = c .before .before .before .before .before .before .before .before .before .before .before .before .before .before .before .before .before .before .before .before .before .before .before .before .before in
+    let a = c .before .before .before .before .before .before .before .before .before .before .before .before .before .before .before .before .before .before .before .before .before .before .before .before .before .before .before in
     let p = c .before .before .before .before .before .before .before .before .before .before .before .before .place-segment in
     let q = along-stop (l .inv .1) (c .before .before .before .before .before .before .before .before .before .before .before .before .before .before .before .before .before .loop-test .taken) (omega (arith, l .inv .0, a .pre .0 .most)) (a .pre .2) (omega (arith, l .inv .0, a .pre .0 .room)) _ _ _ _ _ _ (p .ensures) (c .before .before .before .if1 .taken) in
     (q .0, omega (arith, l .inv .0, a .pre .0 .most, l .inv .1 .samePlaced, a .pre .2, c .before .before .before .before .before .before .before .before .before .before .before .before .before .before .before .before .before .loop-test .taken), q .1)
@@ -80,7 +94,7 @@ same-length-5 c = omega (arith, c .before .before .before .before .before .befor
 returns : tie.Need-returns Inv-loop μ-loop
 returns c =
     let l = c .before .before .before .before .before .before .before .before .before .before .before .before .before .before .before .before .before .before .before .before .before .before .before .loop in
-    let a = c .before .before .before .before .before .before .before .before .before .before .before .before .before .before .before .before .before .before .before .before .before .before .before .before .before .before .before .before .before .before in
+    let a = c .before .before .before .before .before .before .before .before .before .before .before .before .before .before .before .before .before .before .before .before .before .before .before .before .before .before .before .before .before .before .before .before in
     let p = c .before .before .before .before .before .before .before .before .before .before .before .before .before .before .before .before .before .place-segment in
     let q = along-stop (l .inv .1) (c .before .before .before .before .before .before .before .before .before .before .before .before .before .before .before .before .before .before .before .before .before .before .loop-test .taken) (omega (arith, l .inv .0, a .pre .0 .most)) (a .pre .2) (omega (arith, l .inv .0, a .pre .0 .room)) _ _ _ _ _ _ (p .ensures) (c .before .before .before .before .before .before .before .before .if1 .taken) in
     along-undone (l .inv .1) (a .pre .0 .stored) (p .result .refusal) _ _ _ _ (q .2) (q .3) (c .before .before .before .before .undo-all .ensures)
@@ -103,7 +117,7 @@ loop-less c = search needs
 loop-again : tie.Need-loop-again Inv-loop μ-loop
 loop-again c =
     let l = c .before .before .before .before .before .before .before .before .before .before .before .before .before .before .before .loop in
-    let a = c .before .before .before .before .before .before .before .before .before .before .before .before .before .before .before .before .before .before .before .before .before .before in
+    let a = c .before .before .before .before .before .before .before .before .before .before .before .before .before .before .before .before .before .before .before .before .before .before .before .before in
     let p = c .before .before .before .before .before .before .before .before .before .place-segment in
     let n : l .j * 8 + 8 - l .j * 8 ≡ 8 = omega arith in
     (l .inv .0, rw n (along-step (l .inv .1) (c .before .before .before .before .before .before .before .before .before .before .before .before .before .before .loop-test .taken) (omega (arith, l .inv .0, a .pre .0 .most)) (a .pre .2) (omega (arith, l .inv .0, a .pre .0 .room)) _ _ _ _ _ _ (omega arith) (omega arith) (omega arith) (omega arith) (p .ensures) (omega (arith, c .if1 .left))))
@@ -135,9 +149,11 @@ place-segments-spec =
     Inv-loop
     μ-loop
     add-n
+    used-records-requires
     loop-holds
     mul-first
     add-end
+    add-most
     mul-place-segment
     sub-place-segment
     part-place-segment-start

@@ -27,7 +27,7 @@ null-requires c κs = search needs
 
 -- src/lib.rt:137:9
 put-places-requires : tie.Need-put-places-requires
-put-places-requires c κs = (omega (arith, c .before .before .before .before .before .before .before .before .before .pre .eight), omega (arith, null-word, c .null .ensures))
+put-places-requires c κs = (omega (arith, c .before .before .before .before .before .before .before .before .before .pre .0 .eight), omega (arith, null-word, c .null .ensures))
 
 -- src/lib.rt:138:9
 same-length : tie.Need-same-length
@@ -37,7 +37,7 @@ same-length c = search needs
 returns : tie.Need-returns
 returns c =
     let a = c .before .before .before .before .before .before .before .before .before .before .before .before in
-    did-null (now (a .args .image)) (a .args .from) (now (a .args .pool)) (now (a .args .records)) (now (a .args .free)) (now (a .args .words)) (a .pre) (c .before .before .before .before .before .before .segment-mask .result) (c .before .before .before .before .before .before .segment-mask .ensures .0) (c .before .before .before .before .before .if1 .taken) _
+    did-null (now (a .args .image)) (a .args .from) (now (a .args .pool)) (now (a .args .records)) (now (a .args .free)) (now (a .args .words)) (a .pre .0) (c .before .before .before .before .before .before .segment-mask .result) (c .before .before .before .before .before .before .segment-mask .ensures .0) (c .before .before .before .before .before .if1 .taken) _
     (c .before .before .put-places .ensures ∙ ap (λ (p : ℕ). placed 0 p (now (a .args .words))) (c .before .before .before .null .ensures ∙ null-word))
 
 -- src/lib.rt:143:5

@@ -69,8 +69,8 @@ returns-2 c =
     (sym (as-found a _ (c .before .before .best-run .ensures)) ∙ run-none _ _ (c .if2 .taken))
 
 -- src/lib.rt:83:13
-cast-n : tie.Need-cast-n
-cast-n c = search needs
+cast-t16 : tie.Need-cast-t16
+cast-t16 c = search needs
 
 -- src/lib.rt:84:5
 write-record-requires : tie.Need-write-record-requires
@@ -117,7 +117,7 @@ write-segment-spec =
     same-length-2
     same-length-3
     returns-2
-    cast-n
+    cast-t16
     write-record-requires
     same-length-4
     same-length-5
