@@ -1,0 +1,101 @@
+// The page's unstarred cases, and long drawn histories on small stores beside a keeper of whole images. Prints what was counted.
+use layout::Capacities;
+use trial_report::tell;
+
+fn capacities(tills: u32, versions: u32, blocks: u32, records: u32, cells: u32) -> Capacities {
+    Capacities {
+        tills,
+        versions,
+        blocks,
+        records,
+        cells,
+    }
+}
+
+// The page's store, some that run out of records or of cells, the least, a roomy one.
+fn store_of(n: u32) -> Capacities {
+    match n % 7 {
+        0 => capacities(1, 4, 16, 8, 32),
+        1 => capacities(2, 3, 10, 6, 24),
+        2 => capacities(3, 2, 5, 3, 12),
+        3 => capacities(1, 1, 1, 1, 1),
+        4 => capacities(2, 5, 20, 16, 64),
+        5 => capacities(3, 5, 9, 20, 20),
+        _ => capacities(1, 5, 17, 4, 60),
+    }
+}
+
+fn histories(
+    count: u32,
+    pool: &mut [u8],
+    table: &mut [u32],
+    images: &mut [u8],
+    notes: &mut [u32],
+    image: &mut [u8],
+    output: &mut [u8],
+    counts: &mut [u64],
+) {
+    let mut n = 0;
+    while n < count {
+        trial_history::history(
+            store_of(n),
+            n as u64 + 1,
+            1000,
+            pool,
+            table,
+            images,
+            notes,
+            image,
+            output,
+            counts,
+        );
+        n += 1;
+    }
+}
+
+fn cases_and_refusals(
+    pool: &mut [u8],
+    table: &mut [u32],
+    images: &mut [u8],
+    notes: &mut [u32],
+    image: &mut [u8],
+    output: &mut [u8],
+    counts: &mut [u64],
+) {
+    trial_cases::unstarred(pool, table, image, output);
+    trial_refusals::layouts(pool, table, counts);
+    trial_refusals::last_number(50, image, pool, table, images, notes, counts);
+}
+
+fn trial(
+    pool: &mut [u8],
+    table: &mut [u32],
+    images: &mut [u8],
+    notes: &mut [u32],
+    image: &mut [u8],
+    output: &mut [u8],
+    counts: &mut [u64],
+) {
+    cases_and_refusals(pool, table, images, notes, image, output, counts);
+    histories(14, pool, table, images, notes, image, output, counts);
+    tell::report(counts);
+}
+
+fn main() {
+    let mut pool = [0u8; 4096];
+    let mut table = [0u32; 600];
+    let mut images = [0u8; 19200];
+    let mut notes = [0u32; 21];
+    let mut image = [0u8; 1408];
+    let mut output = [0u8; 1408];
+    let mut counts = [0u64; 34];
+    trial(
+        &mut pool,
+        &mut table,
+        &mut images,
+        &mut notes,
+        &mut image,
+        &mut output,
+        &mut counts,
+    );
+}

@@ -1,0 +1,165 @@
+// Each call made on the store, its answer judged.
+ghost use Prim.Native.Nat.{_≤_};
+ghost use lib.ListN.{length};
+use layout::Capacities;
+use restore::Restored;
+use trial_report::counts;
+
+pub fn table_length(c: Capacities, counts: &mut [u64], expected: u32) {
+    let a = store::table_length(c);
+    counts::answered(counts, counts::LENGTHS, a.refusal, expected);
+}
+
+pub fn lay_out(
+    c: Capacities,
+    pool: &mut [u8],
+    table: &mut [u32],
+    counts: &mut [u64],
+    expected: u32,
+) {
+    let before = trial_compare::sum_of(pool, table);
+    let refusal = store::lay_out(pool, table, c);
+    counts::answered(counts, counts::LAYOUTS, refusal, expected);
+    trial_judge::buffers(refusal, before, pool, table, counts);
+}
+
+pub fn back_up(
+    c: Capacities,
+    till: u32,
+    image: &[u8],
+    pool: &mut [u8],
+    table: &mut [u32],
+    images: &mut [u8],
+    notes: &mut [u32],
+    counts: &mut [u64],
+) {
+    let before = trial_compare::sum_of(pool, table);
+    let a = store::backup(pool, table, till, image);
+    trial_judge::buffers(a.refusal, before, pool, table, counts);
+    trial_judge::backed_up(a, c, till, image, images, notes, counts);
+}
+
+pub fn retire(
+    c: Capacities,
+    till: u32,
+    version: u32,
+    pool: &mut [u8],
+    table: &mut [u32],
+    notes: &mut [u32],
+    counts: &mut [u64],
+) {
+    let before = trial_compare::sum_of(pool, table);
+    let a = store::retire(pool, table, till, version);
+    trial_judge::buffers(a.refusal, before, pool, table, counts);
+    trial_judge::retired(a, c, till, version, notes, counts);
+}
+
+// Marks the output and restores into its first `room` bytes.
+fn restore_into(
+    pool: &[u8],
+    table: &[u32],
+    till: u32,
+    version: u32,
+    room: usize,
+    output: &mut [u8],
+) -> Restored
+    requires { ⌜ room ≤ length (now output) ⌝ }
+{
+    trial_compare::mark(output);
+    store::restore(pool, table, till, version, &mut output[0..room])
+}
+
+pub fn restore(
+    c: Capacities,
+    till: u32,
+    version: u32,
+    room: usize,
+    pool: &[u8],
+    table: &[u32],
+    images: &[u8],
+    notes: &[u32],
+    output: &mut [u8],
+    counts: &mut [u64],
+) {
+    if output.len() < room {
+        counts::expect(counts, false);
+        return;
+    }
+    let a = restore_into(pool, table, till, version, room, output);
+    trial_judge::restored(a, c, till, version, room, images, notes, output, counts);
+}
+
+pub fn list(
+    c: Capacities,
+    till: u32,
+    pool: &[u8],
+    table: &[u32],
+    notes: &[u32],
+    counts: &mut [u64],
+) {
+    trial_judge::listed(store::listing(pool, table, till), c, till, notes, counts);
+}
+
+// The cells tallied are those with a byte other than zero; each has a count, and each record a cell.
+pub fn tally(c: Capacities, pool: &[u8], table: &[u32], counts: &mut [u64]) {
+    let a = store::tally(pool, table);
+    counts::answered(counts, counts::TALLIES, a.refusal, 0);
+    counts::expect(
+        counts,
+        a.cells == trial_compare::filled_cells(pool, c.cells),
+    );
+    counts::expect(counts, a.cells <= a.counts);
+    counts::expect(counts, a.records <= a.cells);
+}
+
+fn refuse_writes(
+    till: u32,
+    version: u32,
+    image: &[u8],
+    pool: &mut [u8],
+    table: &mut [u32],
+    counts: &mut [u64],
+) {
+    let before = trial_compare::sum_of(pool, table);
+    let a = store::backup(pool, table, till, image);
+    let b = store::retire(pool, table, till, version);
+    counts::answered(counts, counts::BACKUPS, a.refusal, 10);
+    counts::answered(counts, counts::RETIRES, b.refusal, 10);
+    trial_judge::buffers(10, before, pool, table, counts);
+}
+
+fn refuse_restore(
+    till: u32,
+    version: u32,
+    pool: &[u8],
+    table: &[u32],
+    output: &mut [u8],
+    counts: &mut [u64],
+) {
+    trial_compare::mark(output);
+    let a = store::restore(pool, table, till, version, output);
+    counts::answered(counts, counts::RESTORES, a.refusal, 10);
+    trial_judge::not_restored(a, output, counts);
+}
+
+fn refuse_reads(till: u32, pool: &[u8], table: &[u32], counts: &mut [u64]) {
+    let a = store::listing(pool, table, till);
+    counts::answered(counts, counts::LISTINGS, a.refusal, 10);
+    let b = store::tally(pool, table);
+    counts::answered(counts, counts::TALLIES, b.refusal, 10);
+}
+
+// All calls on what is no sound store.
+pub fn refuse_all(
+    till: u32,
+    version: u32,
+    image: &[u8],
+    pool: &mut [u8],
+    table: &mut [u32],
+    output: &mut [u8],
+    counts: &mut [u64],
+) {
+    refuse_writes(till, version, image, pool, table, counts);
+    refuse_restore(till, version, pool, table, output, counts);
+    refuse_reads(till, pool, table, counts);
+}

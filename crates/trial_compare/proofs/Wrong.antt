@@ -1,0 +1,91 @@
+-- The counts of wrong bytes, taken place by place. Assumes nothing.
+use mathlib.Core.Path.{_≡_, refl, sym, ap, _∙_}
+use mathlib.Core.Bool.{Bool, true, false}
+use mathlib.Core.List.{List, [], _∷_, _++_, append-nil}
+use Prim.Native.Nat.{ℕ, zero, suc, _+_, _-_, _≤_, _<_}
+use native.Mathlib.Nat.{le-of-suc-le-suc, not-suc-le-zero}
+use native.Mathlib.Numerals.{add-one}
+use native.Mathlib.Omega.{arith}
+use borrow.Author.Tests.{eqb-true, eq-eqb, ne-eqb}
+use lib.Dec.{eqb}
+use lib.ListN.{length, getD, drop, replicate, length-drop, drop-of-length-le}
+use lib.Seq.{drop-cons}
+use Rattle.trial_compare.specs.Bytes.{oneIfNot, wrongHead, tail, wrongBytes, others}
+
+pub drop-next : (l : List ℕ) (i : ℕ) → i < length l → drop i l ≡ getD l i 0 ∷ drop (i + 1) l
+drop-next l i h = rw (add-one i) (drop-cons l i 0 h)
+
+tail-drop-suc : (l : List ℕ) (i : ℕ) → tail (drop i l) ≡ drop (suc i) l
+unfolding tail
+tail-drop-suc [] zero = refl
+tail-drop-suc [] (suc i) = refl
+tail-drop-suc (x ∷ l) zero = refl
+tail-drop-suc (x ∷ l) (suc i) = tail-drop-suc l i
+
+tail-drop : (l : List ℕ) (i : ℕ) → tail (drop i l) ≡ drop (i + 1) l
+tail-drop l i = rw (add-one i) (tail-drop-suc l i)
+
+-- ---- one place
+
+pub head-same : (l : List ℕ) (i x : ℕ) → i < length l → getD l i 0 ≡ x → wrongHead x (drop i l) ≡ 0
+unfolding wrongHead oneIfNot
+head-same l i x h e = rw (drop-next l i h, eq-eqb (getD l i 0) x e)
+
+pub head-other : (l : List ℕ) (i x : ℕ) → i < length l → (getD l i 0 ≡ x → ⊥) → wrongHead x (drop i l) ≡ 1
+unfolding wrongHead oneIfNot
+head-other l i x h e = rw (drop-next l i h, ne-eqb (getD l i 0) x e)
+
+pub head-none : (l : List ℕ) (i x : ℕ) → length l ≤ i → wrongHead x (drop i l) ≡ 1
+unfolding wrongHead
+head-none l i x h = rw (drop-of-length-le l {i = i} h)
+
+-- ---- two lists
+
+pub wrong-next :
+    (a b : List ℕ) (i : ℕ) → i < length a → wrongBytes (drop i a) (drop i b) ≡ wrongHead (getD a i 0) (drop i b) + wrongBytes (drop (i + 1) a) (drop (i + 1) b)
+unfolding wrongBytes
+wrong-next a b i h =
+    ap (λ (l : List ℕ). wrongBytes l (drop i b)) (drop-next a i h)
+    ∙ ap (λ (l : List ℕ). wrongHead (getD a i 0) (drop i b) + wrongBytes (drop (i + 1) a) l) (tail-drop b i)
+
+pub wrong-end : (a b : List ℕ) (i : ℕ) → length a ≤ i → wrongBytes (drop i a) (drop i b) ≡ length b - i
+unfolding wrongBytes
+wrong-end a b i h = ap (λ (l : List ℕ). wrongBytes l (drop i b)) (drop-of-length-le a {i = i} h) ∙ length-drop i b
+
+no-length : (b : List ℕ) → length b ≡ 0 → [] ≡ b
+no-length [] e = refl
+no-length (y ∷ b) e = absurd (let z : suc (length b) ≡ 0 = e in omega arith)
+
+-- a first byte that is not wrong is there, and the same
+head-zero : (x : ℕ) (ys : List ℕ) → wrongHead x ys ≡ 0 → ys ≡ x ∷ tail ys
+unfolding wrongHead tail oneIfNot
+head-zero x [] e = absurd (let z : _≡_ {A = ℕ} 1 0 = e in omega arith)
+head-zero x (y ∷ ys) e = go (eqb y x) refl e
+  where
+    go : (t : Bool) → eqb y x ≡ t → oneIfNot t ≡ 0 → y ∷ ys ≡ x ∷ ys
+    go true q z = ap (λ (n : ℕ). n ∷ ys) (eqb-true y x q)
+    go false q z = absurd (let w : _≡_ {A = ℕ} 1 0 = z in omega arith)
+
+pub none-wrong : (a b : List ℕ) → wrongBytes a b ≡ 0 → a ≡ b
+unfolding wrongBytes
+none-wrong [] b e = no-length b e
+none-wrong (x ∷ a) b e =
+    let s : wrongHead x b + wrongBytes a (tail b) ≡ 0 = e in
+    let h : wrongHead x b ≡ 0 = omega arith in
+    let t : wrongBytes a (tail b) ≡ 0 = omega arith in
+    ap (λ (l : List ℕ). x ∷ l) (none-wrong a (tail b) t) ∙ sym (head-zero x b h)
+
+-- ---- one list against one byte
+
+pub others-next : (x : ℕ) (l : List ℕ) (i : ℕ) → i < length l → others x (drop i l) ≡ wrongHead x (drop i l) + others x (drop (i + 1) l)
+unfolding others wrongHead
+others-next x l i h = rw (drop-next l i h)
+
+pub others-end : (x : ℕ) (l : List ℕ) (i : ℕ) → length l ≤ i → others x (drop i l) ≡ 0
+unfolding others
+others-end x l i h = rw (drop-of-length-le l {i = i} h)
+
+-- ---- a list filled to its end
+
+pub filled-up : (v : ℕ) (l : List ℕ) (i : ℕ) → i ≡ length l → replicate i v ++ drop i l ≡ replicate (length l) v
+filled-up v l i e = rw e (ap (λ (t : List ℕ). replicate (length l) v ++ t) (drop-of-length-le l {i = length l} (omega arith)) ∙ append-nil (replicate (length l) v))

@@ -1,0 +1,2 @@
+-- What the trial's contracts cite.
+pub mod Bytes

@@ -1,0 +1,71 @@
+// Images made from letters. A letter is a block: 0 is the null block, 1 is null up to its last byte, and 2k and 2k + 1 differ in their last byte only.
+use crate::dice::Dice;
+use crate::dice::mixed;
+
+// A seed gives each block its letter, but for one that is changed. If it repeats, all segments have the letters of the first.
+pub struct Plan {
+    pub seed: u64,
+    pub changed: usize,
+    pub letter: u8,
+    pub repeats: bool,
+}
+
+pub fn plan_of(d: Dice) -> Plan {
+    Plan {
+        seed: 1 + d.drawn(16, 4),
+        changed: d.drawn(24, 24) as usize,
+        letter: letter_of(d.drawn(32, 256)),
+        repeats: d.drawn(40, 4) == 0,
+    }
+}
+
+// Letters 0 to 8; one in four is 0.
+fn letter_of(x: u64) -> u8 {
+    let n = x % 11;
+    if n < 9 {
+        return n as u8;
+    }
+    0
+}
+
+fn letter_at(p: Plan, block: usize) -> u8 {
+    if block == p.changed {
+        return p.letter;
+    }
+    let mut n = block as u64;
+    if p.repeats {
+        n = n % 8;
+    }
+    letter_of(mixed(mixed(p.seed ^ (n << 20))))
+}
+
+fn byte_of(letter: u8, at: usize) -> u8 {
+    if at == 63 {
+        return letter;
+    }
+    letter / 2
+}
+
+pub fn fill(image: &mut [u8], p: Plan) {
+    let mut i = 0;
+    while i < image.len() {
+        image[i] = byte_of(letter_at(p, i / 64), i % 64);
+        i += 1;
+    }
+}
+
+// Each letter fills a block with itself; blocks past the last letter are null.
+pub fn spell(image: &mut [u8], letters: &[u8]) {
+    let mut i = 0;
+    while i < image.len() {
+        image[i] = letter_or_null(letters, i / 64);
+        i += 1;
+    }
+}
+
+fn letter_or_null(letters: &[u8], block: usize) -> u8 {
+    if block < letters.len() {
+        return letters[block];
+    }
+    0
+}

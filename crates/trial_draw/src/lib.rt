@@ -1,0 +1,3 @@
+// Drawn numbers, and images made from them.
+pub mod dice;
+pub mod images;

@@ -1,0 +1,177 @@
+// Answers of the store, held against the keeper's.
+use backup::BackedUp;
+use layout::Capacities;
+use restore::Restored;
+use retire::Retired;
+use tills::Listing;
+use trial_report::counts;
+
+// A refusal leaves the buffers as they were.
+pub fn buffers(refusal: u32, before: u64, pool: &[u8], table: &[u32], counts: &mut [u64]) {
+    if refusal != 0 {
+        counts::expect_unaltered(counts, trial_compare::sum_of(pool, table) == before);
+    }
+}
+
+// Whether there is room, 14 and 16, is for the store to say.
+fn or_full(expected: u32, refusal: u32) -> u32 {
+    if expected != 0 {
+        return expected;
+    }
+    if refusal == 14 {
+        return 14;
+    }
+    if refusal == 16 {
+        return 16;
+    }
+    0
+}
+
+fn backup_number(
+    c: Capacities,
+    till: u32,
+    bytes: usize,
+    refusal: u32,
+    notes: &[u32],
+    counts: &mut [u64],
+) {
+    let expected = or_full(trial_keeper::backup_refusal(c, notes, till, bytes), refusal);
+    counts::answered(counts, counts::BACKUPS, refusal, expected);
+}
+
+// An accepted image is filed.
+fn backup_version(
+    a: BackedUp,
+    till: u32,
+    image: &[u8],
+    images: &mut [u8],
+    notes: &mut [u32],
+    counts: &mut [u64],
+) {
+    if a.refusal == 0 {
+        trial_keeper::file(images, notes, till, image);
+        counts::expect(counts, a.version == trial_keeper::last(notes, till));
+    } else {
+        counts::expect(counts, a.version == 0);
+    }
+}
+
+pub fn backed_up(
+    a: BackedUp,
+    c: Capacities,
+    till: u32,
+    image: &[u8],
+    images: &mut [u8],
+    notes: &mut [u32],
+    counts: &mut [u64],
+) {
+    backup_number(c, till, image.len(), a.refusal, notes, counts);
+    backup_version(a, till, image, images, notes, counts);
+}
+
+fn retire_number(
+    c: Capacities,
+    till: u32,
+    version: u32,
+    refusal: u32,
+    notes: &[u32],
+    counts: &mut [u64],
+) {
+    let expected = trial_keeper::retire_refusal(c, notes, till, version);
+    counts::answered(counts, counts::RETIRES, refusal, expected);
+}
+
+pub fn retired(
+    a: Retired,
+    c: Capacities,
+    till: u32,
+    version: u32,
+    notes: &mut [u32],
+    counts: &mut [u64],
+) {
+    retire_number(c, till, version, a.refusal, notes, counts);
+    if a.refusal == 0 {
+        counts::expect(
+            counts,
+            a.length == trial_keeper::length(notes, till, version),
+        );
+        trial_keeper::strike(notes, till, version);
+    } else {
+        counts::expect(counts, a.length == 0);
+    }
+}
+
+fn restored_bytes(
+    a: Restored,
+    till: u32,
+    version: u32,
+    images: &[u8],
+    notes: &[u32],
+    output: &[u8],
+    counts: &mut [u64],
+) {
+    let wrong = trial_keeper::wrong_in(images, notes, till, version, output);
+    counts::add(counts, counts::VERSIONS, 1);
+    counts::add(counts, counts::BYTES, a.length as u64);
+    counts::add(counts, counts::WRONG_BYTES, wrong as u64);
+}
+
+// The chain is no longer than there are newer versions.
+fn restored_chain(a: Restored, till: u32, version: u32, notes: &[u32], counts: &mut [u64]) {
+    let bytes = trial_keeper::length(notes, till, version);
+    let newer = trial_keeper::newer(notes, till, version);
+    counts::raise(counts, counts::CHAIN, a.hops as u64);
+    counts::expect(counts, a.length == bytes);
+    counts::expect(counts, a.hops <= newer);
+}
+
+pub fn not_restored(a: Restored, output: &[u8], counts: &mut [u64]) {
+    counts::expect(counts, a.length == 0);
+    counts::expect(counts, a.hops == 0);
+    counts::expect_unaltered(counts, trial_compare::unmarked(output) == 0);
+}
+
+fn restore_number(
+    c: Capacities,
+    till: u32,
+    version: u32,
+    room: usize,
+    refusal: u32,
+    notes: &[u32],
+    counts: &mut [u64],
+) {
+    let expected = trial_keeper::restore_refusal(c, notes, till, version, room);
+    counts::answered(counts, counts::RESTORES, refusal, expected);
+}
+
+pub fn restored(
+    a: Restored,
+    c: Capacities,
+    till: u32,
+    version: u32,
+    room: usize,
+    images: &[u8],
+    notes: &[u32],
+    output: &[u8],
+    counts: &mut [u64],
+) {
+    restore_number(c, till, version, room, a.refusal, notes, counts);
+    if a.refusal == 0 {
+        restored_bytes(a, till, version, images, notes, output, counts);
+        restored_chain(a, till, version, notes, counts);
+    } else {
+        not_restored(a, output, counts);
+    }
+}
+
+pub fn listed(a: Listing, c: Capacities, till: u32, notes: &[u32], counts: &mut [u64]) {
+    if c.tills <= till {
+        counts::answered(counts, counts::LISTINGS, a.refusal, 3);
+        counts::expect(counts, a.last == 0);
+        return;
+    }
+    counts::answered(counts, counts::LISTINGS, a.refusal, 0);
+    counts::expect(counts, a.oldest == trial_keeper::oldest(notes, till));
+    counts::expect(counts, a.newest == trial_keeper::newest(notes, till));
+    counts::expect(counts, a.last == trial_keeper::last(notes, till));
+}

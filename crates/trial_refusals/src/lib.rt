@@ -1,0 +1,212 @@
+// Refusals that no drawn call meets: capacities out of range, buffers of another length, a till whose numbers have run out.
+ghost use Prim.Native.Nat.{_≤_};
+use layout::Capacities;
+
+// The n-th of the five capacities is `value`, the others 1.
+fn with_one(n: u32, value: u32) -> Capacities {
+    let mut c = Capacities {
+        tills: 1,
+        versions: 1,
+        blocks: 1,
+        records: 1,
+        cells: 1,
+    };
+    if n == 0 {
+        c.tills = value;
+    } else if n == 1 {
+        c.versions = value;
+    } else if n == 2 {
+        c.blocks = value;
+    } else if n == 3 {
+        c.records = value;
+    } else {
+        c.cells = value;
+    }
+    c
+}
+
+fn most_of(n: u32) -> u32
+    ensures { λ r. ⌜ r ≤ 32768 ⌝ }
+{
+    match n {
+        0 => 16,
+        1 => 64,
+        2 => 1024,
+        3 => 4096,
+        _ => 32768,
+    }
+}
+
+// The least, the most, and one past each.
+fn lengths_of(n: u32, counts: &mut [u64]) {
+    let most = most_of(n);
+    trial_calls::table_length(with_one(n, 1), counts, 0);
+    trial_calls::table_length(with_one(n, most), counts, 0);
+    trial_calls::table_length(with_one(n, 0), counts, 1);
+    trial_calls::table_length(with_one(n, most + 1), counts, 1);
+}
+
+fn ranges_of(n: u32, pool: &mut [u8], table: &mut [u32], counts: &mut [u64]) {
+    let past = most_of(n) + 1;
+    lengths_of(n, counts);
+    trial_calls::lay_out(with_one(n, 0), pool, table, counts, 1);
+    trial_calls::lay_out(with_one(n, past), pool, table, counts, 1);
+}
+
+fn ranges(pool: &mut [u8], table: &mut [u32], counts: &mut [u64]) {
+    let mut n = 0;
+    while n < 5 {
+        ranges_of(n, pool, table, counts);
+        n += 1;
+    }
+}
+
+// On the first bytes and words of the buffers.
+fn lay_out_ones(
+    pool: &mut [u8],
+    table: &mut [u32],
+    bytes: usize,
+    words: usize,
+    counts: &mut [u64],
+    expected: u32,
+) {
+    if pool.len() < bytes {
+        return;
+    }
+    if table.len() < words {
+        return;
+    }
+    trial_calls::lay_out(
+        with_one(0, 1),
+        &mut pool[0..bytes],
+        &mut table[0..words],
+        counts,
+        expected,
+    );
+}
+
+// A store of ones has 64 bytes and 35 words.
+fn too_short(pool: &mut [u8], table: &mut [u32], counts: &mut [u64]) {
+    lay_out_ones(pool, table, 63, 35, counts, 2);
+    lay_out_ones(pool, table, 64, 34, counts, 2);
+}
+
+fn too_long(pool: &mut [u8], table: &mut [u32], counts: &mut [u64]) {
+    lay_out_ones(pool, table, 65, 35, counts, 2);
+    lay_out_ones(pool, table, 64, 36, counts, 2);
+}
+
+pub fn layouts(pool: &mut [u8], table: &mut [u32], counts: &mut [u64]) {
+    ranges(pool, table, counts);
+    too_short(pool, table, counts);
+    too_long(pool, table, counts);
+}
+
+// A version comes and goes.
+fn come_and_go(
+    image: &[u8],
+    pool: &mut [u8],
+    table: &mut [u32],
+    images: &mut [u8],
+    notes: &mut [u32],
+    counts: &mut [u64],
+) {
+    trial_calls::back_up(with_one(0, 1), 0, image, pool, table, images, notes, counts);
+    let version = trial_keeper::last(notes, 0);
+    trial_calls::retire(with_one(0, 1), 0, version, pool, table, notes, counts);
+}
+
+fn many(
+    count: u32,
+    image: &[u8],
+    pool: &mut [u8],
+    table: &mut [u32],
+    images: &mut [u8],
+    notes: &mut [u32],
+    counts: &mut [u64],
+) {
+    let mut i = 0;
+    while i < count {
+        come_and_go(image, pool, table, images, notes, counts);
+        i += 1;
+    }
+}
+
+fn from_the_first(
+    image: &[u8],
+    pool: &mut [u8],
+    table: &mut [u32],
+    images: &mut [u8],
+    notes: &mut [u32],
+    counts: &mut [u64],
+) {
+    trial_calls::lay_out(with_one(0, 1), pool, table, counts, 0);
+    many(65535, image, pool, table, images, notes, counts);
+}
+
+fn one_more(
+    image: &[u8],
+    pool: &mut [u8],
+    table: &mut [u32],
+    images: &mut [u8],
+    notes: &mut [u32],
+    counts: &mut [u64],
+) {
+    trial_calls::back_up(with_one(0, 1), 0, image, pool, table, images, notes, counts);
+    trial_calls::list(with_one(0, 1), 0, pool, table, notes, counts);
+}
+
+// All 65,535 numbers are given, and no more.
+fn to_the_last(
+    image: &[u8],
+    pool: &mut [u8],
+    table: &mut [u32],
+    images: &mut [u8],
+    notes: &mut [u32],
+    counts: &mut [u64],
+) {
+    from_the_first(image, pool, table, images, notes, counts);
+    one_more(image, pool, table, images, notes, counts);
+}
+
+fn on_ones(
+    image: &[u8],
+    pool: &mut [u8],
+    table: &mut [u32],
+    bytes: usize,
+    words: usize,
+    images: &mut [u8],
+    notes: &mut [u32],
+    counts: &mut [u64],
+) {
+    if pool.len() < bytes {
+        return;
+    }
+    if table.len() < words {
+        return;
+    }
+    to_the_last(
+        image,
+        &mut pool[0..bytes],
+        &mut table[0..words],
+        images,
+        notes,
+        counts,
+    );
+}
+
+// With an image of so many bytes.
+pub fn last_number(
+    bytes: usize,
+    image: &[u8],
+    pool: &mut [u8],
+    table: &mut [u32],
+    images: &mut [u8],
+    notes: &mut [u32],
+    counts: &mut [u64],
+) {
+    if bytes <= image.len() {
+        trial_keeper::clear(notes);
+        on_ones(&image[0..bytes], pool, table, 64, 35, images, notes, counts);
+    }
+}

@@ -1,0 +1,3 @@
+// What the trial counts, and how it is printed.
+pub mod counts;
+pub mod tell;

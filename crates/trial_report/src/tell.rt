@@ -1,0 +1,96 @@
+// What the trial prints.
+use crate::counts;
+use libc::STDOUT_FILENO;
+
+pub fn text(words: &[u8]) {
+    io::write_all(STDOUT_FILENO, words);
+}
+
+pub fn number(n: u64) {
+    io::write_all(STDOUT_FILENO, b" ");
+    io::print_decimal(STDOUT_FILENO, n);
+}
+
+pub fn end() {
+    io::write_all(STDOUT_FILENO, b"\n");
+}
+
+fn line(words: &[u8], n: u64) {
+    text(words);
+    number(n);
+    end();
+}
+
+fn refusals(counts: &[u64]) {
+    line(b"refused with 1:", counts::count_at(counts, 1));
+    line(b"refused with 2:", counts::count_at(counts, 2));
+    line(b"refused with 3:", counts::count_at(counts, 3));
+    line(b"refused with 4:", counts::count_at(counts, 4));
+    line(b"refused with 5:", counts::count_at(counts, 5));
+    line(b"refused with 10:", counts::count_at(counts, 10));
+    line(b"refused with 11:", counts::count_at(counts, 11));
+    line(b"refused with 12:", counts::count_at(counts, 12));
+    line(b"refused with 13:", counts::count_at(counts, 13));
+    line(b"refused with 14:", counts::count_at(counts, 14));
+    line(b"refused with 15:", counts::count_at(counts, 15));
+    line(b"refused with 16:", counts::count_at(counts, 16));
+}
+
+fn accepted(counts: &[u64]) {
+    line(b"calls:", counts::count_at(counts, counts::CALLS));
+    line(
+        b"table lengths accepted:",
+        counts::count_at(counts, counts::LENGTHS),
+    );
+    line(
+        b"lay outs accepted:",
+        counts::count_at(counts, counts::LAYOUTS),
+    );
+    line(
+        b"backups accepted:",
+        counts::count_at(counts, counts::BACKUPS),
+    );
+    line(
+        b"restores accepted:",
+        counts::count_at(counts, counts::RESTORES),
+    );
+    line(
+        b"retires accepted:",
+        counts::count_at(counts, counts::RETIRES),
+    );
+    line(
+        b"listings accepted:",
+        counts::count_at(counts, counts::LISTINGS),
+    );
+    line(
+        b"tallies accepted:",
+        counts::count_at(counts, counts::TALLIES),
+    );
+}
+
+fn verdict(counts: &[u64]) {
+    line(b"longest chain:", counts::count_at(counts, counts::CHAIN));
+    line(
+        b"versions compared:",
+        counts::count_at(counts, counts::VERSIONS),
+    );
+    line(b"bytes compared:", counts::count_at(counts, counts::BYTES));
+    line(
+        b"wrong bytes:",
+        counts::count_at(counts, counts::WRONG_BYTES),
+    );
+    line(
+        b"wrong answers:",
+        counts::count_at(counts, counts::WRONG_ANSWERS),
+    );
+    line(
+        b"buffers altered by a refusal:",
+        counts::count_at(counts, counts::ALTERED),
+    );
+}
+
+pub fn report(counts: &[u64]) {
+    accepted(counts);
+    refusals(counts);
+    verdict(counts);
+}
