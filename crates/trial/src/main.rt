@@ -25,77 +25,25 @@ fn store_of(n: u32) -> Capacities {
     }
 }
 
-fn histories(
-    count: u32,
-    pool: &mut [u8],
-    table: &mut [u32],
-    images: &mut [u8],
-    notes: &mut [u32],
-    image: &mut [u8],
-    output: &mut [u8],
-    counts: &mut [u64],
-) {
+fn histories(count: u32, pool: &mut [u8], table: &mut [u32], counts: &mut [u64]) {
     let mut n = 0;
     while n < count {
-        trial_history::history(
-            store_of(n),
-            n as u64 + 1,
-            1000,
-            pool,
-            table,
-            images,
-            notes,
-            image,
-            output,
-            counts,
-        );
+        trial_history::history(store_of(n), n as u64 + 1, 1000, pool, table, counts);
         n += 1;
     }
 }
 
-fn cases_and_refusals(
-    pool: &mut [u8],
-    table: &mut [u32],
-    images: &mut [u8],
-    notes: &mut [u32],
-    image: &mut [u8],
-    output: &mut [u8],
-    counts: &mut [u64],
-) {
-    trial_cases::unstarred(pool, table, image, output);
+fn trial(pool: &mut [u8], table: &mut [u32], counts: &mut [u64]) {
+    trial_cases::unstarred();
     trial_refusals::layouts(pool, table, counts);
-    trial_refusals::last_number(50, image, pool, table, images, notes, counts);
-}
-
-fn trial(
-    pool: &mut [u8],
-    table: &mut [u32],
-    images: &mut [u8],
-    notes: &mut [u32],
-    image: &mut [u8],
-    output: &mut [u8],
-    counts: &mut [u64],
-) {
-    cases_and_refusals(pool, table, images, notes, image, output, counts);
-    histories(14, pool, table, images, notes, image, output, counts);
+    trial_refusals::last_number(counts);
+    histories(14, pool, table, counts);
     tell::report(counts);
 }
 
 fn main() {
     let mut pool = [0u8; 4096];
     let mut table = [0u32; 600];
-    let mut images = [0u8; 19200];
-    let mut notes = [0u32; 21];
-    let mut image = [0u8; 1408];
-    let mut output = [0u8; 1408];
     let mut counts = [0u64; 34];
-    trial(
-        &mut pool,
-        &mut table,
-        &mut images,
-        &mut notes,
-        &mut image,
-        &mut output,
-        &mut counts,
-    );
+    trial(&mut pool, &mut table, &mut counts);
 }

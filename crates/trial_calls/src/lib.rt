@@ -69,7 +69,7 @@ fn restore_into(
     store::restore(pool, table, till, version, &mut output[0..room])
 }
 
-pub fn restore(
+fn restore_and_judge(
     c: Capacities,
     till: u32,
     version: u32,
@@ -87,6 +87,35 @@ pub fn restore(
     }
     let a = restore_into(pool, table, till, version, room, output);
     trial_judge::restored(a, c, till, version, room, images, notes, output, counts);
+}
+
+// As much room as an output ever has.
+pub const ROOM: usize = 1408;
+
+pub fn restore(
+    c: Capacities,
+    till: u32,
+    version: u32,
+    room: usize,
+    pool: &[u8],
+    table: &[u32],
+    images: &[u8],
+    notes: &[u32],
+    counts: &mut [u64],
+) {
+    let mut output = [0u8; ROOM];
+    restore_and_judge(
+        c,
+        till,
+        version,
+        room,
+        pool,
+        table,
+        images,
+        notes,
+        &mut output,
+        counts,
+    );
 }
 
 pub fn list(
@@ -110,56 +139,4 @@ pub fn tally(c: Capacities, pool: &[u8], table: &[u32], counts: &mut [u64]) {
     );
     counts::expect(counts, a.cells <= a.counts);
     counts::expect(counts, a.records <= a.cells);
-}
-
-fn refuse_writes(
-    till: u32,
-    version: u32,
-    image: &[u8],
-    pool: &mut [u8],
-    table: &mut [u32],
-    counts: &mut [u64],
-) {
-    let before = trial_compare::sum_of(pool, table);
-    let a = store::backup(pool, table, till, image);
-    let b = store::retire(pool, table, till, version);
-    counts::answered(counts, counts::BACKUPS, a.refusal, 10);
-    counts::answered(counts, counts::RETIRES, b.refusal, 10);
-    trial_judge::buffers(10, before, pool, table, counts);
-}
-
-fn refuse_restore(
-    till: u32,
-    version: u32,
-    pool: &[u8],
-    table: &[u32],
-    output: &mut [u8],
-    counts: &mut [u64],
-) {
-    trial_compare::mark(output);
-    let a = store::restore(pool, table, till, version, output);
-    counts::answered(counts, counts::RESTORES, a.refusal, 10);
-    trial_judge::not_restored(a, output, counts);
-}
-
-fn refuse_reads(till: u32, pool: &[u8], table: &[u32], counts: &mut [u64]) {
-    let a = store::listing(pool, table, till);
-    counts::answered(counts, counts::LISTINGS, a.refusal, 10);
-    let b = store::tally(pool, table);
-    counts::answered(counts, counts::TALLIES, b.refusal, 10);
-}
-
-// All calls on what is no sound store.
-pub fn refuse_all(
-    till: u32,
-    version: u32,
-    image: &[u8],
-    pool: &mut [u8],
-    table: &mut [u32],
-    output: &mut [u8],
-    counts: &mut [u64],
-) {
-    refuse_writes(till, version, image, pool, table, counts);
-    refuse_restore(till, version, pool, table, output, counts);
-    refuse_reads(till, pool, table, counts);
 }

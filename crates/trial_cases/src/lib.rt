@@ -35,14 +35,6 @@ fn taken(pool: &mut [u8], table: &mut [u32], image: &[u8]) -> BackedUp {
     store::backup(pool, table, 0, image)
 }
 
-fn image_case(pool: &mut [u8], table: &mut [u32], image: &[u8], output: &mut [u8]) {
-    let given = taken(pool, table, image);
-    let back = store::restore(pool, table, 0, given.version, output);
-    let kept = store::tally(pool, table);
-    let wrong = wrong_in(image, output, back.length as usize);
-    print_image(image.len(), given, back, kept, wrong);
-}
-
 // At how many places the output's first bytes and the image differ, if the image was taken.
 fn wrong_in(image: &[u8], output: &[u8], bytes: usize) -> usize {
     if bytes == 0 {
@@ -54,14 +46,29 @@ fn wrong_in(image: &[u8], output: &[u8], bytes: usize) -> usize {
     trial_compare::wrong_bytes(image, &output[0..bytes])
 }
 
-fn first_bytes(pool: &mut [u8], table: &mut [u32], image: &[u8], output: &mut [u8], bytes: usize) {
+fn image_on(pool: &mut [u8], table: &mut [u32], image: &[u8], output: &mut [u8]) {
+    let given = taken(pool, table, image);
+    let back = store::restore(pool, table, 0, given.version, output);
+    let kept = store::tally(pool, table);
+    let wrong = wrong_in(image, output, back.length as usize);
+    print_image(image.len(), given, back, kept, wrong);
+}
+
+fn image_case(image: &[u8]) {
+    let mut pool = [0u8; 2048];
+    let mut table = [0u32; 240];
+    let mut output = [0u8; 1408];
+    image_on(&mut pool, &mut table, image, &mut output);
+}
+
+fn first_bytes(image: &[u8], bytes: usize) {
     if bytes <= image.len() {
-        image_case(pool, table, &image[0..bytes], output);
+        image_case(&image[0..bytes]);
     }
 }
 
 // The output's length, the version's, the restore's number.
-fn room_case(pool: &mut [u8], table: &mut [u32], image: &[u8], output: &mut [u8]) {
+fn output_on(pool: &mut [u8], table: &mut [u32], image: &[u8], output: &mut [u8]) {
     let given = taken(pool, table, image);
     let back = store::restore(pool, table, 0, given.version, output);
     tell::text(b"output");
@@ -71,63 +78,41 @@ fn room_case(pool: &mut [u8], table: &mut [u32], image: &[u8], output: &mut [u8]
     tell::end();
 }
 
-fn short_output(pool: &mut [u8], table: &mut [u32], image: &[u8], output: &mut [u8], room: usize) {
-    if room <= output.len() {
-        room_case(pool, table, image, &mut output[0..room]);
-    }
+fn output_case(image: &[u8], output: &mut [u8]) {
+    let mut pool = [0u8; 2048];
+    let mut table = [0u32; 240];
+    output_on(&mut pool, &mut table, image, output);
 }
 
-fn short_outputs(
-    pool: &mut [u8],
-    table: &mut [u32],
-    image: &[u8],
-    output: &mut [u8],
-    bytes: usize,
-) {
+fn short_output(image: &[u8], bytes: usize, output: &mut [u8]) {
     if bytes <= image.len() {
-        let part = &image[0..bytes];
-        short_output(pool, table, part, output, 511);
-        short_output(pool, table, part, output, 512);
+        output_case(&image[0..bytes], output);
     }
 }
 
-fn images_tried(pool: &mut [u8], table: &mut [u32], image: &[u8], output: &mut [u8]) {
+fn images_tried(image: &[u8]) {
     tell::text(b"image bytes refusal version length cells records wrong\n");
-    first_bytes(pool, table, image, output, 500);
-    first_bytes(pool, table, image, output, 0);
+    first_bytes(image, 500);
+    first_bytes(image, 0);
+    first_bytes(image, 1024);
+    first_bytes(image, 1025);
 }
 
-fn longest_tried(pool: &mut [u8], table: &mut [u32], image: &[u8], output: &mut [u8]) {
-    first_bytes(pool, table, image, output, 1024);
-    first_bytes(pool, table, image, output, 1025);
-}
-
-fn all(pool: &mut [u8], table: &mut [u32], image: &mut [u8], output: &mut [u8]) {
-    images::spell(image, b"ABCDEFGHIJKLMNOPQRSTUV");
-    images_tried(pool, table, image, output);
-    longest_tried(pool, table, image, output);
+fn outputs_tried(image: &[u8]) {
+    let mut less = [0u8; 511];
+    let mut enough = [0u8; 512];
     tell::text(b"output bytes for refusal\n");
-    short_outputs(pool, table, image, output, 512);
+    short_output(image, 512, &mut less);
+    short_output(image, 512, &mut enough);
 }
 
-// The store's bytes and words are the first of the buffers'.
-fn on_parts(
-    pool: &mut [u8],
-    table: &mut [u32],
-    image: &mut [u8],
-    output: &mut [u8],
-    bytes: usize,
-    words: usize,
-) {
-    if pool.len() < bytes {
-        return;
-    }
-    if table.len() < words {
-        return;
-    }
-    all(&mut pool[0..bytes], &mut table[0..words], image, output);
+fn all(image: &mut [u8]) {
+    images::spell(image, b"ABCDEFGHIJKLMNOPQRSTUV");
+    images_tried(image);
+    outputs_tried(image);
 }
 
-pub fn unstarred(pool: &mut [u8], table: &mut [u32], image: &mut [u8], output: &mut [u8]) {
-    on_parts(pool, table, image, output, 2048, 240);
+pub fn unstarred() {
+    let mut image = [0u8; 1408];
+    all(&mut image);
 }

@@ -2,8 +2,6 @@
 use layout::Capacities;
 use trial_draw::dice::Dice;
 use trial_report::counts;
-use trial_steps::checks;
-use trial_steps::turns;
 
 fn play(
     c: Capacities,
@@ -13,35 +11,19 @@ fn play(
     table: &mut [u32],
     images: &mut [u8],
     notes: &mut [u32],
-    image: &mut [u8],
-    output: &mut [u8],
     counts: &mut [u64],
 ) {
     let mut d = Dice { state: seed };
     let mut i = 0;
     while i < count {
         d = d.rolled();
-        turns::turn(c, d, pool, table, images, notes, image, output, counts);
+        trial_turns::turn(c, d, pool, table, images, notes, counts);
         i += 1;
     }
 }
 
 // Laid out over what an earlier history left.
-fn open(
-    c: Capacities,
-    pool: &mut [u8],
-    table: &mut [u32],
-    images: &[u8],
-    notes: &mut [u32],
-    output: &mut [u8],
-    counts: &mut [u64],
-) {
-    trial_keeper::clear(notes);
-    trial_calls::lay_out(c, pool, table, counts, 0);
-    checks::all(c, pool, table, images, notes, output, counts);
-}
-
-fn on_store(
+fn open_and_play(
     c: Capacities,
     seed: u64,
     count: u32,
@@ -49,23 +31,25 @@ fn on_store(
     table: &mut [u32],
     images: &mut [u8],
     notes: &mut [u32],
-    image: &mut [u8],
-    output: &mut [u8],
     counts: &mut [u64],
 ) {
-    open(c, pool, table, images, notes, output, counts);
-    play(
-        c,
-        seed,
-        count,
-        pool,
-        table,
-        images,
-        notes,
-        image,
-        output,
-        counts,
-    );
+    trial_calls::lay_out(c, pool, table, counts, 0);
+    trial_checks::all(c, pool, table, images, notes, counts);
+    play(c, seed, count, pool, table, images, notes, counts);
+}
+
+// Beside a new keeper.
+fn on_store(
+    c: Capacities,
+    seed: u64,
+    count: u32,
+    pool: &mut [u8],
+    table: &mut [u32],
+    counts: &mut [u64],
+) {
+    let mut images = [0u8; trial_keeper::IMAGES];
+    let mut notes = [0u32; trial_keeper::NOTES];
+    open_and_play(c, seed, count, pool, table, &mut images, &mut notes, counts);
 }
 
 // On the first bytes and words of the buffers, as many as the capacities need.
@@ -75,10 +59,6 @@ pub fn history(
     count: u32,
     pool: &mut [u8],
     table: &mut [u32],
-    images: &mut [u8],
-    notes: &mut [u32],
-    image: &mut [u8],
-    output: &mut [u8],
     counts: &mut [u64],
 ) {
     let bytes = c.cells as usize * 64;
@@ -97,10 +77,6 @@ pub fn history(
         count,
         &mut pool[0..bytes],
         &mut table[0..words],
-        images,
-        notes,
-        image,
-        output,
         counts,
     );
 }

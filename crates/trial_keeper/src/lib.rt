@@ -2,7 +2,7 @@
 // Its notes: each till's last number given, the last number retired, then a length for each image kept.
 ghost use mathlib.Core.Path.{_≡_};
 ghost use Prim.Native.Nat.{_+_, _*_, _%_, _≤_};
-ghost use lib.ListN.{length as List·length, getD, set, replicate};
+ghost use lib.ListN.{getD, set};
 use layout::Capacities;
 
 // At most so many tills, versions per till and bytes per image.
@@ -11,6 +11,11 @@ const TILLS: usize = 3;
 const VERSIONS: usize = 5;
 
 const BYTES: usize = 1280;
+
+// So many notes and bytes of images are enough for all.
+pub const NOTES: usize = 21;
+
+pub const IMAGES: usize = 19200;
 
 fn note_at(notes: &[u32], at: usize) -> u32
     ensures { λ r. ⌜ r ≡ getD (now (notes .entry)) at 0 ⌝ }
@@ -26,16 +31,6 @@ pub fn put_note(notes: &mut [u32], at: usize, note: u32)
 {
     if at < notes.len() {
         notes[at] = note;
-    }
-}
-
-pub fn clear(notes: &mut [u32])
-    ensures { λ _. ⌜ now (notes .exit) ≡ replicate (List·length (now (notes .entry))) 0 ⌝ }
-{
-    let mut i = 0;
-    while i < notes.len() {
-        notes[i] = 0;
-        i += 1;
     }
 }
 

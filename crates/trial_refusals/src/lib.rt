@@ -102,23 +102,42 @@ pub fn layouts(pool: &mut [u8], table: &mut [u32], counts: &mut [u64]) {
     too_long(pool, table, counts);
 }
 
-// A version comes and goes.
-fn come_and_go(
-    image: &[u8],
+// On a store of ones.
+fn back_up(
     pool: &mut [u8],
     table: &mut [u32],
     images: &mut [u8],
     notes: &mut [u32],
     counts: &mut [u64],
 ) {
-    trial_calls::back_up(with_one(0, 1), 0, image, pool, table, images, notes, counts);
+    let image = [65u8; 50];
+    trial_calls::back_up(
+        with_one(0, 1),
+        0,
+        &image,
+        pool,
+        table,
+        images,
+        notes,
+        counts,
+    );
+}
+
+// A version comes and goes.
+fn come_and_go(
+    pool: &mut [u8],
+    table: &mut [u32],
+    images: &mut [u8],
+    notes: &mut [u32],
+    counts: &mut [u64],
+) {
+    back_up(pool, table, images, notes, counts);
     let version = trial_keeper::last(notes, 0);
     trial_calls::retire(with_one(0, 1), 0, version, pool, table, notes, counts);
 }
 
 fn many(
     count: u32,
-    image: &[u8],
     pool: &mut [u8],
     table: &mut [u32],
     images: &mut [u8],
@@ -127,13 +146,12 @@ fn many(
 ) {
     let mut i = 0;
     while i < count {
-        come_and_go(image, pool, table, images, notes, counts);
+        come_and_go(pool, table, images, notes, counts);
         i += 1;
     }
 }
 
 fn from_the_first(
-    image: &[u8],
     pool: &mut [u8],
     table: &mut [u32],
     images: &mut [u8],
@@ -141,72 +159,36 @@ fn from_the_first(
     counts: &mut [u64],
 ) {
     trial_calls::lay_out(with_one(0, 1), pool, table, counts, 0);
-    many(65535, image, pool, table, images, notes, counts);
+    many(65535, pool, table, images, notes, counts);
 }
 
 fn one_more(
-    image: &[u8],
     pool: &mut [u8],
     table: &mut [u32],
     images: &mut [u8],
     notes: &mut [u32],
     counts: &mut [u64],
 ) {
-    trial_calls::back_up(with_one(0, 1), 0, image, pool, table, images, notes, counts);
+    back_up(pool, table, images, notes, counts);
     trial_calls::list(with_one(0, 1), 0, pool, table, notes, counts);
 }
 
 // All 65,535 numbers are given, and no more.
 fn to_the_last(
-    image: &[u8],
     pool: &mut [u8],
     table: &mut [u32],
     images: &mut [u8],
     notes: &mut [u32],
     counts: &mut [u64],
 ) {
-    from_the_first(image, pool, table, images, notes, counts);
-    one_more(image, pool, table, images, notes, counts);
+    from_the_first(pool, table, images, notes, counts);
+    one_more(pool, table, images, notes, counts);
 }
 
-fn on_ones(
-    image: &[u8],
-    pool: &mut [u8],
-    table: &mut [u32],
-    bytes: usize,
-    words: usize,
-    images: &mut [u8],
-    notes: &mut [u32],
-    counts: &mut [u64],
-) {
-    if pool.len() < bytes {
-        return;
-    }
-    if table.len() < words {
-        return;
-    }
-    to_the_last(
-        image,
-        &mut pool[0..bytes],
-        &mut table[0..words],
-        images,
-        notes,
-        counts,
-    );
-}
-
-// With an image of so many bytes.
-pub fn last_number(
-    bytes: usize,
-    image: &[u8],
-    pool: &mut [u8],
-    table: &mut [u32],
-    images: &mut [u8],
-    notes: &mut [u32],
-    counts: &mut [u64],
-) {
-    if bytes <= image.len() {
-        trial_keeper::clear(notes);
-        on_ones(&image[0..bytes], pool, table, 64, 35, images, notes, counts);
-    }
+pub fn last_number(counts: &mut [u64]) {
+    let mut pool = [0u8; 64];
+    let mut table = [0u32; 35];
+    let mut images = [0u8; trial_keeper::IMAGES];
+    let mut notes = [0u32; trial_keeper::NOTES];
+    to_the_last(&mut pool, &mut table, &mut images, &mut notes, counts);
 }

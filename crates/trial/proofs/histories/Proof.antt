@@ -11,12 +11,12 @@ use Rattle.trial_history.proofs.history.Reads as history-reads
 use Rattle.trial.proofs.store_of.Reads as store-of-reads
 
 abbrev Inv-loop : tie.InvT-loop
-Inv-loop count pool₀ table₀ images₀ notes₀ image₀ output₀ counts₀ n₀ pool table images notes image output counts n =
-    (length pool ≡ length pool₀) × (length table ≡ length table₀) × (length images ≡ length images₀) × (length notes ≡ length notes₀)
-    × (length image ≡ length image₀) × (length output ≡ length output₀) × (length counts ≡ length counts₀)
+Inv-loop count pool₀ table₀ counts₀ n₀ pool table counts n =
+    (length pool ≡ length pool₀) × (length table ≡ length table₀)
+    × (length counts ≡ length counts₀)
 
 abbrev μ-loop : tie.MeasureT-loop
-μ-loop count pool₀ table₀ images₀ notes₀ image₀ output₀ counts₀ n₀ pool table images notes image output counts n = count - n
+μ-loop count pool₀ table₀ counts₀ n₀ pool table counts n = count - n
 
 -- src/main.rt:49:5
 loop-holds : tie.Need-loop-holds Inv-loop μ-loop
@@ -63,22 +63,6 @@ same-length-3 : tie.Need-same-length-3 Inv-loop μ-loop
 same-length-3 c = search needs
 
 -- src/main.rt:38:1
-same-length-4 : tie.Need-same-length-4 Inv-loop μ-loop
-same-length-4 c = search needs
-
--- src/main.rt:38:1
-same-length-5 : tie.Need-same-length-5 Inv-loop μ-loop
-same-length-5 c = search needs
-
--- src/main.rt:38:1
-same-length-6 : tie.Need-same-length-6 Inv-loop μ-loop
-same-length-6 c = search needs
-
--- src/main.rt:38:1
-same-length-7 : tie.Need-same-length-7 Inv-loop μ-loop
-same-length-7 c = search needs
-
--- src/main.rt:38:1
 returns : tie.Need-returns Inv-loop μ-loop
 returns c = search needs
 
@@ -99,8 +83,4 @@ histories-spec =
     same-length
     same-length-2
     same-length-3
-    same-length-4
-    same-length-5
-    same-length-6
-    same-length-7
     returns)

@@ -8,15 +8,15 @@ use Rattle.trial_history.proofs.play.Tie as tie
 use Rattle.trial_history.proofs.play.Reads as reads
 use Rattle.trial_history.proofs.play.Lts as lts
 use Rattle.trial_draw.proofs.dice.Dice.rolled.Reads as rolled-reads
-use Rattle.trial_steps.proofs.turns.turn.Reads as turn-reads
+use Rattle.trial_turns.proofs.turn.Reads as turn-reads
 
 abbrev Inv-loop : tie.InvT-loop
-Inv-loop c seed count pool₀ table₀ images₀ notes₀ image₀ output₀ counts₀ d₀ i₀ pool table images notes image output counts d i =
+Inv-loop c seed count pool₀ table₀ images₀ notes₀ counts₀ d₀ i₀ pool table images notes counts d i =
     (length pool ≡ length pool₀) × (length table ≡ length table₀) × (length images ≡ length images₀) × (length notes ≡ length notes₀)
-    × (length image ≡ length image₀) × (length output ≡ length output₀) × (length counts ≡ length counts₀)
+    × (length counts ≡ length counts₀)
 
 abbrev μ-loop : tie.MeasureT-loop
-μ-loop c seed count pool₀ table₀ images₀ notes₀ image₀ output₀ counts₀ d₀ i₀ pool table images notes image output counts d i = count - i
+μ-loop c seed count pool₀ table₀ images₀ notes₀ counts₀ d₀ i₀ pool table images notes counts d i = count - i
 
 -- src/lib.rt:237:5
 loop-holds : tie.Need-loop-holds Inv-loop μ-loop
@@ -63,14 +63,6 @@ same-length-5 : tie.Need-same-length-5 Inv-loop μ-loop
 same-length-5 c = search needs
 
 -- src/lib.rt:223:1
-same-length-6 : tie.Need-same-length-6 Inv-loop μ-loop
-same-length-6 c = search needs
-
--- src/lib.rt:223:1
-same-length-7 : tie.Need-same-length-7 Inv-loop μ-loop
-same-length-7 c = search needs
-
--- src/lib.rt:223:1
 returns : tie.Need-returns Inv-loop μ-loop
 returns c = search needs
 
@@ -91,6 +83,4 @@ play-spec =
     same-length-3
     same-length-4
     same-length-5
-    same-length-6
-    same-length-7
     returns)

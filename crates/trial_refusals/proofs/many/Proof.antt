@@ -10,10 +10,10 @@ use Rattle.trial_refusals.proofs.many.Lts as lts
 use Rattle.trial_refusals.proofs.come_and_go.Reads as come-and-go-reads
 
 abbrev Inv-loop : tie.InvT-loop
-Inv-loop count image pool₀ table₀ images₀ notes₀ counts₀ i₀ pool table images notes counts i = (length pool ≡ length pool₀) × (length table ≡ length table₀) × (length images ≡ length images₀) × (length notes ≡ length notes₀) × (length counts ≡ length counts₀)
+Inv-loop count pool₀ table₀ images₀ notes₀ counts₀ i₀ pool table images notes counts i = (length pool ≡ length pool₀) × (length table ≡ length table₀) × (length images ≡ length images₀) × (length notes ≡ length notes₀) × (length counts ≡ length counts₀)
 
 abbrev μ-loop : tie.MeasureT-loop
-μ-loop count image pool₀ table₀ images₀ notes₀ counts₀ i₀ pool table images notes counts i = count - i
+μ-loop count pool₀ table₀ images₀ notes₀ counts₀ i₀ pool table images notes counts i = count - i
 
 -- src/lib.rt:131:5
 loop-holds : tie.Need-loop-holds Inv-loop μ-loop

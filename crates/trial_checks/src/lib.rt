@@ -9,7 +9,6 @@ fn each_version(
     table: &[u32],
     images: &[u8],
     notes: &[u32],
-    output: &mut [u8],
     counts: &mut [u64],
 ) {
     let newest = trial_keeper::last(notes, till);
@@ -17,18 +16,7 @@ fn each_version(
     while version < newest {
         version += 1;
         let room = trial_keeper::length(notes, till, version) as usize;
-        trial_calls::restore(
-            c,
-            till,
-            version,
-            room,
-            pool,
-            table,
-            images,
-            notes,
-            output,
-            counts,
-        );
+        trial_calls::restore(c, till, version, room, pool, table, images, notes, counts);
     }
 }
 
@@ -38,13 +26,12 @@ fn each_till(
     table: &[u32],
     images: &[u8],
     notes: &[u32],
-    output: &mut [u8],
     counts: &mut [u64],
 ) {
     let mut till = 0;
     while till < c.tills {
         trial_calls::list(c, till, pool, table, notes, counts);
-        each_version(c, till, pool, table, images, notes, output, counts);
+        each_version(c, till, pool, table, images, notes, counts);
         till += 1;
     }
 }
@@ -55,9 +42,8 @@ pub fn all(
     table: &[u32],
     images: &[u8],
     notes: &[u32],
-    output: &mut [u8],
     counts: &mut [u64],
 ) {
-    each_till(c, pool, table, images, notes, output, counts);
+    each_till(c, pool, table, images, notes, counts);
     trial_calls::tally(c, pool, table, counts);
 }

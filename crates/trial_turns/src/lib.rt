@@ -1,5 +1,4 @@
 // One drawn call. After a backup or a retire all is checked.
-use crate::checks;
 use layout::Capacities;
 use trial_draw::dice::Dice;
 use trial_draw::images;
@@ -29,6 +28,42 @@ fn bytes_of(c: Capacities, d: Dice) -> usize {
     d.drawn(50, most) as usize + 1
 }
 
+// How many bytes the image has that now stands at the front; more than there is room for: none.
+fn draw_image(c: Capacities, d: Dice, image: &mut [u8]) -> usize {
+    let bytes = bytes_of(c, d);
+    if bytes <= image.len() {
+        images::fill(&mut image[0..bytes], images::plan_of(d));
+    }
+    bytes
+}
+
+fn back_up_first(
+    c: Capacities,
+    till: u32,
+    bytes: usize,
+    image: &[u8],
+    pool: &mut [u8],
+    table: &mut [u32],
+    images: &mut [u8],
+    notes: &mut [u32],
+    counts: &mut [u64],
+) {
+    if image.len() < bytes {
+        counts::expect(counts, false);
+        return;
+    }
+    trial_calls::back_up(
+        c,
+        till,
+        &image[0..bytes],
+        pool,
+        table,
+        images,
+        notes,
+        counts,
+    );
+}
+
 fn back_up(
     c: Capacities,
     d: Dice,
@@ -36,17 +71,21 @@ fn back_up(
     table: &mut [u32],
     images: &mut [u8],
     notes: &mut [u32],
-    image: &mut [u8],
     counts: &mut [u64],
 ) {
-    let bytes = bytes_of(c, d);
-    if image.len() < bytes {
-        counts::expect(counts, false);
-        return;
-    }
-    let part = &mut image[0..bytes];
-    images::fill(part, images::plan_of(d));
-    trial_calls::back_up(c, till_of(c, d), part, pool, table, images, notes, counts);
+    let mut image = [0u8; 1408];
+    let bytes = draw_image(c, d, &mut image);
+    back_up_first(
+        c,
+        till_of(c, d),
+        bytes,
+        &image,
+        pool,
+        table,
+        images,
+        notes,
+        counts,
+    );
 }
 
 // Mostly the oldest.
@@ -68,10 +107,10 @@ fn retire(
 }
 
 // The whole output, a byte too few, or just enough.
-fn room_of(d: Dice, bytes: u32, most: usize) -> usize {
+fn room_of(d: Dice, bytes: u32) -> usize {
     let kind = d.pick(32, 4);
     if kind == 0 {
-        return most;
+        return trial_calls::ROOM;
     }
     if kind == 1 {
         if 0 < bytes {
@@ -88,47 +127,12 @@ fn restore(
     table: &[u32],
     images: &[u8],
     notes: &[u32],
-    output: &mut [u8],
     counts: &mut [u64],
 ) {
     let till = till_of(c, d);
     let version = std::num::wrapping_add_u32(trial_keeper::retired(notes, till), d.pick(24, 7));
-    let room = room_of(d, trial_keeper::length(notes, till, version), output.len());
-    trial_calls::restore(
-        c,
-        till,
-        version,
-        room,
-        pool,
-        table,
-        images,
-        notes,
-        output,
-        counts,
-    );
-}
-
-// A reserved word of the header that is not zero.
-fn damage(
-    d: Dice,
-    pool: &mut [u8],
-    table: &mut [u32],
-    image: &[u8],
-    output: &mut [u8],
-    counts: &mut [u64],
-) {
-    let at = d.pick(8, 3) as usize + 5;
-    trial_keeper::put_note(table, at, d.pick(16, 65536) + 1);
-    trial_calls::refuse_all(
-        d.pick(24, 4),
-        d.pick(32, 4),
-        image,
-        pool,
-        table,
-        output,
-        counts,
-    );
-    trial_keeper::put_note(table, at, 0);
+    let room = room_of(d, trial_keeper::length(notes, till, version));
+    trial_calls::restore(c, till, version, room, pool, table, images, notes, counts);
 }
 
 // A version comes or goes.
@@ -140,11 +144,10 @@ fn change(
     table: &mut [u32],
     images: &mut [u8],
     notes: &mut [u32],
-    image: &mut [u8],
     counts: &mut [u64],
 ) {
     if kind < 14 {
-        back_up(c, d, pool, table, images, notes, image, counts);
+        back_up(c, d, pool, table, images, notes, counts);
     } else {
         retire(c, d, pool, table, notes, counts);
     }
@@ -158,12 +161,10 @@ fn change_and_check(
     table: &mut [u32],
     images: &mut [u8],
     notes: &mut [u32],
-    image: &mut [u8],
-    output: &mut [u8],
     counts: &mut [u64],
 ) {
-    change(c, d, kind, pool, table, images, notes, image, counts);
-    checks::all(c, pool, table, images, notes, output, counts);
+    change(c, d, kind, pool, table, images, notes, counts);
+    trial_checks::all(c, pool, table, images, notes, counts);
 }
 
 // Nothing changes, though a damaged store is mended again.
@@ -175,16 +176,14 @@ fn look(
     table: &mut [u32],
     images: &[u8],
     notes: &[u32],
-    image: &[u8],
-    output: &mut [u8],
     counts: &mut [u64],
 ) {
     if kind < 30 {
-        restore(c, d, pool, table, images, notes, output, counts);
+        restore(c, d, pool, table, images, notes, counts);
     } else if kind < 31 {
         trial_calls::list(c, till_of(c, d), pool, table, notes, counts);
     } else {
-        damage(d, pool, table, image, output, counts);
+        trial_unsound::damaged(d, pool, table, counts);
     }
 }
 
@@ -195,36 +194,12 @@ pub fn turn(
     table: &mut [u32],
     images: &mut [u8],
     notes: &mut [u32],
-    image: &mut [u8],
-    output: &mut [u8],
     counts: &mut [u64],
 ) {
     let kind = d.pick(0, 32);
     if kind < 23 {
-        change_and_check(
-            c,
-            d,
-            kind,
-            pool,
-            table,
-            images,
-            notes,
-            image,
-            output,
-            counts,
-        );
+        change_and_check(c, d, kind, pool, table, images, notes, counts);
     } else {
-        look(
-            c,
-            d,
-            kind,
-            pool,
-            table,
-            images,
-            notes,
-            image,
-            output,
-            counts,
-        );
+        look(c, d, kind, pool, table, images, notes, counts);
     }
 }
