@@ -1,56 +1,28 @@
--- Bullets 1, 2 and 3 of demand 3: what each call on a till answers, by its kept versions alone.
+-- Bullets 1, 2 and 3 of demand 3: what each call on a till answers, by what is kept of it.
 use mathlib.Core.Path.{_≡_, refl, sym, ap, ap₂, _∙_, subst}
 use mathlib.Core.Bool.{Bool, true, false, cond, _||_}
-use mathlib.Core.List.{List, [], _∷_, _++_, map}
-use Prim.Native.Nat.{ℕ, zero, suc, _*_, _≤_, _<_, zero-le, suc-le-suc}
+use mathlib.Core.List.{List, [], _∷_, _++_}
+use Prim.Native.Nat.{ℕ, suc, _*_, _≤_, _<_, zero-le}
 use native.Mathlib.Nat.{suc-ne-zero}
 use native.Mathlib.Omega.{arith}
-use lib.ListN.{length, getD, drop, length-map, List·getD-eq-default}
+use lib.ListN.{length, drop, List·getD-eq-default}
 use lib.Seq.{getD-set-same}
 use lib.Dec.{eqb, leb, ltb}
 use borrow.Author.Tests.{le-ltb, lt-ltb, leb-true, leb-false}
-use Rattle.lists.specs.Lists.{allZero, firstFrom}
-use Rattle.lists.proofs.Counted.{largest-most}
 use Rattle.lists.proofs.Tests.{by-test}
-use Rattle.model.specs.Measures.{Measures, Shape}
-use Rattle.model.specs.State.{Block, State}
-use Rattle.model.specs.Image.{imageBlocks}
+use Rattle.model.specs.Measures.{Shape}
+use Rattle.model.specs.State.{State}
 use Rattle.model.specs.Calls.{backupOf, restoreOf, restoreRefusal, retireOf, listingOf, listingRefusal, RestoreAnswer, ListingAnswer, retire, backup}
-use Rattle.laws.proofs.Serves.{sound-valid}
 use Rattle.history.specs.Calls.{Call, callBackup, callRestore, callRetire, callListing, Buffers, Answer, laidOut, backedUp, restored, retired, listed, tallied, answerOf, refusalIn}
-use Rattle.history.specs.Keeper.{Kept, KeptTill, noTill, keptTill, filed, fed, keptFrom, oldestKept, newestKept}
-use Rattle.history.specs.Kinds.{Kind, zeroKind, directKind, indirectKind, kindFor, firstBlocks, kindsKept, hopsOfKind, hopsKept, longestKept}
-use Rattle.history.specs.View.{isOnTill, tillNamed, restoreKept, retireKept, answerKept}
+use Rattle.history.specs.Keeper.{Kept, KeptTill, Keeper, noTill, keptTill, filed, fed, keptFrom, oldestKept, newestKept}
+use Rattle.history.specs.Kinds.{longestKept}
+use Rattle.history.specs.View.{VersionView, TillView, viewAt, isOnTill, tillNamed, shownFrom, oldestShown, newestShown, restoreShown, retireShown, answerShown}
 use Rattle.history.specs.Demand.{Restores, Answers}
-use Rattle.history.proofs.Images.{keptOf, keeperOf}
 use Rattle.history.proofs.Local.{Roomy, HasRoom, answer-in}
+use Rattle.history.proofs.Chains.{longest-most}
+use Rattle.history.proofs.Kept.{Agree, agree-from, agree-oldest, agree-newest, agree-chain}
+use Rattle.history.proofs.Fed.{Stands}
 use Rattle.history.proofs.Steps.{Left, answer-same}
-
--- ---- chains
-
--- with no newer version no pointer is indirect
-alone-hops : (bs : List Block) (n : ℕ) (f : ℕ → ℕ) → hopsOfKind (getD (map (λ b. kindFor b []) bs) n zeroKind) f ≡ 0
-unfolding hopsOfKind kindFor firstFrom
-alone-hops [] n f = refl
-alone-hops (b ∷ bs) zero f = by-test (λ (k : Kind). hopsOfKind k f ≡ 0) (allZero b) (λ e. refl) (λ e. refl)
-alone-hops (b ∷ bs) (suc n) f = alone-hops bs n f
-
-next-hops : (k : Kind) (f : ℕ → ℕ) (m : ℕ) → ((n : ℕ) → f n ≤ m) → hopsOfKind k f ≤ suc m
-unfolding hopsOfKind
-next-hops zeroKind f m h = zero-le
-next-hops directKind f m h = zero-le
-next-hops (indirectKind n) f m h = suc-le-suc (h n)
-
-hops-most : (m : Measures) (newer : List Kept) (x : Kept) (n : ℕ) → hopsKept (m .blockBytes) (x ∷ newer) n ≤ length newer
-unfolding hopsKept kindsKept firstBlocks
-hops-most m [] x n = subst (λ (k : ℕ). k ≤ 0) (sym (alone-hops (imageBlocks (m .blockBytes) (x .image)) n (λ k. 0))) zero-le
-hops-most m (y ∷ newer) x n = next-hops _ (λ k. hopsKept (m .blockBytes) (y ∷ newer) k) (length newer) (hops-most m newer y)
-
-pub longest-most : (m : Measures) (x : Kept) (newer : List Kept) → longestKept (m .blockBytes) (x ∷ newer) ≤ length newer
-unfolding longestKept
-longest-most m x newer = largest-most (length newer) (hopsKept (m .blockBytes) (x ∷ newer)) (hops-most m newer x) 0 (length (imageBlocks (m .blockBytes) (x .image)))
-
--- ---- answers
 
 unrestored : Answer → RestoreAnswer
 unrestored (laidOut n) = restoreRefusal n []
@@ -77,92 +49,111 @@ numberIn (retired n l) = l
 numberIn (listed a) = 0
 numberIn (tallied a) = 0
 
-kept-first : (v : ℕ) (y : Kept) (ys : List Kept) → eqb (y .number) v ≡ true → keptFrom v (y ∷ ys) ≡ y ∷ ys
-unfolding keptFrom
-kept-first v y ys e = ap (λ (t : Bool). cond t (y ∷ ys) (keptFrom v ys)) e
+shown-first : (v : ℕ) (w : VersionView) (ws : List VersionView) → eqb (w .number) v ≡ true → shownFrom v (w ∷ ws) ≡ w ∷ ws
+unfolding shownFrom
+shown-first v w ws e = ap (λ (t : Bool). cond t (w ∷ ws) (shownFrom v ws)) e
+
+-- The law: a call on a till answers what the till's view says, 14 and 16 apart.
+pub answer-shown : (s : Shape) (b : Buffers) (st : State) → Left s b st → (call : Call) → isOnTill call ≡ true → HasRoom call (answerOf b call)
+    → answerOf b call ≡ answerShown s (viewAt (s .measures .blockBytes) st (tillNamed call)) call
+answer-shown s b st l call on room = let same = answer-same s b st call l in same ∙ answer-in s st call on (subst (HasRoom call) same room)
 
 -- an accepted retire's length
-struck-length : (v : ℕ) (hs xs : List Kept) → keptFrom v xs ≡ hs → refusalIn (retireKept v hs xs) ≡ 0
-    → (x : Kept) × (newer : List Kept) × (hs ≡ x ∷ newer) × (numberIn (retireKept v hs xs) ≡ length (x .image))
-unfolding retireKept refusalIn numberIn
-struck-length v [] xs e z = absurd (suc-ne-zero 14 z)
+struck-length : (v : ℕ) (hs ws : List VersionView) → shownFrom v ws ≡ hs → refusalIn (retireShown v hs ws) ≡ 0
+    → (w : VersionView) × (newer : List VersionView) × (hs ≡ w ∷ newer) × (numberIn (retireShown v hs ws) ≡ w .length)
+unfolding retireShown refusalIn numberIn
+struck-length v [] ws e z = absurd (suc-ne-zero 14 z)
 struck-length v (x ∷ newer) [] e z = absurd (suc-ne-zero 14 z)
-struck-length v (x ∷ newer) (y ∷ ys) e z = go (eqb (y .number) v) refl z
+struck-length v (x ∷ newer) (w ∷ ws) e z = go (eqb (w .number) v) refl z
   where
-    go : (t : Bool) → eqb (y .number) v ≡ t → refusalIn (cond t (retired 0 (length (y .image))) (retired 13 0)) ≡ 0
-        → (x′ : Kept) × (newer′ : List Kept) × (x ∷ newer ≡ x′ ∷ newer′) × (numberIn (cond t (retired 0 (length (y .image))) (retired 13 0)) ≡ length (x′ .image))
-    go true q z = (y, ys, sym e ∙ kept-first v y ys q, unfold numberIn in refl)
+    go : (t : Bool) → eqb (w .number) v ≡ t → refusalIn (cond t (retired 0 (w .length)) (retired 13 0)) ≡ 0
+        → (u : VersionView) × (newer′ : List VersionView) × (x ∷ newer ≡ u ∷ newer′) × (numberIn (cond t (retired 0 (w .length)) (retired 13 0)) ≡ u .length)
+    go true q z = (w, ws, sym e ∙ shown-first v w ws q, unfold numberIn in refl)
     go false q z = unfold refusalIn in absurd (suc-ne-zero 12 z)
 
-module _ (s : Shape) (b : Buffers) (st : State) (l : Left s b st) where
-  -- The law: a call on a till answers what its kept versions say, 14 and 16 apart.
-  pub answer-kept : (call : Call) → isOnTill call ≡ true → HasRoom call (answerOf b call) → answerOf b call ≡ answerKept s (keptTill (keeperOf (s .measures .blockBytes) st) (tillNamed call)) call
-  answer-kept call on room =
-      let same = answer-same s b st call l in same ∙ answer-in s (l .fit .proper) st (l .good .sound) (l .good .kinded) call on (subst (HasRoom call) same room)
+-- of versions that agree with one that is shown, the first
+first-kept : (bytes : ℕ) (xs : List Kept) (w : VersionView) (ws : List VersionView) → Agree bytes xs (w ∷ ws)
+    → (x : Kept) × (newer : List Kept) × (xs ≡ x ∷ newer) × (w .length ≡ length (x .image))
+first-kept bytes [] w ws a = absurd a
+first-kept bytes (x ∷ newer) w ws a = (x, newer, refl, a .0 .size)
+
+module _ (s : Shape) (b : Buffers) (st : State) (k : Keeper) (l : Left s b st) (z : Stands s k st) where
+  -- what till `t` shows
+  shown : ℕ → TillView
+  shown t = viewAt (s .measures .blockBytes) st t
+
+  answer-is : (call : Call) → isOnTill call ≡ true → HasRoom call (answerOf b call) → answerOf b call ≡ answerShown s (viewAt (s .measures .blockBytes) st (tillNamed call)) call
+  answer-is = answer-shown s b st l
+
+  held : (t v : ℕ) → Agree (s .measures .blockBytes) (keptFrom v (keptTill k t .versions)) (shownFrom v (shown t .versions))
+  unfolding shown
+  held t v = agree-from (s .measures .blockBytes) v (keptTill k t .versions) (viewAt (s .measures .blockBytes) st t .versions) (z .tills t .1)
 
   restore-is : (t v : ℕ) (output : List ℕ) → restoreOf (b .pool) (b .table) t v output
-      ≡ cond (leb (s .capacities .tills) t) (restoreRefusal 3 output) (restoreKept (s .measures .blockBytes) (keptFrom v (keptTill (keeperOf (s .measures .blockBytes) st) t .versions)) output)
-  unfolding unrestored answerOf answerKept tillNamed
-  restore-is t v output = ap unrestored (answer-kept (callRestore t v output) refl tt)
+      ≡ cond (leb (s .capacities .tills) t) (restoreRefusal 3 output) (restoreShown (shownFrom v (shown t .versions)) output)
+  unfolding unrestored answerOf answerShown tillNamed shown
+  restore-is t v output = ap unrestored (answer-is (callRestore t v output) refl tt)
 
   listing-is : (t : ℕ) → listingOf (b .pool) (b .table) t
       ≡ cond (leb (s .capacities .tills) t) (listingRefusal 3)
-      (record {
-        refusal = 0;
-        oldest = oldestKept (keptTill (keeperOf (s .measures .blockBytes) st) t .versions);
-        newest = newestKept (keptTill (keeperOf (s .measures .blockBytes) st) t .versions);
-        last = keptTill (keeperOf (s .measures .blockBytes) st) t .last;
-      })
-  unfolding unlisted answerOf answerKept tillNamed
-  listing-is t = ap unlisted (answer-kept (callListing t) refl tt)
-
-  tills-many : length (keeperOf (s .measures .blockBytes) st) ≡ s .capacities .tills
-  unfolding keeperOf
-  tills-many = length-map (st .tills) (keptOf (s .measures .blockBytes) (st .shelf)) ∙ sound-valid s st (l .good .sound) .tillCount
+      (record { refusal = 0; oldest = oldestShown (shown t .versions); newest = newestShown (shown t .versions); last = shown t .last })
+  unfolding unlisted answerOf answerShown tillNamed shown
+  listing-is t = ap unlisted (answer-is (callListing t) refl tt)
 
   -- a till with a version is there
-  held-there : (t v : ℕ) (x : Kept) (newer : List Kept) → keptFrom v (keptTill (keeperOf (s .measures .blockBytes) st) t .versions) ≡ x ∷ newer → leb (s .capacities .tills) t ≡ false
+  held-there : (t v : ℕ) (x : Kept) (newer : List Kept) → keptFrom v (keptTill k t .versions) ≡ x ∷ newer → leb (s .capacities .tills) t ≡ false
   held-there t v x newer e = go (leb (s .capacities .tills) t) refl
     where
-      gone : keptTill (keeperOf (s .measures .blockBytes) st) t ≡ noTill → keptFrom v (keptTill (keeperOf (s .measures .blockBytes) st) t .versions) ≡ []
+      gone : keptTill k t ≡ noTill → keptFrom v (keptTill k t .versions) ≡ []
       gone q = ap (λ (y : KeptTill). keptFrom v (y .versions)) q ∙ (unfold noTill keptFrom in refl)
 
       go : (q : Bool) → leb (s .capacities .tills) t ≡ q → leb (s .capacities .tills) t ≡ false
       go true q =
-          let out : keptTill (keeperOf (s .measures .blockBytes) st) t ≡ noTill =
-          unfold keptTill in List·getD-eq-default (keeperOf (s .measures .blockBytes) st) noTill (omega (arith, leb-true (s .capacities .tills) t q, tills-many)) in
+          let out : keptTill k t ≡ noTill =
+          unfold keptTill in List·getD-eq-default k noTill (omega (arith, leb-true (s .capacities .tills) t q, z .many)) in
           absurd (suc-ne-zero (length newer) (ap length (sym e ∙ gone out)))
       go false q = q
 
-  -- a restore of a held version
-  held-is : (t v : ℕ) (x : Kept) (newer : List Kept) (output : List ℕ) → keptFrom v (keptTill (keeperOf (s .measures .blockBytes) st) t .versions) ≡ x ∷ newer
-      → restoreOf (b .pool) (b .table) t v output ≡ restoreKept (s .measures .blockBytes) (x ∷ newer) output
-  held-is t v x newer output e =
-      restore-is t v output
-      ∙ ap₂ (λ (q : Bool) (hs : List Kept). cond q (restoreRefusal 3 output) (restoreKept (s .measures .blockBytes) hs output)) (held-there t v x newer e) e
+  -- a restore of a held version, which is shown as `w` with the newer ones `ws`
+  held-is : (t v : ℕ) (x : Kept) (newer : List Kept) (output : List ℕ) (Q : RestoreAnswer → Type 0) → keptFrom v (keptTill k t .versions) ≡ x ∷ newer
+      → ((w : VersionView) (ws : List VersionView) → Agree (s .measures .blockBytes) (x ∷ newer) (w ∷ ws) → Q (restoreShown (w ∷ ws) output)) → Q (restoreOf (b .pool) (b .table) t v output)
+  held-is t v x newer output Q e f =
+      subst Q
+      (sym (restore-is t v output
+      ∙ ap (λ (q : Bool). cond q (restoreRefusal 3 output) (restoreShown (shownFrom v (shown t .versions)) output)) (held-there t v x newer e)))
+      (go (shownFrom v (shown t .versions)) (subst (λ (xs : List Kept). Agree (s .measures .blockBytes) xs (shownFrom v (shown t .versions))) e (held t v)))
+    where
+      go : (hs : List VersionView) → Agree (s .measures .blockBytes) (x ∷ newer) hs → Q (restoreShown hs output)
+      go [] a = absurd a
+      go (w ∷ ws) a = f w ws a
 
-  pub restores : Restores (s .measures .blockBytes) st (keeperOf (s .measures .blockBytes) st) b
-  unfolding restoreKept restoreRefusal
+  pub restores : Restores (s .measures .blockBytes) st k b
+  unfolding restoreShown restoreRefusal
   restores = record {
     given = λ t v x newer output e q.
-        subst (λ (r : RestoreAnswer). (r .refusal ≡ 0) × (r .length ≡ length (x .image)) × (r .output ≡ x .image ++ drop (length (x .image)) output)
-        × (r .hops ≡ longestKept (s .measures .blockBytes) (x ∷ newer)))
-        (sym (held-is t v x newer output e)) (rw (le-ltb (length output) (length (x .image)) q) (refl, refl, refl, refl));
+        held-is t v x newer output (λ (r : RestoreAnswer). (r .refusal ≡ 0) × (r .length ≡ length (x .image)) × (r .output ≡ x .image ++ drop (length (x .image)) output)
+        × (r .hops ≡ longestKept (s .measures .blockBytes) (x ∷ newer))) e (λ w ws a.
+        rw (le-ltb (length output) (w .length) (omega (arith, q, a .0 .size))) (
+          refl,
+          a .0 .size,
+          ap₂ (λ (i : List ℕ) (n : ℕ). i ++ drop n output) (a .0 .image) (a .0 .size),
+          agree-chain (s .measures .blockBytes) (x ∷ newer) (w ∷ ws) a,
+        ));
     short = λ t v x newer output e q.
-        ap (λ (r : RestoreAnswer). r .refusal) (held-is t v x newer output e)
-        ∙ ap (λ (t : Bool). cond t (restoreRefusal 5 output) (long x newer output) .refusal) (lt-ltb (length output) (length (x .image)) q);
+        held-is t v x newer output (λ (r : RestoreAnswer). r .refusal ≡ 5) e (λ w ws a. rw (lt-ltb (length output) (w .length) (omega (arith, q, a .0 .size))) refl);
     notHeld = λ t v output e.
         subst (λ (r : RestoreAnswer). ¬ (r .refusal ≡ 0)) (sym (restore-is t v output))
         (by-test (λ (r : RestoreAnswer). ¬ (r .refusal ≡ 0)) (leb (s .capacities .tills) t) (λ q z. suc-ne-zero 2 z)
-        (λ q. subst (λ (hs : List Kept). ¬ (restoreKept (s .measures .blockBytes) hs output .refusal ≡ 0)) (sym e) (λ z. suc-ne-zero 14 z)));
+        (λ q. none output (shownFrom v (shown t .versions)) (subst (λ (xs : List Kept). Agree (s .measures .blockBytes) xs (shownFrom v (shown t .versions))) e (held t v))));
     chain = λ t v x newer output e.
-        subst (λ (r : RestoreAnswer). r .hops ≤ length newer) (sym (held-is t v x newer output e))
-        (by-test (λ (r : RestoreAnswer). r .hops ≤ length newer) (ltb (length output) (length (x .image))) (λ q. zero-le) (λ q. longest-most (s .measures) x newer));
+        held-is t v x newer output (λ (r : RestoreAnswer). r .hops ≤ length newer) e (λ w ws a.
+        by-test (λ (r : RestoreAnswer). r .hops ≤ length newer) (ltb (length output) (w .length)) (λ q. zero-le)
+        (λ q. subst (λ (n : ℕ). n ≤ length newer) (sym (agree-chain (s .measures .blockBytes) (x ∷ newer) (w ∷ ws) a)) (longest-most (s .measures) x newer)));
   }
     where
-      long : Kept → List Kept → List ℕ → RestoreAnswer
-      long x newer output =
-          record { refusal = 0; length = length (x .image); hops = longestKept (s .measures .blockBytes) (x ∷ newer); output = x .image ++ drop (length (x .image)) output }
+      none : (output : List ℕ) (hs : List VersionView) → Agree (s .measures .blockBytes) [] hs → ¬ (restoreShown hs output .refusal ≡ 0)
+      none output [] a = unfold restoreShown restoreRefusal in (λ z. suc-ne-zero 14 z)
+      none output (w ∷ ws) a = absurd a
 
   -- an accepted backup
   room : (t : ℕ) (image : List ℕ) → backupOf (b .pool) (b .table) t image .refusal ≡ 0 → Roomy (answerOf b (callBackup t image))
@@ -175,66 +166,75 @@ module _ (s : Shape) (b : Buffers) (st : State) (l : Left s b st) where
   Given : ℕ → ℕ → Answer → Type 0
   Given t n a = refusalIn a ≡ 0 → (numberIn a ≡ n) × (leb (s .capacities .tills) t ≡ false)
 
-  backup-is : (t : ℕ) (image : List ℕ) → Given t (suc (keptTill (keeperOf (s .measures .blockBytes) st) t .last)) (answerKept s (keptTill (keeperOf (s .measures .blockBytes) st) t) (callBackup t image))
-  unfolding answerKept Given refusalIn numberIn
+  backup-is : (t : ℕ) (image : List ℕ) → Given t (suc (shown t .last)) (answerShown s (shown t) (callBackup t image))
+  unfolding answerShown Given refusalIn numberIn
   backup-is t image = go (leb (s .capacities .tills) t) refl
     where
       later : leb (s .capacities .tills) t ≡ false → (b₁ b₂ b₃ : Bool)
-          → Given t (suc (keptTill (keeperOf (s .measures .blockBytes) st) t .last))
-          (cond b₁ (backedUp 4 0) (cond b₂ (backedUp 11 0) (cond b₃ (backedUp 12 0) (backedUp 0 (suc (keptTill (keeperOf (s .measures .blockBytes) st) t .last))))))
+          → Given t (suc (shown t .last))
+          (cond b₁ (backedUp 4 0) (cond b₂ (backedUp 11 0) (cond b₃ (backedUp 12 0) (backedUp 0 (suc (shown t .last))))))
       later e true b₂ b₃ = unfold Given refusalIn in (λ z. absurd (suc-ne-zero 3 z))
       later e false true b₃ = unfold Given refusalIn in (λ z. absurd (suc-ne-zero 10 z))
       later e false false true = unfold Given refusalIn in (λ z. absurd (suc-ne-zero 11 z))
       later e false false false = unfold Given refusalIn numberIn in (λ z. (refl, e))
 
       go : (q : Bool) → leb (s .capacities .tills) t ≡ q
-          → Given t (suc (keptTill (keeperOf (s .measures .blockBytes) st) t .last))
+          → Given t (suc (shown t .last))
           (cond q (backedUp 3 0)
           (cond (eqb (length image) 0 || ltb (s .measures .blockBytes * s .capacities .blocks) (length image)) (backedUp 4 0)
-          (cond (leb (s .capacities .versions) (length (keptTill (keeperOf (s .measures .blockBytes) st) t .versions))) (backedUp 11 0)
-          (cond (eqb (keptTill (keeperOf (s .measures .blockBytes) st) t .last) 65535) (backedUp 12 0) (backedUp 0 (suc (keptTill (keeperOf (s .measures .blockBytes) st) t .last)))))))
+          (cond (leb (s .capacities .versions) (length (shown t .versions))) (backedUp 11 0)
+          (cond (eqb (shown t .last) 65535) (backedUp 12 0) (backedUp 0 (suc (shown t .last)))))))
       go true q = unfold Given refusalIn in (λ z. absurd (suc-ne-zero 2 z))
       go false q =
           later q (eqb (length image) 0 || ltb (s .measures .blockBytes * s .capacities .blocks) (length image))
-          (leb (s .capacities .versions) (length (keptTill (keeperOf (s .measures .blockBytes) st) t .versions))) (eqb (keptTill (keeperOf (s .measures .blockBytes) st) t .last) 65535)
+          (leb (s .capacities .versions) (length (shown t .versions))) (eqb (shown t .last) 65535)
 
   backup-given : (t : ℕ) (image : List ℕ) → backupOf (b .pool) (b .table) t image .refusal ≡ 0
-      → (backupOf (b .pool) (b .table) t image .version ≡ suc (keptTill (keeperOf (s .measures .blockBytes) st) t .last)) × (leb (s .capacities .tills) t ≡ false)
-  unfolding answerOf tillNamed refusalIn numberIn Given
-  backup-given t image z =
-      subst (Given t (suc (keptTill (keeperOf (s .measures .blockBytes) st) t .last))) (sym (answer-kept (callBackup t image) refl (room t image z))) (backup-is t image) z
+      → (backupOf (b .pool) (b .table) t image .version ≡ suc (shown t .last)) × (leb (s .capacities .tills) t ≡ false)
+  unfolding answerOf tillNamed refusalIn numberIn Given shown
+  backup-given t image z = subst (Given t (suc (shown t .last))) (sym (answer-is (callBackup t image) refl (room t image z))) (backup-is t image) z
 
-  fed-last : (t : ℕ) (image : List ℕ) → t < length (keeperOf (s .measures .blockBytes) st)
-      → keptTill (fed (keeperOf (s .measures .blockBytes) st) (callBackup t image) true) t .last ≡ suc (keptTill (keeperOf (s .measures .blockBytes) st) t .last)
+  fed-last : (t : ℕ) (image : List ℕ) → t < length k → keptTill (fed k (callBackup t image) true) t .last ≡ suc (keptTill k t .last)
   unfolding fed keptTill filed
-  fed-last t image h = ap (λ (y : KeptTill). y .last) (getD-set-same (keeperOf (s .measures .blockBytes) st) t (filed (keptTill (keeperOf (s .measures .blockBytes) st) t) image) noTill h)
+  fed-last t image h = ap (λ (y : KeptTill). y .last) (getD-set-same k t (filed (keptTill k t) image) noTill h)
+
+  last-is : (t : ℕ) → shown t .last ≡ keptTill k t .last
+  unfolding shown
+  last-is t = z .tills t .0
 
   retire-given : (t v : ℕ) → retireOf (b .pool) (b .table) t v .refusal ≡ 0
-      → (x : Kept) × (newer : List Kept) × (keptFrom v (keptTill (keeperOf (s .measures .blockBytes) st) t .versions) ≡ x ∷ newer)
-      × (retireOf (b .pool) (b .table) t v .length ≡ length (x .image))
-  unfolding answerOf answerKept tillNamed refusalIn numberIn
+      → (x : Kept) × (newer : List Kept) × (keptFrom v (keptTill k t .versions) ≡ x ∷ newer) × (retireOf (b .pool) (b .table) t v .length ≡ length (x .image))
+  unfolding answerOf answerShown tillNamed refusalIn numberIn shown
   retire-given t v =
-      subst (λ (a : Answer). refusalIn a ≡ 0
-      → (x : Kept) × (newer : List Kept) × (keptFrom v (keptTill (keeperOf (s .measures .blockBytes) st) t .versions) ≡ x ∷ newer) × (numberIn a ≡ length (x .image)))
-      (sym (answer-kept (callRetire t v) refl tt))
-      (by-test (λ (a : Answer). refusalIn a ≡ 0
-      → (x : Kept) × (newer : List Kept) × (keptFrom v (keptTill (keeperOf (s .measures .blockBytes) st) t .versions) ≡ x ∷ newer) × (numberIn a ≡ length (x .image)))
-      (leb (s .capacities .tills) t) (λ q z. absurd (suc-ne-zero 2 z))
-      (λ q z. struck-length v (keptFrom v (keptTill (keeperOf (s .measures .blockBytes) st) t .versions)) (keptTill (keeperOf (s .measures .blockBytes) st) t .versions) refl z))
+      subst (λ (a : Answer). refusalIn a ≡ 0 → Struck (numberIn a)) (sym (answer-is (callRetire t v) refl tt))
+      (by-test (λ (a : Answer). refusalIn a ≡ 0 → Struck (numberIn a)) (leb (s .capacities .tills) t) (λ q z. absurd (suc-ne-zero 2 z))
+      (λ q z. go (struck-length v (shownFrom v (shown t .versions)) (shown t .versions) refl z)))
+    where
+      Struck : ℕ → Type 0
+      Struck n = (x : Kept) × (newer : List Kept) × (keptFrom v (keptTill k t .versions) ≡ x ∷ newer) × (n ≡ length (x .image))
 
-  pub answers : Answers (s .measures .blockBytes) st (keeperOf (s .measures .blockBytes) st) b
+      go : {n : ℕ} → (w : VersionView) × (ws : List VersionView) × (shownFrom v (shown t .versions) ≡ w ∷ ws) × (n ≡ w .length) → Struck n
+      go f =
+          let x = first-kept (s .measures .blockBytes) (keptFrom v (keptTill k t .versions)) (f .0) (f .1)
+          (subst (Agree (s .measures .blockBytes) (keptFrom v (keptTill k t .versions))) (f .2) (held t v)) in
+          (x .0, x .1, x .2, f .3 ∙ x .3)
+
+  pub answers : Answers (s .measures .blockBytes) st k b
   unfolding listingRefusal
   answers = record {
     listing = λ t.
         subst (λ (r : ListingAnswer). r .refusal ≡ 0
-        → (r .oldest ≡ oldestKept (keptTill (keeperOf (s .measures .blockBytes) st) t .versions)) × (r .newest ≡ newestKept (keptTill (keeperOf (s .measures .blockBytes) st) t .versions))
-        × (r .last ≡ keptTill (keeperOf (s .measures .blockBytes) st) t .last))
+        → (r .oldest ≡ oldestKept (keptTill k t .versions)) × (r .newest ≡ newestKept (keptTill k t .versions)) × (r .last ≡ keptTill k t .last))
         (sym (listing-is t))
         (by-test (λ (r : ListingAnswer). r .refusal ≡ 0
-        → (r .oldest ≡ oldestKept (keptTill (keeperOf (s .measures .blockBytes) st) t .versions)) × (r .newest ≡ newestKept (keptTill (keeperOf (s .measures .blockBytes) st) t .versions))
-        × (r .last ≡ keptTill (keeperOf (s .measures .blockBytes) st) t .last)) (leb (s .capacities .tills) t) (λ q z. absurd (suc-ne-zero 2 z)) (λ q z. (refl, refl, refl)));
-    backup = λ t image z.
-        let g = backup-given t image z in
-        g .0 ∙ sym (fed-last t image (omega (arith, leb-false (s .capacities .tills) t (g .1), tills-many)));
+        → (r .oldest ≡ oldestKept (keptTill k t .versions)) × (r .newest ≡ newestKept (keptTill k t .versions)) × (r .last ≡ keptTill k t .last))
+        (leb (s .capacities .tills) t) (λ q z. absurd (suc-ne-zero 2 z)) (λ q e. (
+          agree-oldest (s .measures .blockBytes) (keptTill k t .versions) (shown t .versions) (unfold shown in z .tills t .1),
+          agree-newest (s .measures .blockBytes) (keptTill k t .versions) (shown t .versions) (unfold shown in z .tills t .1),
+          last-is t,
+        )));
+    backup = λ t image e.
+        let g = backup-given t image e in
+        g .0 ∙ ap suc (last-is t) ∙ sym (fed-last t image (omega (arith, leb-false (s .capacities .tills) t (g .1), z .many)));
     retire = retire-given;
   }

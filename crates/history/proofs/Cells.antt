@@ -16,8 +16,8 @@ use Rattle.lists.proofs.Tests.{clause, cond-true, every-head, every-tail}
 use Rattle.lists.proofs.Uses.{in-uses, uses, uses-append, uses-in}
 use Rattle.model.specs.Measures.{Shape}
 use Rattle.model.specs.State.{Pointer, nullPointer, direct, indirect, nullPosition, held, removed, Segment, Shelf, Version, Till, State}
-use Rattle.model.specs.Records.{isHeld, cellOf, countOf, cellsOf, namedCells, positionAt}
-use Rattle.model.specs.Sound.{isSound, isTill, isNumbered, leadsTo, nextPointers, allPointers, areCounted, allCounted}
+use Rattle.model.specs.Records.{isHeld, cellOf, cellsOf, namedCells, positionAt}
+use Rattle.model.specs.Sound.{isSound, isTill, isNumbered, leadsTo, nextPointers, allPointers}
 use Rattle.model.specs.Calls.{emptyTill, tillOf, heldFrom}
 use Rattle.laws.proofs.Sweep.{countIn, named-one}
 use Rattle.laws.proofs.Counts.{at, held-positive}

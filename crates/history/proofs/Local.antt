@@ -1,14 +1,12 @@
--- What a call on a till answers follows from that till's kept versions alone, 14 and 16 apart.
+-- What a call on a till answers follows from what that till shows, 14 and 16 apart.
 use mathlib.Core.Path.{_≡_, refl, sym, ap, ap₂, _∙_, subst}
 use mathlib.Core.Logic.{_⊎_, inl, inr}
 use mathlib.Core.Bool.{Bool, true, false, cond, not, _||_, false≢true}
 use mathlib.Core.List.{List, [], _∷_, _++_}
 use mathlib.Core.Option.{Option, none, some}
-use Prim.Native.Nat.{ℕ, suc, _*_, _<_}
-use native.Mathlib.Omega.{arith}
+use Prim.Native.Nat.{ℕ, suc, _*_}
 use lib.ListN.{length, drop}
 use lib.Dec.{eqb, leb, ltb}
-use borrow.Author.Tests.{leb-false}
 use Rattle.lists.specs.Lists.{every, firstFrom, allZero}
 use Rattle.lists.proofs.Tests.{by-test}
 use Rattle.model.specs.Measures.{Shape}
@@ -18,19 +16,10 @@ use Rattle.model.specs.Records.{isFree, equals}
 use Rattle.model.specs.Runs.{Run, findRun}
 use Rattle.model.specs.Place.{Placed, nonNull, writeRun, writeRecord, shareOrWrite, placeSegment, afterSome, placeNext, placeAll}
 use Rattle.model.specs.Trace.{imageOf}
-use Rattle.model.specs.Sound.{isSound}
-use Rattle.model.specs.Calls.{tillOf, heldFrom, restoreFrom, restoreRefusal, restore, isEmpty, isOldest, dropOldest, retire, fileIn, placeAndFile, backup, listTill, listingRefusal, listingIn, After}
-use Rattle.laws.proofs.Serves.{sound-valid}
-use Rattle.laws.proofs.Fits.{Proper}
+use Rattle.model.specs.Calls.{tillOf, heldFrom, restoreFrom, restoreRefusal, restore, isEmpty, isOldest, dropOldest, retire, fileIn, placeAndFile, backup, listTill, listingRefusal, listingIn, RestoreAnswer, After}
 use Rattle.history.specs.Calls.{Call, callLayout, callBackup, callRestore, callRetire, callListing, callTally, Answer, backedUp, restored, retired, listed, outcomeRefusal, outcomeNumber, answerIn}
-use Rattle.history.specs.Keeper.{Kept, KeptTill, keptFrom, keptTill, oldestKept, newestKept}
-use Rattle.history.specs.View.{isOnTill, tillNamed, restoreKept, retireKept, answerKept}
-use Rattle.history.proofs.Images.{imagesOf, keptOf, keeperOf, kept-at}
-use Rattle.history.proofs.Sharing.{AllKinded}
-use Rattle.history.proofs.Restore.{from-same}
-use Rattle.history.proofs.Numbers.{images-length, oldest-is, newest-is}
-use Rattle.history.proofs.Chains.{longest-kept}
-use Rattle.history.proofs.Held.{Readable, till-readable, from-readable, image-bytes}
+use Rattle.history.specs.View.{VersionView, viewVersions, viewOf, viewAt, isOnTill, tillNamed, shownFrom, restoreShown, retireShown, answerShown}
+use Rattle.history.proofs.Shown.{views-length, oldest-is, newest-is, from-same, chain-is}
 
 -- ---- step 1 refuses with 14 or 16
 
@@ -87,16 +76,26 @@ file-answer s st t image blocks till (refused n) (inl e) r = absurd (r .0 (ap (�
 file-answer s st t image blocks till (refused n) (inr e) r = absurd (r .1 (ap (λ (k : ℕ). backedUp k 0) e))
 file-answer s st t image blocks till (done p) h r = refl
 
-pub backup-kept : (s : Shape) (st : State) (t : ℕ) (image : List ℕ) → Roomy (answerFrom (backup s st t image))
-    → answerFrom (backup s st t image) ≡ answerKept s (keptTill (keeperOf (s .measures .blockBytes) st) t) (callBackup t image)
-backup-kept s st t image = subst (λ (y : KeptTill). Roomy (answerFrom (backup s st t image)) → answerFrom (backup s st t image) ≡ answerKept s y (callBackup t image))
-    (sym (kept-at (s .measures .blockBytes) st t)) chosen
+backup-shown : (s : Shape) (st : State) (t : ℕ) (image : List ℕ) → Roomy (answerFrom (backup s st t image))
+    → answerFrom (backup s st t image) ≡ answerShown s (viewAt (s .measures .blockBytes) st t) (callBackup t image)
+unfolding answerShown backup viewOf
+backup-shown s st t image =
+    subst (λ (n : ℕ). Is (cond none (backedUp 3 0) (cond size (backedUp 4 0) (cond (leb (s .capacities .versions) n) (backedUp 11 0) (cond top (backedUp 12 0) (backedUp 0 (suc (tillOf st t .last)))))))
+    (cond none (refused 3) (cond size (refused 4) (cond (leb (s .capacities .versions) (length (tillOf st t .versions))) (refused 11) (cond top (refused 12) (placeAndFile s st t image (tillOf st t)))))))
+    (sym (views-length (s .measures .blockBytes) (st .shelf) (tillOf st t .versions)))
+    (step none 3 _ _ (step size 4 _ _ (step (leb (s .capacities .versions) (length (tillOf st t .versions))) 11 _ _ (step top 12 _ _ filed))))
   where
+    none : Bool
+    none = leb (s .capacities .tills) t
+
+    size : Bool
+    size = eqb (length image) 0 || ltb (s .measures .blockBytes * s .capacities .blocks) (length image)
+
+    top : Bool
+    top = eqb (tillOf st t .last) 65535
+
     Is : Answer → Outcome After → Type 0
     Is a o = Roomy (answerFrom o) → answerFrom o ≡ a
-
-    placed : Outcome Placed
-    placed = placeAll (done (record { shelf = st .shelf; pointers = [] })) (imageSegments (s .measures .blockBytes) (s .measures .segmentBlocks) image)
 
     filed : Is (backedUp 0 (suc (tillOf st t .last))) (placeAndFile s st t image (tillOf st t))
     filed =
@@ -109,103 +108,61 @@ backup-kept s st t image = subst (λ (y : KeptTill). Roomy (answerFrom (backup s
     step true n o a h r = unfold outcomeRefusal outcomeNumber in refl
     step false n o a h r = h r
 
-    size : length (keptOf (s .measures .blockBytes) (st .shelf) (tillOf st t) .versions) ≡ length (tillOf st t .versions)
-    size = unfold keptOf in images-length (s .measures) (st .shelf) (tillOf st t .versions)
+restore-shown : (s : Shape) (st : State) (t v : ℕ) (output : List ℕ)
+    → restored (restore s st t v output) ≡ answerShown s (viewAt (s .measures .blockBytes) st t) (callRestore t v output)
+unfolding restore answerShown viewOf
+restore-shown s st t v output =
+    ap (λ (r : RestoreAnswer). restored (cond (leb (s .capacities .tills) t) (restoreRefusal 3 output) r))
+    (first (heldFrom v (tillOf st t .versions)) ∙ ap (λ (l : List VersionView). restoreShown l output) (sym (from-same (s .measures .blockBytes) (st .shelf) v (tillOf st t .versions))))
+  where
+    first : (vs : List Version)
+        → restoreFrom (s .measures .blockBytes) (st .shelf) vs output ≡ restoreShown (viewVersions (s .measures .blockBytes) (st .shelf) vs) output
+    first [] = unfold restoreFrom restoreShown viewVersions in refl
+    first (w ∷ ws) =
+        unfold restoreFrom restoreShown viewVersions in
+        ap (λ (c : ℕ). cond (ltb (length output) (w .length)) (restoreRefusal 5 output)
+        (record { refusal = 0; length = w .length; hops = c; output = imageOf (s .measures .blockBytes) (st .shelf) (w ∷ ws) ++ drop (w .length) output }))
+        (unfold viewVersions in chain-is (s .measures .blockBytes) (st .shelf) (w ∷ ws))
 
-    chosen : Roomy (answerFrom (backup s st t image)) → answerFrom (backup s st t image) ≡ answerKept s (keptOf (s .measures .blockBytes) (st .shelf) (tillOf st t)) (callBackup t image)
-    chosen =
-        unfold answerKept backup in
-        subst (λ (n : ℕ). Is
-        (cond (leb (s .capacities .tills) t) (backedUp 3 0)
-        (cond (eqb (length image) 0 || ltb (s .measures .blockBytes * s .capacities .blocks) (length image)) (backedUp 4 0)
-        (cond (leb (s .capacities .versions) n) (backedUp 11 0)
-        (cond (eqb (keptOf (s .measures .blockBytes) (st .shelf) (tillOf st t) .last) 65535) (backedUp 12 0) (backedUp 0 (suc (keptOf (s .measures .blockBytes) (st .shelf) (tillOf st t) .last)))))))
-        (cond (leb (s .capacities .tills) t) (refused 3)
-        (cond (eqb (length image) 0 || ltb (s .measures .blockBytes * s .capacities .blocks) (length image)) (refused 4)
-        (cond (leb (s .capacities .versions) (length (tillOf st t .versions))) (refused 11)
-        (cond (eqb (tillOf st t .last) 65535) (refused 12) (placeAndFile s st t image (tillOf st t)))))))
-        (sym size)
-        (unfold keptOf in
-        step (leb (s .capacities .tills) t) 3 _ _
-        (step (eqb (length image) 0 || ltb (s .measures .blockBytes * s .capacities .blocks) (length image)) 4 _ _
-        (step (leb (s .capacities .versions) (length (tillOf st t .versions))) 11 _ _
-        (step (eqb (tillOf st t .last) 65535) 12 _ _ filed))))
+abbrev retiredFrom : Outcome After → Answer
+retiredFrom o = retired (outcomeRefusal o) (outcomeNumber o)
 
-module _ (s : Shape) (pr : Proper (s .measures)) (st : State) (h : isSound s st ≡ true) (kd : AllKinded (s .measures .blockBytes) st) where
-  inside : (t : ℕ) → leb (s .capacities .tills) t ≡ false → t < length (st .tills)
-  inside t e = omega (arith, leb-false (s .capacities .tills) t e, sound-valid s st h .tillCount)
+retire-shown : (s : Shape) (st : State) (t v : ℕ) → retiredFrom (retire s st t v) ≡ answerShown s (viewAt (s .measures .blockBytes) st t) (callRetire t v)
+unfolding retire answerShown viewOf
+retire-shown s st t v = either (leb (s .capacities .tills) t)
+  where
+    dropped : (hs vs : List Version) → (isEmpty vs ≡ true → isEmpty hs ≡ true)
+        → retiredFrom (cond (isEmpty hs) (refused 15) (cond (not (isOldest v vs)) (refused 13) (dropOldest s st t (tillOf st t .last) vs)))
+        ≡ retireShown v (viewVersions (s .measures .blockBytes) (st .shelf) hs) (viewVersions (s .measures .blockBytes) (st .shelf) vs)
+    dropped [] vs e = unfold isEmpty retireShown viewVersions outcomeRefusal outcomeNumber in refl
+    dropped (x ∷ hs) [] e = unfold isEmpty in absurd (false≢true (e refl))
+    dropped (x ∷ hs) (w ∷ ws) e =
+        unfold isEmpty isOldest retireShown viewVersions in go (eqb (w .number) v)
+      where
+        go : (b : Bool) → retiredFrom (cond (not b) (refused 13) (dropOldest s st t (tillOf st t .last) (w ∷ ws))) ≡ cond b (retired 0 (w .length)) (retired 13 0)
+        go true = unfold dropOldest outcomeRefusal outcomeNumber in refl
+        go false = unfold outcomeRefusal outcomeNumber in refl
 
-  from-kept : (vs : List Version) (output : List ℕ) → Readable s st vs
-      → restoreFrom (s .measures .blockBytes) (st .shelf) vs output ≡ restoreKept (s .measures .blockBytes) (imagesOf (s .measures .blockBytes) (st .shelf) vs) output
-  unfolding restoreFrom restoreKept imagesOf
-  from-kept [] output r = refl
-  from-kept (w ∷ ws) output r =
-      ap₂ (λ (n c : ℕ). cond (ltb (length output) n) (restoreRefusal 5 output)
-      (record { refusal = 0; length = n; hops = c; output = imageOf (s .measures .blockBytes) (st .shelf) (w ∷ ws) ++ drop n output }))
-      (image-bytes s pr st h kd w ws r) (longest-kept s pr st h (w ∷ ws) (r .traceable) (r .among) (r .kinded))
+    none-held : (vs : List Version) → isEmpty vs ≡ true → isEmpty (heldFrom v vs) ≡ true
+    none-held [] e = unfold isEmpty heldFrom in refl
+    none-held (w ∷ vs) e = unfold isEmpty in absurd (false≢true e)
 
-  pub restore-kept : (t v : ℕ) (output : List ℕ) → restored (restore s st t v output) ≡ answerKept s (keptTill (keeperOf (s .measures .blockBytes) st) t) (callRestore t v output)
-  unfolding restore answerKept
-  restore-kept t v output =
-      ap restored
-      (either (leb (s .capacities .tills) t) refl
-      ∙ ap (λ (y : KeptTill). cond (leb (s .capacities .tills) t) (restoreRefusal 3 output) (restoreKept (s .measures .blockBytes) (keptFrom v (y .versions)) output))
-      (sym (kept-at (s .measures .blockBytes) st t)))
-    where
-      either : (b : Bool) → leb (s .capacities .tills) t ≡ b
-          → cond b (restoreRefusal 3 output) (restoreFrom (s .measures .blockBytes) (st .shelf) (heldFrom v (tillOf st t .versions)) output)
-          ≡ cond b (restoreRefusal 3 output) (restoreKept (s .measures .blockBytes) (keptFrom v (keptOf (s .measures .blockBytes) (st .shelf) (tillOf st t) .versions)) output)
-      either true e = refl
-      either false e =
-          unfold keptOf in
-          (from-kept (heldFrom v (tillOf st t .versions)) output (from-readable s pr st h kd t v (inside t e))
-          ∙ ap (λ (l : List Kept). restoreKept (s .measures .blockBytes) l output) (sym (from-same (s .measures) (st .shelf) v (tillOf st t .versions))))
+    either : (b : Bool)
+        → retiredFrom (cond b (refused 3) (cond (isEmpty (heldFrom v (tillOf st t .versions))) (refused 15)
+        (cond (not (isOldest v (tillOf st t .versions))) (refused 13) (dropOldest s st t (tillOf st t .last) (tillOf st t .versions)))))
+        ≡ cond b (retired 3 0) (retireShown v (shownFrom v (viewVersions (s .measures .blockBytes) (st .shelf) (tillOf st t .versions))) (viewVersions (s .measures .blockBytes) (st .shelf) (tillOf st t .versions)))
+    either true = unfold outcomeRefusal outcomeNumber in refl
+    either false =
+        dropped (heldFrom v (tillOf st t .versions)) (tillOf st t .versions) (none-held (tillOf st t .versions))
+        ∙ ap (λ (l : List VersionView). retireShown v l (viewVersions (s .measures .blockBytes) (st .shelf) (tillOf st t .versions)))
+        (sym (from-same (s .measures .blockBytes) (st .shelf) v (tillOf st t .versions)))
 
-  abbrev retiredFrom : Outcome After → Answer
-  retiredFrom o = retired (outcomeRefusal o) (outcomeNumber o)
-
-  dropped : (t v : ℕ) (hs vs : List Version) → (isEmpty vs ≡ true → isEmpty hs ≡ true) → Readable s st vs
-      → retiredFrom (cond (isEmpty hs) (refused 15) (cond (not (isOldest v vs)) (refused 13) (dropOldest s st t (tillOf st t .last) vs)))
-      ≡ retireKept v (imagesOf (s .measures .blockBytes) (st .shelf) hs) (imagesOf (s .measures .blockBytes) (st .shelf) vs)
-  unfolding isEmpty isOldest dropOldest retireKept imagesOf outcomeRefusal outcomeNumber
-  dropped t v [] vs e r = refl
-  dropped t v (x ∷ hs) [] e r = absurd (false≢true (e refl))
-  dropped t v (x ∷ hs) (w ∷ ws) e r = go (eqb (w .number) v)
-    where
-      go : (b : Bool) → retiredFrom (cond (not b) (refused 13) (dropOldest s st t (tillOf st t .last) (w ∷ ws)))
-          ≡ cond b (retired 0 (length (imageOf (s .measures .blockBytes) (st .shelf) (w ∷ ws)))) (retired 13 0)
-      go true = unfold dropOldest outcomeRefusal outcomeNumber in ap (λ (n : ℕ). retired 0 n) (image-bytes s pr st h kd w ws r)
-      go false = unfold outcomeRefusal outcomeNumber in refl
-
-  none-held : (v : ℕ) (vs : List Version) → isEmpty vs ≡ true → isEmpty (heldFrom v vs) ≡ true
-  unfolding isEmpty heldFrom
-  none-held v [] e = refl
-  none-held v (w ∷ vs) e = absurd (false≢true e)
-
-  pub retire-kept : (t v : ℕ) → retiredFrom (retire s st t v) ≡ answerKept s (keptTill (keeperOf (s .measures .blockBytes) st) t) (callRetire t v)
-  unfolding retire answerKept
-  retire-kept t v =
-      either (leb (s .capacities .tills) t) refl
-      ∙ ap (λ (y : KeptTill). cond (leb (s .capacities .tills) t) (retired 3 0) (retireKept v (keptFrom v (y .versions)) (y .versions))) (sym (kept-at (s .measures .blockBytes) st t))
-    where
-      either : (b : Bool) → leb (s .capacities .tills) t ≡ b
-          → retiredFrom (cond b (refused 3) (cond (isEmpty (heldFrom v (tillOf st t .versions))) (refused 15)
-          (cond (not (isOldest v (tillOf st t .versions))) (refused 13) (dropOldest s st t (tillOf st t .last) (tillOf st t .versions)))))
-          ≡ cond b (retired 3 0) (retireKept v (keptFrom v (keptOf (s .measures .blockBytes) (st .shelf) (tillOf st t) .versions)) (keptOf (s .measures .blockBytes) (st .shelf) (tillOf st t) .versions))
-      either true e = unfold outcomeRefusal outcomeNumber in refl
-      either false e =
-          unfold keptOf in
-          (dropped t v (heldFrom v (tillOf st t .versions)) (tillOf st t .versions) (none-held v (tillOf st t .versions)) (till-readable s pr st h kd t (inside t e))
-          ∙ ap (λ (l : List Kept). retireKept v l (imagesOf (s .measures .blockBytes) (st .shelf) (tillOf st t .versions))) (sym (from-same (s .measures) (st .shelf) v (tillOf st t .versions))))
-
-  pub listing-kept : (t : ℕ) → listed (listingIn (some (record { shape = s; state = st })) t) ≡ answerKept s (keptTill (keeperOf (s .measures .blockBytes) st) t) (callListing t)
-  unfolding listingIn listTill answerKept
-  listing-kept t =
-      ap listed
-      (ap₂ (λ (o n : ℕ). cond (leb (s .capacities .tills) t) (listingRefusal 3) (record { refusal = 0; oldest = o; newest = n; last = tillOf st t .last }))
-      (oldest-is (s .measures) (st .shelf) (tillOf st t .versions)) (newest-is (s .measures) (st .shelf) (tillOf st t .versions))
-      ∙ (unfold keptOf in ap (λ (y : KeptTill). cond (leb (s .capacities .tills) t) (listingRefusal 3)
-      (record { refusal = 0; oldest = oldestKept (y .versions); newest = newestKept (y .versions); last = y .last })) (sym (kept-at (s .measures .blockBytes) st t))))
+listing-shown : (s : Shape) (st : State) (t : ℕ)
+    → listed (listingIn (some (record { shape = s; state = st })) t) ≡ answerShown s (viewAt (s .measures .blockBytes) st t) (callListing t)
+unfolding listingIn listTill answerShown viewOf
+listing-shown s st t =
+    ap₂ (λ (o n : ℕ). listed (cond (leb (s .capacities .tills) t) (listingRefusal 3) (record { refusal = 0; oldest = o; newest = n; last = tillOf st t .last })))
+    (oldest-is (s .measures .blockBytes) (st .shelf) (tillOf st t .versions)) (newest-is (s .measures .blockBytes) (st .shelf) (tillOf st t .versions))
 
 -- a backup that is answered 14 or 16
 abbrev pub HasRoom : Call → Answer → Type 0
@@ -216,13 +173,13 @@ HasRoom (callRetire t v) a = Unit {0}
 HasRoom (callListing t) a = Unit {0}
 HasRoom callTally a = Unit {0}
 
--- The law: a call on a till answers what its kept versions say.
-pub answer-in : (s : Shape) (pr : Proper (s .measures)) (st : State) → isSound s st ≡ true → AllKinded (s .measures .blockBytes) st → (call : Call) → isOnTill call ≡ true → HasRoom call (answerIn s st call)
-    → answerIn s st call ≡ answerKept s (keptTill (keeperOf (s .measures .blockBytes) st) (tillNamed call)) call
+-- The law: a call on a till answers what the till's view says.
+pub answer-in : (s : Shape) (st : State) (call : Call) → isOnTill call ≡ true → HasRoom call (answerIn s st call)
+    → answerIn s st call ≡ answerShown s (viewAt (s .measures .blockBytes) st (tillNamed call)) call
 unfolding answerIn tillNamed
-answer-in s pr st h kd (callLayout c) on room = absurd (false≢true on)
-answer-in s pr st h kd (callBackup t image) on room = backup-kept s st t image room
-answer-in s pr st h kd (callRestore t v output) on room = restore-kept s pr st h kd t v output
-answer-in s pr st h kd (callRetire t v) on room = retire-kept s pr st h kd t v
-answer-in s pr st h kd (callListing t) on room = listing-kept s pr st h kd t
-answer-in s pr st h kd callTally on room = absurd (false≢true on)
+answer-in s st (callLayout c) on room = absurd (false≢true on)
+answer-in s st (callBackup t image) on room = backup-shown s st t image room
+answer-in s st (callRestore t v output) on room = restore-shown s st t v output
+answer-in s st (callRetire t v) on room = retire-shown s st t v
+answer-in s st (callListing t) on room = listing-shown s st t
+answer-in s st callTally on room = absurd (false≢true on)

@@ -1,56 +1,59 @@
--- Two accepted calls on different tills leave the same in either order.
-use mathlib.Core.Path.{_≡_, sym, ap, _∙_}
-use mathlib.Core.Bool.{Bool, true}
+-- Two accepted calls on different tills leave the same in either order: every till shows the same.
+use mathlib.Core.Path.{_≡_, refl, sym, ap, _∙_, subst}
+use mathlib.Core.Bool.{Bool, true, false}
 use Prim.Native.Nat.{ℕ}
-use lib.ListN.{set}
-use lib.Seq.{getD-set-other, set-comm}
-use borrow.Author.Tests.{eq-eqb}
+use lib.Dec.{eqb}
+use borrow.Author.Tests.{eqb-true, eqb-false, eq-eqb}
 use Rattle.model.specs.Measures.{Shape}
 use Rattle.model.specs.State.{State}
-use Rattle.model.specs.Calls.{tillOf}
 use Rattle.history.specs.Calls.{Call, Buffers, refusalOf, buffersAfter, refusedLayout, stateAfter}
-use Rattle.history.specs.Keeper.{KeptTill, Keeper, noTill, keptTill, fed}
-use Rattle.history.specs.View.{viewOf, viewFrom, tillNamed, change}
-use Rattle.history.proofs.Images.{keeperOf}
-use Rattle.history.proofs.Steps.{fed-after, Left, left-one}
-use Rattle.history.proofs.Frame.{till-view, fed-is}
-
-pub fed-swap : (k : Keeper) (c d : Call) (ok ok′ : Bool) → (tillNamed c ≡ tillNamed d → ⊥) → fed (fed k c ok) d ok′ ≡ fed (fed k d ok′) c ok
-fed-swap k c d ok ok′ ne =
-    twice k c d ok ok′ ne
-    ∙ set-comm k (tillNamed c) (tillNamed d) (change c ok (keptTill k (tillNamed c))) (change d ok′ (keptTill k (tillNamed d))) ne
-    ∙ sym (twice k d c ok′ ok (λ e. ne (sym e)))
-  where
-    kept : (k : Keeper) (t u : ℕ) (x : KeptTill) → (t ≡ u → ⊥) → keptTill (set k t x) u ≡ keptTill k u
-    kept k t u x ne = unfold keptTill in getD-set-other k t u x noTill (λ e. ne (sym e))
-
-    twice : (k : Keeper) (c d : Call) (ok ok′ : Bool) → (tillNamed c ≡ tillNamed d → ⊥)
-        → fed (fed k c ok) d ok′ ≡ set (set k (tillNamed c) (change c ok (keptTill k (tillNamed c)))) (tillNamed d) (change d ok′ (keptTill k (tillNamed d)))
-    twice k c d ok ok′ ne =
-        let x : KeptTill = change c ok (keptTill k (tillNamed c)) in
-        ap (λ (l : Keeper). fed l d ok′) (fed-is k c ok)
-        ∙ fed-is (set k (tillNamed c) x) d ok′
-        ∙ ap (λ (y : KeptTill). set (set k (tillNamed c) x) (tillNamed d) (change d ok′ y)) (kept k (tillNamed c) (tillNamed d) x ne)
+use Rattle.history.specs.View.{viewAt, tillNamed, changed}
+use Rattle.history.proofs.Steps.{Left, left-one, accepted-same}
+use Rattle.history.proofs.Frame.{frame-own, frame-other}
 
 module _ (s : Shape) where
-  accepted-fed : (b : Buffers) (st : State) (call : Call) → Left s b st → refusalOf b call ≡ 0 → keeperOf (s .measures .blockBytes) (stateAfter s st call) ≡ fed (keeperOf (s .measures .blockBytes) st) call true
-  accepted-fed b st call l z = sym (fed-after s b st call l) ∙ ap (fed (keeperOf (s .measures .blockBytes) st) call) (eq-eqb (refusalOf b call) 0 z)
+  -- the till of an accepted call
+  pub own-after : (b : Buffers) (st : State) (call : Call) → Left s b st → refusalOf b call ≡ 0
+      → viewAt (s .measures .blockBytes) (stateAfter s st call) (tillNamed call) ≡ changed (s .measures .blockBytes) call true (viewAt (s .measures .blockBytes) st (tillNamed call))
+  own-after b st call l z =
+      frame-own s (l .fit .proper) st (l .sound) call
+      ∙ ap (λ (ok : Bool). changed (s .measures .blockBytes) call ok (viewAt (s .measures .blockBytes) st (tillNamed call)))
+      (sym (accepted-same s b st call l) ∙ eq-eqb (refusalOf b call) 0 z)
+
+  pub other-after : (b : Buffers) (st : State) (call : Call) → Left s b st → (u : ℕ) → (u ≡ tillNamed call → ⊥)
+      → viewAt (s .measures .blockBytes) (stateAfter s st call) u ≡ viewAt (s .measures .blockBytes) st u
+  other-after b st call l = frame-other s (l .fit .proper) st (l .sound) call
+
+  -- two accepted calls: the till of the first is as that call leaves it
+  first-own : (b : Buffers) (st : State) (c d : Call) → Left s b st → refusedLayout b c → (tillNamed c ≡ tillNamed d → ⊥) → refusalOf b c ≡ 0
+      → viewAt (s .measures .blockBytes) (stateAfter s (stateAfter s st c) d) (tillNamed c)
+      ≡ changed (s .measures .blockBytes) c true (viewAt (s .measures .blockBytes) st (tillNamed c))
+  first-own b st c d l r ne z = other-after (buffersAfter b c) (stateAfter s st c) d (left-one s b st c l r) (tillNamed c) ne ∙ own-after b st c l z
+
+  second-own : (b : Buffers) (st : State) (c d : Call) → Left s b st → refusedLayout b c → (tillNamed c ≡ tillNamed d → ⊥) → refusalOf (buffersAfter b c) d ≡ 0
+      → viewAt (s .measures .blockBytes) (stateAfter s (stateAfter s st c) d) (tillNamed d)
+      ≡ changed (s .measures .blockBytes) d true (viewAt (s .measures .blockBytes) st (tillNamed d))
+  second-own b st c d l r ne z =
+      own-after (buffersAfter b c) (stateAfter s st c) d (left-one s b st c l r) z
+      ∙ ap (changed (s .measures .blockBytes) d true) (other-after b st c l (tillNamed d) (λ e. ne (sym e)))
 
   -- both accepted in both orders: every till shows the same
-  pub order-free : (b : Buffers) (st : State) (c d : Call) → Left s b st → (tillNamed c ≡ tillNamed d → ⊥)
-      → refusedLayout b c → refusedLayout b d → refusedLayout (buffersAfter b c) d → refusedLayout (buffersAfter b d) c
+  pub order-free : (b : Buffers) (st : State) (c d : Call) → Left s b st → (tillNamed c ≡ tillNamed d → ⊥) → refusedLayout b c → refusedLayout b d
       → refusalOf b c ≡ 0 → refusalOf (buffersAfter b c) d ≡ 0 → refusalOf b d ≡ 0 → refusalOf (buffersAfter b d) c ≡ 0 → (t : ℕ)
-      → viewOf (s .measures .blockBytes) (stateAfter s (stateAfter s st c) d .shelf) (tillOf (stateAfter s (stateAfter s st c) d) t)
-      ≡ viewOf (s .measures .blockBytes) (stateAfter s (stateAfter s st d) c .shelf) (tillOf (stateAfter s (stateAfter s st d) c) t)
-  order-free b st c d l ne rc rd rcd rdc ac acd ad adc t =
-      let lc = left-one s b st c l rc in
-      let ld = left-one s b st d l rd in
-      let lcd = left-one s (buffersAfter b c) (stateAfter s st c) d lc rcd in
-      let ldc = left-one s (buffersAfter b d) (stateAfter s st d) c ld rdc in
-      let same : keeperOf (s .measures .blockBytes) (stateAfter s (stateAfter s st c) d) ≡ keeperOf (s .measures .blockBytes) (stateAfter s (stateAfter s st d) c) =
-      accepted-fed (buffersAfter b c) (stateAfter s st c) d lc acd ∙ ap (λ (k : Keeper). fed k d true) (accepted-fed b st c l ac)
-      ∙ fed-swap (keeperOf (s .measures .blockBytes) st) c d true true ne
-      ∙ sym (accepted-fed (buffersAfter b d) (stateAfter s st d) c ld adc ∙ ap (λ (k : Keeper). fed k c true) (accepted-fed b st d l ad)) in
-      till-view s (l .fit .proper) (stateAfter s (stateAfter s st c) d) (lcd .good .sound) (lcd .good .kinded) t
-      ∙ ap (λ (k : Keeper). viewFrom (s .measures .blockBytes) (keptTill k t)) same
-      ∙ sym (till-view s (l .fit .proper) (stateAfter s (stateAfter s st d) c) (ldc .good .sound) (ldc .good .kinded) t)
+      → viewAt (s .measures .blockBytes) (stateAfter s (stateAfter s st c) d) t ≡ viewAt (s .measures .blockBytes) (stateAfter s (stateAfter s st d) c) t
+  order-free b st c d l ne rc rd ac acd ad adc t = go (eqb t (tillNamed c)) refl (eqb t (tillNamed d)) refl
+    where
+      en : tillNamed d ≡ tillNamed c → ⊥
+      en e = ne (sym e)
+
+      Same : ℕ → Type 0
+      Same u = viewAt (s .measures .blockBytes) (stateAfter s (stateAfter s st c) d) u ≡ viewAt (s .measures .blockBytes) (stateAfter s (stateAfter s st d) c) u
+
+      go : (p : Bool) → eqb t (tillNamed c) ≡ p → (q : Bool) → eqb t (tillNamed d) ≡ q → Same t
+      go true p q′ q = subst Same (sym (eqb-true t (tillNamed c) p)) (first-own b st c d l rc ne ac ∙ sym (second-own b st d c l rd en adc))
+      go false p true q = subst Same (sym (eqb-true t (tillNamed d) q)) (second-own b st c d l rc ne acd ∙ sym (first-own b st d c l rd en ad))
+      go false p false q =
+          let x = eqb-false t (tillNamed c) p in
+          let y = eqb-false t (tillNamed d) q in
+          other-after (buffersAfter b c) (stateAfter s st c) d (left-one s b st c l rc) t y ∙ other-after b st c l t x
+          ∙ sym (other-after (buffersAfter b d) (stateAfter s st d) c (left-one s b st d l rd) t x ∙ other-after b st d l t y)

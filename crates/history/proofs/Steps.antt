@@ -1,5 +1,6 @@
--- Call by call on the buffers: they are the words and bytes of a state that calls reach, and each call leaves such.
+-- Call by call on the buffers: they are the words and bytes of a sound state, and each call leaves such.
 use mathlib.Core.Path.{_≡_, refl, sym, ap, ap₂, _∙_}
+use mathlib.Core.Bool.{true}
 use mathlib.Core.List.{List, [], _∷_}
 use mathlib.Core.Option.{Option, some}
 use Prim.Native.Nat.{ℕ}
@@ -7,26 +8,24 @@ use lib.Dec.{eqb}
 use Rattle.model.specs.Measures.{Shape}
 use Rattle.model.specs.State.{State, Outcome, refused, done}
 use Rattle.model.specs.Table.{stateToWords, stateToBytes}
-use Rattle.model.specs.Sound.{Store, storeOf}
+use Rattle.model.specs.Sound.{isSound, Store, storeOf}
 use Rattle.model.specs.Calls.{emptyState, layoutAs, layoutOf, backup, backupIn, backupOf, backupAnswer, restoreIn, restoreOf, retire, retireIn, retireOf, retireAnswer, listingIn, listingOf, tallyIn, tallyOf, After}
 use Rattle.laws.proofs.Fits.{Fit}
 use Rattle.laws.proofs.RoundTrip.{round-trip}
-use Rattle.laws.proofs.Empty.{layout-refused, layout-accepted}
+use Rattle.laws.proofs.Empty.{empty-sound, layout-refused, layout-accepted}
 use Rattle.history.specs.Calls.{Call, callLayout, callBackup, callRestore, callRetire, callListing, callTally, Buffers, refusalOf, buffersAfter, buffersAfterAll, laidOut, backedUp, restored, retired, listed, tallied, answerOf, answersOf, refusalIn, refusedLayout, refusedLayouts, stateOr, stateAfter, stateAfterAll, outcomeRefusal, outcomeNumber, answerIn, answersIn, isAccepted}
-use Rattle.history.specs.Keeper.{Keeper, freshKeeper, fed, fedAll}
 use Rattle.history.specs.Demand.{laidOutIn}
-use Rattle.history.proofs.Images.{keeperOf}
-use Rattle.history.proofs.Reach.{Good, good-empty, good-after, kept-after, fresh-kept}
+use Rattle.history.proofs.Reach.{sound-after}
 
 pub record Left (s : Shape) (b : Buffers) (st : State) : Type 0 where
   pub fit : Fit s
   pub pool : b .pool ≡ stateToBytes st
   pub table : b .table ≡ stateToWords s st
-  pub good : Good s st
+  pub sound : isSound s st ≡ true
 
 -- the store that a call finds
 pub left-store : (s : Shape) (b : Buffers) (st : State) → Left s b st → storeOf (b .pool) (b .table) ≡ some (record { shape = s; state = st })
-left-store s b st e = ap₂ storeOf (e .pool) (e .table) ∙ round-trip s st (e .fit) (e .good .sound)
+left-store s b st e = ap₂ storeOf (e .pool) (e .table) ∙ round-trip s st (e .fit) (e .sound)
 
 -- ---- what is left
 
@@ -43,7 +42,7 @@ retire-words s b st (refused n) p q = (p, q)
 retire-words s b st (done a) p q = (refl, refl)
 
 pub left-one : (s : Shape) (b : Buffers) (st : State) (call : Call) → Left s b st → refusedLayout b call → Left s (buffersAfter b call) (stateAfter s st call)
-left-one s b st call e r = record { fit = e .fit; pool = words call r .0; table = words call r .1; good = good-after s (e .fit .proper) st (e .good) call }
+left-one s b st call e r = record { fit = e .fit; pool = words call r .0; table = words call r .1; sound = sound-after s (e .fit .proper) st (e .sound) call }
   where
     words : (call : Call) → refusedLayout b call
         → (buffersAfter b call .pool ≡ stateToBytes (stateAfter s st call)) × (buffersAfter b call .table ≡ stateToWords s (stateAfter s st call))
@@ -66,7 +65,7 @@ left-all s (call ∷ calls) b st l r = left-all s calls (buffersAfter b call) (s
 pub left-laid : (s : Shape) → Fit s → (pool table : List ℕ) → layoutAs s pool table .refusal ≡ 0 → Left s (laidOutIn s pool table) (emptyState s)
 unfolding laidOutIn
 left-laid s fit pool table h =
-    let a = layout-accepted s pool table h in record { fit = fit; pool = a .1; table = a .2; good = good-empty s (a .0) }
+    let a = layout-accepted s pool table h in record { fit = fit; pool = a .1; table = a .2; sound = empty-sound s (a .0) }
 
 -- ---- what is answered
 
@@ -113,24 +112,3 @@ refusal-in b callTally = refl
 pub accepted-same : (s : Shape) (b : Buffers) (st : State) (call : Call) → Left s b st → eqb (refusalOf b call) 0 ≡ isAccepted s st call
 unfolding isAccepted
 accepted-same s b st call e = ap (λ (n : ℕ). eqb n 0) (sym (refusal-in b call) ∙ ap refusalIn (answer-same s b st call e))
-
--- ---- the keeper
-
-pub fed-after : (s : Shape) (b : Buffers) (st : State) (call : Call) → Left s b st
-    → fed (keeperOf (s .measures .blockBytes) st) call (eqb (refusalOf b call) 0) ≡ keeperOf (s .measures .blockBytes) (stateAfter s st call)
-fed-after s b st call e =
-    ap (fed (keeperOf (s .measures .blockBytes) st) call) (accepted-same s b st call e) ∙ sym (kept-after s (e .fit .proper) st (e .good) call)
-
-pub fed-after-all : (s : Shape) (calls : List Call) (b : Buffers) (st : State) → Left s b st → refusedLayouts b calls
-    → fedAll (keeperOf (s .measures .blockBytes) st) b calls ≡ keeperOf (s .measures .blockBytes) (stateAfterAll s st calls)
-unfolding fedAll stateAfterAll
-fed-after-all s [] b st e h = refl
-fed-after-all s (call ∷ calls) b st e h =
-    ap (λ (k : Keeper). fedAll k (buffersAfter b call) calls) (fed-after s b st call e)
-    ∙ fed-after-all s calls (buffersAfter b call) (stateAfter s st call) (left-one s b st call e (h .0)) (h .1)
-
--- After every list of calls the keeper has, for each till, the last number and for each held version its number and the image that tracing gives.
-pub list-kept : (s : Shape) → Fit s → (pool table : List ℕ) (calls : List Call) → layoutAs s pool table .refusal ≡ 0 → refusedLayouts (laidOutIn s pool table) calls
-    → fedAll (freshKeeper (s .capacities)) (laidOutIn s pool table) calls ≡ keeperOf (s .measures .blockBytes) (stateAfterAll s (emptyState s) calls)
-list-kept s fit pool table calls a h =
-    ap (λ (k : Keeper). fedAll k (laidOutIn s pool table) calls) (fresh-kept s) ∙ fed-after-all s calls (laidOutIn s pool table) (emptyState s) (left-laid s fit pool table a) h

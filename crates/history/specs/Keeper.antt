@@ -5,9 +5,8 @@ use mathlib.Core.List.{List, [], _∷_, _++_}
 use lib.ListN.{getD, set, replicate}
 use lib.Dec.{eqb}
 use Rattle.lists.specs.Lists.{keep}
-use Rattle.model.specs.Measures.{Capacities, Shape}
-use Rattle.model.specs.State.{State}
-use Rattle.history.specs.Calls.{Call, callLayout, callBackup, callRestore, callRetire, callListing, callTally, Buffers, buffersAfter, refusalOf, stateAfter, isAccepted}
+use Rattle.model.specs.Measures.{Capacities}
+use Rattle.history.specs.Calls.{Call, callLayout, callBackup, callRestore, callRetire, callListing, callTally, Buffers, buffersAfter, refusalOf}
 
 -- a held version: its number and its whole image
 pub record Kept : Type 0 where
@@ -54,11 +53,6 @@ fed k callTally ok = k
 unfoldable pub fedAll : Keeper → Buffers → List Call → Keeper
 fedAll k b [] = k
 fedAll k b (c ∷ cs) = fedAll (fed k c (eqb (refusalOf b c) 0)) (buffersAfter b c) cs
-
--- the same with no buffer in between
-unfoldable pub fedIn : Shape → Keeper → State → List Call → Keeper
-fedIn s k st [] = k
-fedIn s k st (c ∷ cs) = fedIn s (fed k c (isAccepted s st c)) (stateAfter s st c) cs
 
 -- the kept version of that number and the newer ones; [] where none is held
 unfoldable pub keptFrom : ℕ → List Kept → List Kept

@@ -1,24 +1,25 @@
--- What a till shows of its versions, records and cells apart, and what calls on it answer: from the store, and from the kept images alone.
+-- What a till shows of its versions, records and cells apart; what a call makes of that, and what it answers to it.
 use Prim.Native.Nat.{ℕ, suc, _*_}
-use mathlib.Core.Bool.{Bool, true, false, cond, not, _||_}
+use mathlib.Core.Bool.{Bool, true, false, cond, _||_}
 use mathlib.Core.List.{List, [], _∷_, _++_, map}
-use lib.ListN.{length, drop}
+use lib.ListN.{length, getD, drop}
 use lib.Dec.{eqb, leb, ltb}
+use Rattle.lists.specs.Lists.{counted, firstFrom, sameNumbers, allZero, largest}
+use Rattle.lists.specs.Over.{over}
 use Rattle.model.specs.Measures.{Shape}
-use Rattle.model.specs.State.{Shelf, Version, Till, State}
-use Rattle.model.specs.Trace.{imageOf, longestChain}
-use Rattle.model.specs.Calls.{tillOf, RestoreAnswer, restoreRefusal, ListingAnswer, listingRefusal}
+use Rattle.model.specs.State.{Block, Shelf, Version, Till, State}
+use Rattle.model.specs.Image.{imageBlocks}
+use Rattle.model.specs.Trace.{imageOf}
+use Rattle.model.specs.Calls.{tillOf, RestoreAnswer, restoreRefusal, listingRefusal}
 use Rattle.history.specs.Calls.{Call, callLayout, callBackup, callRestore, callRetire, callListing, callTally, Answer, laidOut, backedUp, restored, retired, listed, tallied}
-use Rattle.history.specs.Keeper.{Kept, KeptTill, keptFrom, oldestKept, newestKept, filed, struckOut}
-use Rattle.history.specs.Kinds.{Kind, kindOf, kindsKept, longestKept}
+use Rattle.history.specs.Kinds.{Kind, zeroKind, directKind, indirectKind, kindOf, kindAt, hopsOfKind}
 
--- A version as its till shows it: number, length, image, what each pointer is and where an indirect one leads, and the longest chain.
+-- A version as its till shows it: number, length, image, what each pointer is and where an indirect one leads.
 pub record VersionView : Type 0 where
   pub number : ℕ
   pub length : ℕ
   pub image : List ℕ
   pub kinds : List Kind
-  pub chain : ℕ
 
 pub record TillView : Type 0 where
   pub last : ℕ
@@ -27,8 +28,7 @@ pub record TillView : Type 0 where
 unfoldable pub viewVersions : ℕ → Shelf → List Version → List VersionView
 viewVersions bytes shelf [] = []
 viewVersions bytes shelf (v ∷ newer) =
-    record { number = v .number; length = v .length; image = imageOf bytes shelf (v ∷ newer); kinds = map kindOf (v .pointers); chain = longestChain (v ∷ newer) }
-    ∷ viewVersions bytes shelf newer
+    record { number = v .number; length = v .length; image = imageOf bytes shelf (v ∷ newer); kinds = map kindOf (v .pointers) } ∷ viewVersions bytes shelf newer
 
 unfoldable pub viewOf : ℕ → Shelf → Till → TillView
 viewOf bytes shelf t = record { last = t .last; versions = viewVersions bytes shelf (t .versions) }
@@ -37,20 +37,14 @@ viewOf bytes shelf t = record { last = t .last; versions = viewVersions bytes sh
 abbrev pub viewAt : ℕ → State → ℕ → TillView
 viewAt bytes st t = viewOf bytes (st .shelf) (tillOf st t)
 
--- ---- from the kept images alone
+-- how many indirect pointers are followed for block `n` of the first version of the list, the others being the newer ones; and the most for any block
+unfoldable pub hopsShown : List VersionView → ℕ → ℕ
+hopsShown [] n = 0
+hopsShown (w ∷ newer) n = hopsOfKind (getD (w .kinds) n zeroKind) (λ k. hopsShown newer k)
 
-unfoldable pub viewKept : ℕ → List Kept → List VersionView
-viewKept bytes [] = []
-viewKept bytes (x ∷ newer) =
-    record { number = x .number; length = length (x .image); image = x .image; kinds = kindsKept bytes (x ∷ newer); chain = longestKept bytes (x ∷ newer) }
-    ∷ viewKept bytes newer
-
-unfoldable pub viewFrom : ℕ → KeptTill → TillView
-viewFrom bytes t = record { last = t .last; versions = viewKept bytes (t .versions) }
-
--- a view's numbers and images
-unfoldable pub keptIn : TillView → KeptTill
-keptIn t = record { last = t .last; versions = map (λ (v : VersionView). record { number = v .number; image = v .image }) (t .versions) }
+unfoldable pub chainShown : List VersionView → ℕ
+chainShown [] = 0
+chainShown (w ∷ newer) = largest (counted (hopsShown (w ∷ newer)) 0 (length (w .kinds)))
 
 -- ---- what a call makes of its till
 
@@ -63,22 +57,46 @@ tillNamed (callRetire t v) = t
 tillNamed (callListing t) = t
 tillNamed callTally = 0
 
--- of what is kept, for a call that was accepted or refused
-unfoldable pub change : Call → Bool → KeptTill → KeptTill
-change (callLayout c) ok y = y
-change (callBackup t image) true y = filed y image
-change (callBackup t image) false y = y
-change (callRestore t v output) ok y = y
-change (callRetire t v) true y = struckOut y v
-change (callRetire t v) false y = y
-change (callListing t) ok y = y
-change callTally ok y = y
+-- a new version's pointer for a block
+unfoldable pub newKind : Block → Kind
+newKind b = cond (allZero b) zeroKind directKind
 
--- of what is shown: a function of what was shown and the call's arguments
+-- A pointer of the previous version, and its block: a direct one turns indirect, to the lowest equal block of the new image, if there is one.
+unfoldable pub turnedKind : List Block → Kind → Block → Kind
+turnedKind new zeroKind b = zeroKind
+turnedKind new directKind b = kindAt (firstFrom (sameNumbers b) 0 new)
+turnedKind new (indirectKind n) b = indirectKind n
+
+unfoldable pub turnNewest : ℕ → List Block → List VersionView → List VersionView
+turnNewest bytes new [] = []
+turnNewest bytes new (w ∷ []) =
+    record { number = w .number; length = w .length; image = w .image; kinds = over (turnedKind new) (w .kinds) (imageBlocks bytes (w .image)) } ∷ []
+turnNewest bytes new (w ∷ x ∷ ws) = w ∷ turnNewest bytes new (x ∷ ws)
+
+unfoldable pub shownWith : ℕ → TillView → List ℕ → TillView
+shownWith bytes w image = record {
+  last = suc (w .last);
+  versions =
+      turnNewest bytes (imageBlocks bytes image) (w .versions)
+      ++ (record { number = suc (w .last); length = length image; image = image; kinds = map newKind (imageBlocks bytes image) } ∷ []);
+}
+
+-- the oldest version goes
+unfoldable pub shownWithout : TillView → TillView
+shownWithout w = record { last = w .last; versions = drop 1 (w .versions) }
+
+-- What the till shows after a call that was accepted or refused: a function of what it showed before and of the call's arguments.
 unfoldable pub changed : ℕ → Call → Bool → TillView → TillView
-changed bytes call ok w = viewFrom bytes (change call ok (keptIn w))
+changed bytes (callLayout c) ok w = w
+changed bytes (callBackup t image) true w = shownWith bytes w image
+changed bytes (callBackup t image) false w = w
+changed bytes (callRestore t v output) ok w = w
+changed bytes (callRetire t v) true w = shownWithout w
+changed bytes (callRetire t v) false w = w
+changed bytes (callListing t) ok w = w
+changed bytes callTally ok w = w
 
--- ---- the answers of the calls on a till, from its kept versions alone; 14 and 16, which depend on the shared shelf, apart
+-- ---- what a call on a till answers, from what the till shows; 14 and 16, which depend on the shared shelf, apart
 
 abbrev pub isOnTill : Call → Bool
 isOnTill (callLayout c) = false
@@ -88,28 +106,40 @@ isOnTill (callRetire t v) = true
 isOnTill (callListing t) = true
 isOnTill callTally = false
 
-unfoldable pub restoreKept : ℕ → List Kept → List ℕ → RestoreAnswer
-restoreKept bytes [] output = restoreRefusal 15 output
-restoreKept bytes (x ∷ newer) output =
-    cond (ltb (length output) (length (x .image))) (restoreRefusal 5 output)
-    (record { refusal = 0; length = length (x .image); hops = longestKept bytes (x ∷ newer); output = x .image ++ drop (length (x .image)) output })
+unfoldable pub shownFrom : ℕ → List VersionView → List VersionView
+shownFrom n [] = []
+shownFrom n (w ∷ ws) = let r = shownFrom n ws in cond (eqb (w .number) n) (w ∷ ws) r
 
-unfoldable pub retireKept : ℕ → List Kept → List Kept → Answer
-retireKept v [] xs = retired 15 0
-retireKept v (x ∷ newer) [] = retired 15 0
-retireKept v (x ∷ newer) (y ∷ ys) = cond (eqb (y .number) v) (retired 0 (length (y .image))) (retired 13 0)
+unfoldable pub oldestShown : List VersionView → ℕ
+oldestShown [] = 0
+oldestShown (w ∷ ws) = w .number
 
-unfoldable pub answerKept : Shape → KeptTill → Call → Answer
-answerKept s y (callLayout c) = laidOut 0
-answerKept s y (callBackup t image) =
+unfoldable pub newestShown : List VersionView → ℕ
+newestShown [] = 0
+newestShown (w ∷ []) = w .number
+newestShown (w ∷ x ∷ ws) = newestShown (x ∷ ws)
+
+unfoldable pub restoreShown : List VersionView → List ℕ → RestoreAnswer
+restoreShown [] output = restoreRefusal 15 output
+restoreShown (w ∷ newer) output =
+    cond (ltb (length output) (w .length)) (restoreRefusal 5 output)
+    (record { refusal = 0; length = w .length; hops = chainShown (w ∷ newer); output = w .image ++ drop (w .length) output })
+
+unfoldable pub retireShown : ℕ → List VersionView → List VersionView → Answer
+retireShown v [] ws = retired 15 0
+retireShown v (x ∷ newer) [] = retired 15 0
+retireShown v (x ∷ newer) (w ∷ ws) = cond (eqb (w .number) v) (retired 0 (w .length)) (retired 13 0)
+
+unfoldable pub answerShown : Shape → TillView → Call → Answer
+answerShown s w (callLayout c) = laidOut 0
+answerShown s w (callBackup t image) =
     cond (leb (s .capacities .tills) t) (backedUp 3 0)
     (cond (eqb (length image) 0 || ltb (s .measures .blockBytes * s .capacities .blocks) (length image)) (backedUp 4 0)
-    (cond (leb (s .capacities .versions) (length (y .versions))) (backedUp 11 0)
-    (cond (eqb (y .last) 65535) (backedUp 12 0) (backedUp 0 (suc (y .last))))))
-answerKept s y (callRestore t v output) =
-    restored (cond (leb (s .capacities .tills) t) (restoreRefusal 3 output) (restoreKept (s .measures .blockBytes) (keptFrom v (y .versions)) output))
-answerKept s y (callRetire t v) = cond (leb (s .capacities .tills) t) (retired 3 0) (retireKept v (keptFrom v (y .versions)) (y .versions))
-answerKept s y (callListing t) =
+    (cond (leb (s .capacities .versions) (length (w .versions))) (backedUp 11 0)
+    (cond (eqb (w .last) 65535) (backedUp 12 0) (backedUp 0 (suc (w .last))))))
+answerShown s w (callRestore t v output) = restored (cond (leb (s .capacities .tills) t) (restoreRefusal 3 output) (restoreShown (shownFrom v (w .versions)) output))
+answerShown s w (callRetire t v) = cond (leb (s .capacities .tills) t) (retired 3 0) (retireShown v (shownFrom v (w .versions)) (w .versions))
+answerShown s w (callListing t) =
     listed (cond (leb (s .capacities .tills) t) (listingRefusal 3)
-    (record { refusal = 0; oldest = oldestKept (y .versions); newest = newestKept (y .versions); last = y .last }))
-answerKept s y callTally = tallied (record { refusal = 0; cells = 0; records = 0; counts = 0 })
+    (record { refusal = 0; oldest = oldestShown (w .versions); newest = newestShown (w .versions); last = w .last }))
+answerShown s w callTally = tallied (record { refusal = 0; cells = 0; records = 0; counts = 0 })

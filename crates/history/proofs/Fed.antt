@@ -1,0 +1,168 @@
+-- The keeper, fed call by call, stands beside the store: each till shows what is kept of it.
+use mathlib.Core.Path.{_≡_, refl, sym, ap, _∙_, subst}
+use mathlib.Core.Bool.{Bool, true, false}
+use mathlib.Core.List.{List, [], _∷_, map}
+use Prim.Native.Nat.{ℕ, zero, suc, _-_, _≤_}
+use native.Mathlib.Omega.{arith}
+use lib.ListN.{length, getD, set, replicate, length-set, length-replicate}
+use lib.Seq.{getD-set-same, getD-set-other, set-getD, set-out}
+use lib.Dec.{eqb, leb}
+use borrow.Author.Tests.{eqb-true, eqb-false, ne-eqb, leb-true, leb-false}
+use Rattle.lists.specs.Lists.{counted}
+use Rattle.lists.proofs.Same.{same-eq}
+use Rattle.lists.proofs.Tests.{clause, every-at}
+use Rattle.model.specs.Measures.{Shape}
+use Rattle.model.specs.State.{State, Outcome, refused, done}
+use Rattle.model.specs.Trace.{imageOf}
+use Rattle.model.specs.Sound.{isSound, isTill, isNumbered}
+use Rattle.model.specs.Calls.{emptyTill, tillOf, emptyState, backup, retire, After}
+use Rattle.laws.proofs.Fits.{Proper}
+use Rattle.laws.proofs.Serves.{sound-valid}
+use Rattle.laws.proofs.Retire.{Retired, retire-done}
+use Rattle.history.specs.Calls.{Call, callLayout, callBackup, callRestore, callRetire, callListing, callTally, Buffers, refusalOf, buffersAfter, refusedLayouts, stateAfter, stateAfterAll, outcomeRefusal, answerIn, refusalIn, isAccepted}
+use Rattle.history.specs.Keeper.{KeptTill, Keeper, noTill, freshKeeper, keptTill, filed, struckOut, fed, fedAll}
+use Rattle.history.specs.Kinds.{kindOf}
+use Rattle.history.specs.View.{VersionView, TillView, viewVersions, viewOf, viewAt, tillNamed, changed}
+use Rattle.history.proofs.Kept.{AgreeTill, till-filed, till-struck}
+use Rattle.history.proofs.Shown.{views-numbers}
+use Rattle.history.proofs.Numbered.{Numbered, retire-numbered}
+use Rattle.history.proofs.Frame.{frame-own, frame-other}
+use Rattle.history.proofs.Steps.{Left, left-one, accepted-same}
+
+-- ---- the keeper, till by till
+
+-- what a call that was accepted or refused makes of what is kept of its till
+unfoldable pub change : Call → Bool → KeptTill → KeptTill
+change (callLayout c) ok y = y
+change (callBackup t image) true y = filed y image
+change (callBackup t image) false y = y
+change (callRestore t v output) ok y = y
+change (callRetire t v) true y = struckOut y v
+change (callRetire t v) false y = y
+change (callListing t) ok y = y
+change callTally ok y = y
+
+fed-is : (k : Keeper) (call : Call) (ok : Bool) → fed k call ok ≡ set k (tillNamed call) (change call ok (keptTill k (tillNamed call)))
+unfolding fed tillNamed change keptTill
+fed-is k (callLayout c) ok = sym (set-getD k 0 noTill)
+fed-is k (callBackup t image) true = refl
+fed-is k (callBackup t image) false = sym (set-getD k t noTill)
+fed-is k (callRestore t v output) ok = sym (set-getD k t noTill)
+fed-is k (callRetire t v) true = refl
+fed-is k (callRetire t v) false = sym (set-getD k t noTill)
+fed-is k (callListing t) ok = sym (set-getD k t noTill)
+fed-is k callTally ok = sym (set-getD k 0 noTill)
+
+-- ---- the keeper `k` beside the state `st`
+
+pub record Stands (s : Shape) (k : Keeper) (st : State) : Type 0 where
+  pub many : length k ≡ s .capacities .tills
+  pub tills : (t : ℕ) → AgreeTill (s .measures .blockBytes) (keptTill k t) (viewAt (s .measures .blockBytes) st t)
+
+pub stands-fresh : (s : Shape) → Stands s (freshKeeper (s .capacities)) (emptyState s)
+unfolding freshKeeper emptyState tillOf keptTill
+stands-fresh s = record { many = length-replicate (s .capacities .tills) noTill; tills = λ t. go (s .capacities .tills) t }
+  where
+    none : AgreeTill (s .measures .blockBytes) noTill (viewOf (s .measures .blockBytes) (emptyState s .shelf) emptyTill)
+    none = unfold noTill emptyTill viewOf viewVersions in (refl, tt)
+
+    go : (n t : ℕ) → AgreeTill (s .measures .blockBytes) (getD (replicate n noTill) t noTill) (viewOf (s .measures .blockBytes) (emptyState s .shelf) (getD (replicate n emptyTill) t emptyTill))
+    go zero t = none
+    go (suc n) zero = none
+    go (suc n) (suc t) = go n t
+
+module _ (s : Shape) (pr : Proper (s .measures)) (st : State) (h : isSound s st ≡ true) where
+  struck-agrees : (t v : ℕ) (y : KeptTill) → AgreeTill (s .measures .blockBytes) y (viewAt (s .measures .blockBytes) st t) → (o : Outcome After) → Numbered o → retire s st t v ≡ o
+      → AgreeTill (s .measures .blockBytes) (change (callRetire t v) (eqb (outcomeRefusal o) 0) y)
+      (changed (s .measures .blockBytes) (callRetire t v) (eqb (outcomeRefusal o) 0) (viewAt (s .measures .blockBytes) st t))
+  unfolding change changed outcomeRefusal
+  struck-agrees t v y a (refused n) g q = rw (ne-eqb n 0 (λ z. omega (arith, g, z))) a
+  struck-agrees t v y a (done x) g q =
+      till-struck (s .measures .blockBytes) y (viewAt (s .measures .blockBytes) st t) v (suc (tillOf st t .last) - length (tillOf st t .versions)) (length (tillOf st t .versions))
+      (record { number = f .oldest .number; length = f .oldest .length; image = imageOf (s .measures .blockBytes) (st .shelf) (f .oldest ∷ f .newer); kinds = map kindOf (f .oldest .pointers) })
+      (viewVersions (s .measures .blockBytes) (st .shelf) (f .newer)) a
+      (unfold viewOf viewVersions in ap (viewVersions (s .measures .blockBytes) (st .shelf)) (f .first)) (f .named) numbers
+    where
+      f : Retired s st t v x
+      f = retire-done s t v st x h q
+
+      numbers : map (λ (w : VersionView). w .number) (viewAt (s .measures .blockBytes) st t .versions)
+          ≡ counted (λ i. i) (suc (tillOf st t .last) - length (tillOf st t .versions)) (length (tillOf st t .versions))
+      numbers =
+          unfold viewOf isTill isNumbered tillOf in
+          (views-numbers (s .measures .blockBytes) (st .shelf) (tillOf st t .versions)
+          ∙ same-eq _ _ (clause _ 3 (clause _ 0 (every-at (isTill s (st .shelf)) emptyTill (st .tills) (sound-valid s st h .tills) t (f .there)))))
+
+  own-agrees : (call : Call) (y : KeptTill) → AgreeTill (s .measures .blockBytes) y (viewAt (s .measures .blockBytes) st (tillNamed call))
+      → AgreeTill (s .measures .blockBytes) (change call (isAccepted s st call) y)
+      (changed (s .measures .blockBytes) call (isAccepted s st call) (viewAt (s .measures .blockBytes) st (tillNamed call)))
+  unfolding change changed isAccepted answerIn refusalIn tillNamed
+  own-agrees (callLayout c) y a = a
+  own-agrees (callBackup t image) y a = go (eqb (outcomeRefusal (backup s st t image)) 0)
+    where
+      go : (ok : Bool) → AgreeTill (s .measures .blockBytes) (change (callBackup t image) ok y)
+          (changed (s .measures .blockBytes) (callBackup t image) ok (viewAt (s .measures .blockBytes) st t))
+      go true = unfold change changed in till-filed (s .measures .blockBytes) y (viewAt (s .measures .blockBytes) st t) image a
+      go false = unfold change changed in a
+  own-agrees (callRestore t v output) y a = a
+  own-agrees (callRetire t v) y a = struck-agrees t v y a (retire s st t v) (retire-numbered s st t v) refl
+  own-agrees (callListing t) y a = a
+  own-agrees callTally y a = a
+
+  -- a call on a till that is not there is refused, and changes nothing
+  change-none : (call : Call) → leb (s .capacities .tills) (tillNamed call) ≡ true → (y : KeptTill) → change call (isAccepted s st call) y ≡ y
+  unfolding change isAccepted answerIn refusalIn tillNamed
+  change-none (callLayout c) e y = refl
+  change-none (callBackup t image) e y = unfold backup outcomeRefusal in rw e refl
+  change-none (callRestore t v output) e y = refl
+  change-none (callRetire t v) e y = unfold retire outcomeRefusal in rw e refl
+  change-none (callListing t) e y = refl
+  change-none callTally e y = refl
+
+  module _ (k : Keeper) (z : Stands s k st) where
+    fed-own : (call : Call) → keptTill (fed k call (isAccepted s st call)) (tillNamed call) ≡ change call (isAccepted s st call) (keptTill k (tillNamed call))
+    fed-own call = ap (λ (l : Keeper). keptTill l (tillNamed call)) (fed-is k call (isAccepted s st call)) ∙ go (leb (s .capacities .tills) (tillNamed call)) refl
+      where
+        new : KeptTill
+        new = change call (isAccepted s st call) (keptTill k (tillNamed call))
+
+        go : (b : Bool) → leb (s .capacities .tills) (tillNamed call) ≡ b → keptTill (set k (tillNamed call) new) (tillNamed call) ≡ new
+        go true e =
+            let out : length k ≤ tillNamed call = omega (arith, leb-true (s .capacities .tills) (tillNamed call) e, z .many) in
+            ap (λ (l : Keeper). keptTill l (tillNamed call)) (set-out k (tillNamed call) new out) ∙ sym (change-none call e (keptTill k (tillNamed call)))
+        go false e = unfold keptTill in getD-set-same k (tillNamed call) new noTill (omega (arith, leb-false (s .capacities .tills) (tillNamed call) e, z .many))
+
+    fed-other : (call : Call) (ok : Bool) (t : ℕ) → (t ≡ tillNamed call → ⊥) → keptTill (fed k call ok) t ≡ keptTill k t
+    unfolding keptTill
+    fed-other call ok t ne = ap (λ (l : Keeper). getD l t noTill) (fed-is k call ok) ∙ getD-set-other k (tillNamed call) t _ noTill ne
+
+    pub stands-after : (call : Call) → Stands s (fed k call (isAccepted s st call)) (stateAfter s st call)
+    stands-after call = record {
+      many = ap length (fed-is k call (isAccepted s st call)) ∙ length-set k (tillNamed call) _ ∙ z .many;
+      tills = λ t. go t (eqb t (tillNamed call)) refl;
+    }
+      where
+        Fine : ℕ → Type 0
+        Fine t = AgreeTill (s .measures .blockBytes) (keptTill (fed k call (isAccepted s st call)) t) (viewAt (s .measures .blockBytes) (stateAfter s st call) t)
+
+        own : Fine (tillNamed call)
+        own =
+            subst (λ (w : TillView). AgreeTill (s .measures .blockBytes) (keptTill (fed k call (isAccepted s st call)) (tillNamed call)) w) (sym (frame-own s pr st h call))
+            (subst (λ (y : KeptTill). AgreeTill (s .measures .blockBytes) y (changed (s .measures .blockBytes) call (isAccepted s st call) (viewAt (s .measures .blockBytes) st (tillNamed call))))
+            (sym (fed-own call)) (own-agrees call (keptTill k (tillNamed call)) (z .tills (tillNamed call))))
+
+        go : (t : ℕ) (b : Bool) → eqb t (tillNamed call) ≡ b → Fine t
+        go t true e = subst Fine (sym (eqb-true t (tillNamed call) e)) own
+        go t false e =
+            let ne = eqb-false t (tillNamed call) e in
+            subst (λ (w : TillView). AgreeTill (s .measures .blockBytes) (keptTill (fed k call (isAccepted s st call)) t) w) (sym (frame-other s pr st h call t ne))
+            (subst (λ (y : KeptTill). AgreeTill (s .measures .blockBytes) y (viewAt (s .measures .blockBytes) st t)) (sym (fed-other call (isAccepted s st call) t ne)) (z .tills t))
+
+-- after every list of calls
+pub stands-all : (s : Shape) (calls : List Call) (b : Buffers) (st : State) (k : Keeper) → Left s b st → Stands s k st → refusedLayouts b calls
+    → Stands s (fedAll k b calls) (stateAfterAll s st calls)
+unfolding fedAll stateAfterAll
+stands-all s [] b st k l z r = z
+stands-all s (call ∷ calls) b st k l z r =
+    stands-all s calls (buffersAfter b call) (stateAfter s st call) (fed k call (eqb (refusalOf b call) 0)) (left-one s b st call l (r .0))
+    (subst (λ (ok : Bool). Stands s (fed k call ok) (stateAfter s st call)) (sym (accepted-same s b st call l)) (stands-after s (l .fit .proper) st (l .sound) k z call)) (r .1)

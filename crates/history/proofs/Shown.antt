@@ -1,0 +1,81 @@
+-- What a till's versions show, part by part: how many, their numbers, the versions from a number on, the longest chain.
+use mathlib.Core.Path.{_≡_, refl, ap, _∙_, sym}
+use mathlib.Core.Bool.{Bool, true, false, cond}
+use mathlib.Core.List.{List, [], _∷_, map}
+use Prim.Native.Nat.{ℕ, suc}
+use lib.ListN.{length, getD, length-map, List·getD-map}
+use lib.Dec.{eqb}
+use Rattle.lists.specs.Lists.{counted, largest}
+use Rattle.lists.proofs.Counted.{counted-same}
+use Rattle.model.specs.State.{Pointer, nullPointer, direct, indirect, Shelf, Version}
+use Rattle.model.specs.Trace.{imageOf, hopsVia, hops, longestChain}
+use Rattle.model.specs.Sound.{nextPointers}
+use Rattle.model.specs.Calls.{heldFrom, oldestNumber, newestNumber}
+use Rattle.history.specs.Kinds.{Kind, kindOf, hopsOfKind}
+use Rattle.history.specs.View.{VersionView, viewVersions, hopsShown, chainShown, shownFrom, oldestShown, newestShown}
+
+-- what each pointer of the first version of a list is
+abbrev pub firstKinds : List VersionView → List Kind
+firstKinds [] = []
+firstKinds (w ∷ ws) = w .kinds
+
+module _ (bytes : ℕ) (a : Shelf) where
+  pub views-numbers : (vs : List Version) → map (λ (w : VersionView). w .number) (viewVersions bytes a vs) ≡ map (λ (v : Version). v .number) vs
+  unfolding viewVersions
+  views-numbers [] = refl
+  views-numbers (v ∷ vs) = ap {B = List ℕ} (λ l. v .number ∷ l) (views-numbers vs)
+
+  pub views-length : (vs : List Version) → length (viewVersions bytes a vs) ≡ length vs
+  unfolding viewVersions
+  views-length [] = refl
+  views-length (v ∷ vs) = ap suc (views-length vs)
+
+  pub oldest-is : (vs : List Version) → oldestNumber vs ≡ oldestShown (viewVersions bytes a vs)
+  unfolding oldestNumber oldestShown viewVersions
+  oldest-is [] = refl
+  oldest-is (v ∷ vs) = refl
+
+  pub newest-is : (vs : List Version) → newestNumber vs ≡ newestShown (viewVersions bytes a vs)
+  unfolding newestNumber newestShown viewVersions
+  newest-is [] = refl
+  newest-is (v ∷ []) = refl
+  newest-is (v ∷ w ∷ vs) = newest-is (w ∷ vs)
+
+  pub from-same : (n : ℕ) (vs : List Version) → shownFrom n (viewVersions bytes a vs) ≡ viewVersions bytes a (heldFrom n vs)
+  unfolding shownFrom viewVersions heldFrom
+  from-same n [] = refl
+  from-same n (v ∷ vs) = go (eqb (v .number) n) (from-same n vs)
+    where
+      go : (t : Bool) → shownFrom n (viewVersions bytes a vs) ≡ viewVersions bytes a (heldFrom n vs)
+          → cond t (record { number = v .number; length = v .length; image = imageOf bytes a (v ∷ vs); kinds = map kindOf (v .pointers) } ∷ viewVersions bytes a vs)
+          (shownFrom n (viewVersions bytes a vs)) ≡ viewVersions bytes a (cond t (v ∷ vs) (heldFrom n vs))
+      go true e = refl
+      go false e = e
+
+  -- ---- chains
+
+  hops-of : (p : Pointer) (f g : ℕ → ℕ) → ((n : ℕ) → f n ≡ g n) → hopsVia p f ≡ hopsOfKind (kindOf p) g
+  unfolding hopsVia hopsOfKind
+  hops-of nullPointer f g h = refl
+  hops-of (direct k i) f g h = refl
+  hops-of (indirect n) f g h = ap suc (h n)
+
+  hops-is : (vs : List Version) (n : ℕ) → hops vs n ≡ hopsShown (viewVersions bytes a vs) n
+  unfolding hops hopsShown viewVersions
+  hops-is [] n = refl
+  hops-is (v ∷ newer) n =
+      hops-of (getD (v .pointers) n nullPointer) (λ k. hops newer k) (λ k. hopsShown (viewVersions bytes a newer) k) (hops-is newer)
+      ∙ ap (λ (q : Kind). hopsOfKind q (λ k. hopsShown (viewVersions bytes a newer) k)) (sym (List·getD-map kindOf (v .pointers) n nullPointer))
+
+  pub chain-is : (vs : List Version) → longestChain vs ≡ chainShown (viewVersions bytes a vs)
+  unfolding longestChain chainShown viewVersions
+  chain-is [] = refl
+  chain-is (v ∷ newer) =
+      ap largest
+      (counted-same (hops (v ∷ newer)) (hopsShown (viewVersions bytes a (v ∷ newer))) (hops-is (v ∷ newer)) 0 (length (v .pointers))
+      ∙ ap (counted (hopsShown (viewVersions bytes a (v ∷ newer))) 0) (sym (length-map (v .pointers) kindOf)))
+
+  pub kinds-is : (vs : List Version) → map kindOf (nextPointers vs) ≡ firstKinds (viewVersions bytes a vs)
+  unfolding nextPointers viewVersions
+  kinds-is [] = refl
+  kinds-is (v ∷ vs) = refl
