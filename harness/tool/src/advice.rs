@@ -1,7 +1,11 @@
 //! A refusal in plain words: what it means for this call, and what to do about it.
 
-use crate::Failure;
-use lurdempos::{Capacities, Listing, Refusal, Store, LAST_NUMBER};
+use crate::arguments::Named;
+use crate::names::{quoted, shown};
+use crate::words::counted;
+use crate::{image, Failure};
+use lurdempos::{Capacities, Listing, Refusal, Store, BLOCK, LAST_NUMBER, SEGMENT};
+use std::collections::HashSet;
 use std::path::Path;
 
 /// A call on a sound store that was refused.
@@ -11,64 +15,85 @@ pub struct Call<'a> {
     pub till: u32,
     /// The version named, 0 if the call names none.
     pub version: u32,
-    /// Bytes of the image, 0 if the call has none.
-    pub image: usize,
+    /// The image, empty if the call has none.
+    pub image: &'a [u8],
 }
 
-impl Call<'_> {
+impl<'a> Call<'a> {
+    /// A call that names a till and no more.
+    pub fn of_till(file: &'a Path, store: &'a Store, till: u32) -> Call<'a> {
+        Call { file, store, till, version: 0, image: &[] }
+    }
+
+    /// The number of a version that the command line names.
+    pub fn number(&self, version: Named) -> Result<u32, Failure> {
+        match version {
+            Named::Number(number) => Ok(number),
+            Named::Newest => self.store.listing(self.till).map(|listing| listing.newest),
+        }
+        .map_err(|refusal| self.refused(refusal))
+    }
+
+    /// A version's image, with its number.
+    pub fn image_of(&self, version: Named) -> Result<(u32, Vec<u8>), Failure> {
+        let version = self.number(version)?;
+        let image = self.store.image(self.till, version);
+        image.map(|image| (version, image)).map_err(|refusal| Call { version, ..*self }.refused(refusal))
+    }
+
     pub fn refused(&self, refusal: Refusal) -> Failure {
-        let (particulars, advice) = match refusal {
+        let (here, advice) = match refusal {
             Refusal::NoSuchTill => self.no_such_till(),
             Refusal::ImageLength => self.image_length(),
             Refusal::TillFull => self.till_full(),
             Refusal::NumbersSpent => self.numbers_spent(),
             Refusal::NotOldest => self.not_oldest(),
             Refusal::NotHeld => self.not_held(),
-            Refusal::NoRecord => self.no_room("segment records", self.store.capacities().records, "--records"),
-            Refusal::NoRun => self.no_room("cells", self.store.capacities().cells, "--cells"),
+            Refusal::NoRecord | Refusal::NoRun => self.no_room(refusal),
             Refusal::Unsound => return unsound(refusal, self.file),
             Refusal::Capacity | Refusal::Lengths | Refusal::ShortOutput => unforeseen(),
         };
-        Failure::Refused(refusal, particulars, advice)
+        Failure::refused(refusal, here, advice)
     }
 
     fn no_such_till(&self) -> (String, String) {
-        let particulars = match self.store.capacities().tills {
+        let here = match self.store.capacities().tills {
             1 => format!("there is no till {}, this store has till 0 alone", self.till),
             tills => format!("there is no till {}, this store has tills 0 to {}", self.till, tills - 1),
         };
-        (particulars, format!("see what it holds with `lurdempos list {}`.", quoted(self.file)))
+        (here, format!("see what it holds with `lurdempos list {}`.", quoted(self.file)))
     }
 
     fn image_length(&self) -> (String, String) {
         let (most, any) = (self.store.capacities().image_bytes(), Capacities::LARGEST.image_bytes());
-        let length = if self.image > any { format!("more than {any}") } else { self.image.to_string() };
+        let length = image::length(self.image);
         let advice = format!(
             "see that the image is the till's whole memory and nothing else; \
              for longer images make a store with `lurdempos init --image-bytes` (at most {any})."
         );
-        (format!("the image has {length} bytes, this store takes 1 to {most}"), advice)
+        (format!("the image has {length}, this store takes 1 to {most}"), advice)
     }
 
     fn till_full(&self) -> (String, String) {
-        let particulars = format!("till {} holds {} already", self.till, self.store.capacities().versions);
-        (particulars, format!("retire its oldest first: `{}`.", self.retire_oldest()))
+        let here = format!("till {} holds {} already", self.till, self.store.capacities().versions);
+        let retire = self.retire_oldest();
+        (here, format!("retire its oldest first: `{retire}`; `backup --rotate` does both in one."))
     }
 
     fn numbers_spent(&self) -> (String, String) {
-        let particulars = format!("till {} can give no number after {LAST_NUMBER}", self.till);
-        (particulars, "go on in a new store, made with `lurdempos init`; this one still restores.".into())
+        let here = format!("till {} can give no number after {LAST_NUMBER}", self.till);
+        (here, "go on in a new store, made with `lurdempos init`; this one still restores.".into())
     }
 
     fn not_oldest(&self) -> (String, String) {
         let oldest = self.listing().oldest;
-        let particulars = format!("version {} of till {} has to wait for version {oldest}", self.version, self.till);
-        (particulars, format!("retire the oldest first: `{}`.", self.retire_oldest()))
+        let here = format!("version {} of till {} has to wait for version {oldest}", self.version, self.till);
+        (here, format!("retire the oldest first: `{}`.", self.retire_oldest()))
     }
 
     fn not_held(&self) -> (String, String) {
         let (file, till) = (quoted(self.file), self.till);
-        let particulars = match self.listing() {
+        let here = match self.listing() {
             Listing { oldest: 0, .. } => {
                 return (
                     format!("till {till} holds no version"),
@@ -78,16 +103,33 @@ impl Call<'_> {
             Listing { oldest, newest, .. } if oldest == newest => format!("till {till} holds version {oldest} alone"),
             Listing { oldest, newest, .. } => format!("till {till} holds versions {oldest} to {newest}"),
         };
-        (particulars, format!("choose one that `lurdempos list {file} {till}` shows."))
+        (here, format!("choose one that `lurdempos list {file} {till}` shows."))
     }
 
-    fn no_room(&self, what: &str, of: u32, option: &str) -> (String, String) {
-        let particulars = format!("this image does not fit beside the others into the store's {of} {what}");
-        let advice = format!(
-            "retire the oldest versions of any till, which frees room, \
-             or go on in a new store with more of them (`lurdempos init {option}`)."
-        );
-        (particulars, advice)
+    /// No record or no run of cells for a segment. In an empty store only the store's own measure can be the reason.
+    fn no_room(&self, refusal: Refusal) -> (String, String) {
+        let Capacities { records, cells, .. } = self.store.capacities();
+        let (what, option, largest) = match refusal {
+            Refusal::NoRecord => {
+                (counted(records, "segment record"), "--records", records == Capacities::LARGEST.records)
+            }
+            _ => (counted(cells, "cell"), "--cells", cells == Capacities::LARGEST.cells),
+        };
+        if self.store.tally().is_ok_and(|tally| tally.cells == 0) {
+            let need = Need::of(self.image);
+            let here = format!("the store is empty, and its {what} are too few for this image alone");
+            let advice = format!(
+                "make a store with at least `--records {} --cells {}`, which this image takes.",
+                need.records, need.cells
+            );
+            return (here, advice);
+        }
+        let here = format!("this image does not fit beside the others into the store's {what}");
+        let larger = match largest {
+            true => "go on in a second store: this one has as many as a store can have".into(),
+            false => format!("go on in a larger store: `lurdempos grow {} NEW {option} N`", quoted(self.file)),
+        };
+        (here, format!("retire the oldest versions of any till, which frees room, or {larger}."))
     }
 
     fn retire_oldest(&self) -> String {
@@ -99,41 +141,54 @@ impl Call<'_> {
     }
 }
 
-/// The file has the form of a store's, but what is in it is no sound store.
-pub fn unsound(refusal: Refusal, file: &Path) -> Failure {
-    let particulars = format!("{} has been damaged or was never whole; nothing was altered", file.display());
-    let advice = "do not go on with this file; fetch the newest copy of it and see that `lurdempos check` accepts it.";
-    Failure::Refused(refusal, particulars, advice.into())
+/// What an image takes in an empty store.
+pub struct Need {
+    pub records: usize,
+    pub cells: usize,
 }
 
-/// No store has these capacities.
-pub fn no_store(refusal: Refusal, asked: Capacities) -> Failure {
-    const NAMES: [&str; 5] = ["--tills", "--versions", "--blocks", "--records", "--cells"];
-    let limits = NAMES.into_iter().zip(Capacities::LARGEST.to_array());
-    let wrong = asked.to_array().into_iter().zip(limits.clone()).find(|(one, (_, most))| !(1..=*most).contains(one));
-    let particulars = match wrong {
-        Some((one, ("--blocks", most))) => {
-            format!("images of {one} blocks of 64 bytes, but 1 to {most} blocks can be had")
-        }
-        Some((one, (name, most))) => format!("{name} {one}, but 1 to {most} can be had"),
-        None => format!("{:?}", asked.to_array()),
-    };
-    let ranges: Vec<String> = limits.map(|(name, most)| format!("{name} 1 to {most}")).collect();
-    Failure::Refused(refusal, particulars, format!("choose each from its range: {}.", ranges.join(", ")))
+impl Need {
+    /// A segment of zeros takes nothing, one that comes again nothing more.
+    pub fn of(image: &[u8]) -> Need {
+        let cells = |segment: &[u8]| segment.chunks(BLOCK).filter(|block| block.iter().any(|&byte| byte != 0)).count();
+        let different: HashSet<Vec<u8>> = image.chunks(BLOCK * SEGMENT).map(filled_up).collect();
+        let taken = different.iter().map(|segment| cells(segment)).filter(|&cells| cells > 0);
+        taken.fold(Need { records: 0, cells: 0 }, |need, cells| Need {
+            records: need.records + 1,
+            cells: need.cells + cells,
+        })
+    }
+
+    /// The most that an image of so many blocks can take.
+    pub fn of_blocks(blocks: u32) -> Need {
+        Need { records: (blocks as usize).div_ceil(SEGMENT), cells: blocks as usize }
+    }
+}
+
+/// A segment whose missing bytes are zero.
+fn filled_up(segment: &[u8]) -> Vec<u8> {
+    let mut segment = segment.to_vec();
+    segment.resize(BLOCK * SEGMENT, 0);
+    segment
+}
+
+/// The file has the form of a store's, but what is in it is no sound store.
+pub fn unsound(refusal: Refusal, file: &Path) -> Failure {
+    let here = format!("{} has been damaged or was never whole; nothing was altered", shown(file));
+    Failure::refused(refusal, here, damaged(file))
+}
+
+/// What to do with a damaged file.
+pub fn damaged(file: &Path) -> String {
+    format!(
+        "do not go on with this file; fetch the newest copy of it and see that `lurdempos check` accepts it. \
+         Without a copy `lurdempos salvage {} FOLDER` writes out what can still be traced.",
+        quoted(file)
+    )
 }
 
 /// Refusals that the tool's calls cannot get: it asks for lengths before it lays out and lends outputs that are long
 /// enough.
 fn unforeseen() -> (String, String) {
     ("the tool did not expect this".into(), "report it, with the command line.".into())
-}
-
-/// A path as a shell takes it.
-fn quoted(path: &Path) -> String {
-    let text = path.display().to_string();
-    let plain = |c: char| c.is_ascii_alphanumeric() || "-_./+:,@%=".contains(c);
-    if !text.is_empty() && text.chars().all(plain) {
-        return text;
-    }
-    format!("'{}'", text.replace('\'', r"'\''"))
 }

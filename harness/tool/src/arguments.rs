@@ -1,24 +1,31 @@
 //! The words of a command line, taken strictly.
 
-use crate::commands::Command;
-use crate::Failure;
+use crate::names::{quoted, shown};
+use crate::syntax::{Command, Opt, Takes};
+use crate::{streams, Failure};
 use std::ffi::{OsStr, OsString};
 use std::os::unix::ffi::OsStrExt;
 use std::path::Path;
 
 /// A command line, sorted into its parts.
-#[derive(Debug, Default)]
 pub struct Arguments {
-    command: &'static str,
+    command: &'static Command,
     words: Vec<OsString>,
     values: Vec<(&'static str, OsString)>,
     flags: Vec<&'static str>,
 }
 
+/// A version as the command line names it.
+#[derive(Clone, Copy)]
+pub enum Named {
+    Number(u32),
+    Newest,
+}
+
 impl Arguments {
     /// Sorts what follows the command's name. Options may stand anywhere; `--` ends them; `-` alone is no option.
     pub fn parse(command: &'static Command, given: &[OsString]) -> Result<Arguments, Failure> {
-        let mut arguments = Arguments { command: command.name, ..Default::default() };
+        let mut arguments = Arguments { command, words: Vec::new(), values: Vec::new(), flags: Vec::new() };
         let mut rest = given.iter();
         while let Some(word) = rest.next() {
             if word == "--" {
@@ -29,47 +36,49 @@ impl Arguments {
                 arguments.words.push(word.clone());
                 continue;
             }
-            arguments.option(command, word, &mut rest)?;
+            arguments.option(word, &mut rest)?;
         }
-        arguments.counted(command)
+        arguments.counted()
     }
 
-    fn option<'a>(
-        &mut self,
-        command: &'static Command,
-        word: &OsStr,
-        rest: &mut impl Iterator<Item = &'a OsString>,
-    ) -> Result<(), Failure> {
-        let (name, attached) = match word.as_bytes().iter().position(|&byte| byte == b'=') {
-            Some(at) => {
-                (OsStr::from_bytes(&word.as_bytes()[..at]), Some(OsStr::from_bytes(&word.as_bytes()[at + 1..])))
+    fn option<'a>(&mut self, word: &OsStr, rest: &mut impl Iterator<Item = &'a OsString>) -> Result<(), Failure> {
+        let mut parts = word.as_bytes().splitn(2, |&byte| byte == b'=').map(OsStr::from_bytes);
+        let (name, attached) = (parts.next().unwrap_or_default(), parts.next());
+        let known = self.command.all_options().find(|option| name == option.name);
+        match known.filter(|option| option.has_value() || attached.is_none()) {
+            Some(option) if self.has(option.name) || self.value(option.name).is_some() => {
+                Err(self.wrong(&format!("option {} is given twice", option.name)))
             }
-            None => (word, None),
-        };
-        let twice = |name: &str| self.wrong(&format!("option {name} is given twice"));
-        if let Some(&name) = command.options.iter().find(|&&option| name == option) {
-            if self.value(name).is_some() {
-                return Err(twice(name));
+            Some(Opt { name, value: "", .. }) => {
+                self.flags.push(name);
+                Ok(())
             }
-            let value = attached.map(OsStr::to_owned).or_else(|| rest.next().cloned());
-            let value = value.ok_or_else(|| self.wrong(&format!("option {name} needs a value")))?;
-            self.values.push((name, value));
-        } else if let Some(&name) = command.flags.iter().find(|&&flag| name == flag && attached.is_none()) {
-            if self.has(name) {
-                return Err(twice(name));
+            Some(Opt { name, value, .. }) => {
+                let given = attached.map(OsStr::to_owned).or_else(|| rest.next().cloned());
+                let given = given.ok_or_else(|| self.wrong(&format!("option {name} needs a value, {value}")))?;
+                self.values.push((name, given));
+                Ok(())
             }
-            self.flags.push(name);
-        } else {
-            return Err(self.wrong(&format!("unknown option {}", word.to_string_lossy())));
+            None => Err(self.unknown(word)),
         }
-        Ok(())
+    }
+
+    /// The word may be a name that begins with a dash.
+    fn unknown(&self, word: &OsStr) -> Failure {
+        let command = self.command.name;
+        self.wrong(&format!("unknown option {}", shown(word))).advising(format!(
+            "see `lurdempos {command} --help`; a name that begins with a dash is written {}, or put after `--`.",
+            quoted(word)
+        ))
     }
 
     /// The arguments, if there are neither too few nor too many.
-    fn counted(self, command: &Command) -> Result<Arguments, Failure> {
-        match self.words.get(command.most) {
-            Some(word) => Err(self.wrong(&format!("one argument too many: {}", word.to_string_lossy()))),
-            None if self.words.len() < command.least => Err(self.wrong("an argument is missing")),
+    fn counted(self) -> Result<Arguments, Failure> {
+        if let Some(word) = self.words.get(self.command.arguments.len()) {
+            return Err(self.wrong(&format!("one argument too many: {}", shown(word))));
+        }
+        match self.command.arguments.iter().skip(self.words.len()).find(|argument| argument.needed) {
+            Some(argument) => Err(self.missing(argument.name)),
             None => Ok(self),
         }
     }
@@ -77,7 +86,12 @@ impl Arguments {
     /// Wrong use of this command.
     pub fn wrong(&self, words: &str) -> Failure {
         let command = self.command;
-        Failure::Usage(format!("{command}: {words}\nWhat to do: see `lurdempos {command} --help`."))
+        let failure = Failure::usage(format!("{}: {words}\nUsage: {}", command.name, command.usage()));
+        failure.advising(format!("see `lurdempos {} --help`.", command.name))
+    }
+
+    pub fn missing(&self, name: &str) -> Failure {
+        self.wrong(&format!("{name} is missing"))
     }
 
     pub fn word(&self, at: usize) -> Option<&OsStr> {
@@ -93,26 +107,47 @@ impl Arguments {
     }
 
     /// The argument at this place as a path.
-    pub fn path(&self, at: usize, name: &str) -> Result<&Path, Failure> {
+    pub fn path(&self, at: usize) -> Result<&Path, Failure> {
         match self.word(at) {
             Some(word) if !word.is_empty() => Ok(Path::new(word)),
-            _ => Err(self.wrong(&format!("{name} is missing"))),
+            _ => Err(self.missing(self.name(at))),
         }
     }
 
-    /// The store's file, always the first argument. It cannot be a stream.
+    /// The store's file, always the first argument. No reply may go into it.
     pub fn store(&self) -> Result<&Path, Failure> {
-        let path = self.path(0, "FILE")?;
+        let path = self.place(0)?;
+        streams::apart_from(path)?;
+        Ok(path)
+    }
+
+    /// The argument at this place as a file or a folder, and not as a stream.
+    pub fn place(&self, at: usize) -> Result<&Path, Failure> {
+        let path = self.path(at)?;
         if path == Path::new("-") {
-            return Err(self.wrong("FILE has to be a file; `-` can stand for an image or an output only"));
+            let what = match self.command.arguments[at].takes {
+                Takes::Folder => "folder",
+                _ => "file",
+            };
+            let name = self.name(at);
+            let words = format!("{name} has to be a {what}; `-` can stand for an image or an output only");
+            return Err(self.wrong(&words));
         }
         Ok(path)
     }
 
     /// The argument at this place as a number.
-    pub fn number(&self, at: usize, name: &str) -> Result<u32, Failure> {
-        let word = self.word(at).ok_or_else(|| self.wrong(&format!("{name} is missing")))?;
-        self.parsed(name, word)
+    pub fn number(&self, at: usize) -> Result<u32, Failure> {
+        let word = self.word(at).ok_or_else(|| self.missing(self.name(at)))?;
+        self.parsed(self.name(at), word)
+    }
+
+    /// The argument at this place as a version: a number, or the word `newest`.
+    pub fn version(&self, at: usize) -> Result<Named, Failure> {
+        if self.word(at).is_some_and(|word| word == "newest") {
+            return Ok(Named::Newest);
+        }
+        self.number(at).map(Named::Number)
     }
 
     /// An option's number, if the option is given.
@@ -120,11 +155,15 @@ impl Arguments {
         self.value(option).map(|value| self.parsed(option, value)).transpose()
     }
 
+    /// What the argument at this place is called.
+    fn name(&self, at: usize) -> &'static str {
+        self.command.arguments.get(at).map_or("", |argument| argument.name)
+    }
+
     fn parsed(&self, name: &str, word: &OsStr) -> Result<u32, Failure> {
         let text = word.to_str().filter(|text| !text.is_empty() && text.bytes().all(|byte| byte.is_ascii_digit()));
         let Some(text) = text.filter(|text| *text == "0" || !text.starts_with('0')) else {
-            let word = word.to_string_lossy();
-            return Err(self.wrong(&format!("{name} has to be a number in plain digits, not `{word}`")));
+            return Err(self.wrong(&format!("{name} has to be a number in plain digits, not `{}`", shown(word))));
         };
         text.parse().map_err(|_| self.wrong(&format!("{name} is larger than any number here: {text}")))
     }

@@ -8,98 +8,146 @@
 //! be locked is the leftover of a killed run, and it is removed. Whoever gets the lock looks whether the draft's name
 //! still means the file that it has locked, since the run before may just have renamed or removed it.
 
+use crate::attributes::Attributes;
+use crate::files::{means, same};
+use crate::names::{quoted, shown};
+use crate::patience::Patience;
 use crate::reply::warn;
-use crate::steps::moment;
-use crate::target::Target;
-use crate::Failure;
-use std::fs::{self, File, Metadata, OpenOptions, TryLockError};
+use crate::steps::{phase, step};
+use crate::target::{refused_access, Target};
+use crate::{leftovers, locks, memory, Failure};
+use std::fs::{self, File, OpenOptions};
 use std::io::{self, ErrorKind, Write};
-use std::os::unix::fs::{fchown, MetadataExt, OpenOptionsExt};
+use std::os::unix::fs::{MetadataExt, OpenOptionsExt, PermissionsExt};
 use std::path::Path;
 
 /// How often a draft that other runs make and remove in the same instant is tried for.
 const ATTEMPTS: u32 = 100;
+/// How often one that this user may not open is: another user's run may just have made it, and will open it to others.
+const CLOSED_ATTEMPTS: u32 = 20;
 
 pub struct Draft<'a> {
     target: &'a Target,
     file: File,
-    renamed: bool,
+    settled: bool,
+}
+
+/// What a draft may take the place of.
+pub enum Over<'a> {
+    /// Nothing: the file is new.
+    Nothing,
+    /// The file that was opened, and no other that somebody has put there since.
+    Opened(&'a File),
+    /// Whatever is there.
+    Anything,
+}
+
+/// What came of one try to make a draft.
+enum Attempt<'a> {
+    Made(Draft<'a>),
+    /// Another run came between.
+    Crossed,
+    /// Another run has a draft, this one.
+    Held(File),
+    /// There is one that this user may not open.
+    Closed(io::Error),
 }
 
 impl<'a> Draft<'a> {
-    /// Makes and locks the draft. While it lasts no other run replaces the target.
-    pub fn begin(target: &'a Target) -> Result<Draft<'a>, Failure> {
-        for _ in 0..ATTEMPTS {
-            let attempt = Draft::attempt(target);
-            match attempt {
-                Ok(Some(file)) => return Ok(Draft { target, file, renamed: false }),
-                Ok(None) => continue,
-                Err(error) if error.kind() == ErrorKind::WouldBlock => break,
-                Err(error) => return Err(cannot_write(target, &error)),
+    /// Makes and locks the draft, once no other run has one. While it lasts no other run replaces the target.
+    pub fn begin(target: &'a Target, patience: &Patience) -> Result<Draft<'a>, Failure> {
+        phase("wait for other runs");
+        let (mut crossed, mut closed) = (0, 0);
+        loop {
+            match Draft::attempt(target).map_err(|error| cannot_make(target, &error))? {
+                Attempt::Made(draft) => return Ok(draft),
+                Attempt::Crossed if crossed < ATTEMPTS => crossed += 1,
+                Attempt::Crossed | Attempt::Held(_) if patience.pause() => {}
+                Attempt::Crossed => return Err(locks::busy(&target.shown, None, patience)),
+                Attempt::Held(file) => return Err(locks::busy(&target.shown, Some(&file), patience)),
+                Attempt::Closed(_) if closed < CLOSED_ATTEMPTS && patience.pause() => closed += 1,
+                Attempt::Closed(error) => return Err(cannot_make(target, &error)),
             }
         }
-        Err(busy(&target.shown))
     }
 
-    /// The locked draft; none if another run came between; `WouldBlock` if another run has it.
-    fn attempt(target: &Target) -> io::Result<Option<File>> {
-        moment()?;
+    fn attempt(target: &'a Target) -> io::Result<Attempt<'a>> {
+        step()?;
         // Whoever may not read the old file may not read the new one either, from the first byte on.
         let mode = if target.path.exists() { 0o600 } else { 0o666 };
-        match OpenOptions::new().write(true).create_new(true).mode(mode).open(&target.draft) {
-            Ok(file) => match file.try_lock() {
-                Ok(()) => Ok(same_file(&target.draft, &file)?.then_some(file)),
-                Err(TryLockError::WouldBlock) => Ok(None),
-                Err(TryLockError::Error(error)) => {
-                    fs::remove_file(&target.draft)?;
-                    Err(error)
+        let new = || OpenOptions::new().write(true).create_new(true).mode(mode).open(&target.draft);
+        match leftovers::make_draft(&target.draft, new) {
+            Ok(file) => {
+                let mut draft = Draft { target, file, settled: false };
+                if locks::lock(&draft.file)? && means(&target.draft, &draft.file)? {
+                    return Ok(Attempt::Made(draft));
                 }
-            },
-            Err(error) if error.kind() == ErrorKind::AlreadyExists => remove_leftover(target).map(|()| None),
+                // Another run has taken it for a leftover, and removes it.
+                draft.settled = true;
+                leftovers::settle(&target.draft, || Ok(())).map(|()| Attempt::Crossed)
+            }
+            Err(error) if error.kind() == ErrorKind::AlreadyExists => remove_leftover(target),
             Err(error) => Err(error),
         }
     }
 
-    /// Puts the bytes in the target's place, with the owner and the permissions of what was there: all of them, and
-    /// safe from a power cut, or none.
-    pub fn replace(mut self, bytes: &[u8], before: Option<&Metadata>) -> Result<(), Failure> {
-        self.write(bytes, before).map_err(|error| cannot_write(self.target, &error))?;
+    /// Gives the draft what the file has besides its bytes, before there is a byte in it.
+    pub fn take_after(&self, old: Attributes) -> Result<(), Failure> {
+        old.give_to(&self.file).map_err(|error| {
+            let advice = "let its owner or a member of its group do this, or change its group first (`chgrp`).";
+            cannot_write(self.target, &error).advising(advice)
+        })
+    }
+
+    /// Gives the draft of a new file these permissions.
+    pub fn permit(&self, mode: u32) -> Result<(), Failure> {
+        let set = self.file.set_permissions(PermissionsExt::from_mode(mode & 0o777));
+        set.map_err(|error| cannot_write(self.target, &error))
+    }
+
+    /// Puts the bytes in the target's place: all of them, and safe from a power cut, or none.
+    pub fn replace(mut self, bytes: &[u8], over: Over) -> Result<(), Failure> {
+        self.write(bytes).map_err(|error| cannot_write(self.target, &error))?;
         // Opened before the rename, so that nothing is altered yet if this cannot be done.
         let folder = File::open(&self.target.folder).map_err(|error| cannot_write(self.target, &error))?;
-        self.rename().map_err(|error| cannot_write(self.target, &error))?;
-        if let Err(error) = moment().and_then(|()| folder.sync_all()) {
-            let shown = self.target.shown.display();
+        self.rename(over)?;
+        phase("sync the folder");
+        if let Err(error) = step().and_then(|()| folder.sync_all()) {
+            let path = shown(&self.target.shown);
             warn(&format!(
-                "{shown}: written, but a power cut may still undo it: its folder could not be synced: {error}"
+                "{path}: written, but a power cut may still undo it: its folder could not be synced: {error}"
             ));
         }
-        // The last moment: all is done, so there is nothing left that could fail.
-        let _ = moment();
+        // The last step: all is done, so there is nothing left that could fail.
+        let _ = step();
         Ok(())
     }
 
-    fn write(&mut self, bytes: &[u8], before: Option<&Metadata>) -> io::Result<()> {
-        if let Some(before) = before {
-            // Only root can give a file away; for others the owner is the one who writes, as with any other program.
-            let _ = fchown(&self.file, Some(before.uid()), Some(before.gid()));
-            self.file.set_permissions(before.permissions())?;
-        }
+    fn write(&mut self, bytes: &[u8]) -> io::Result<()> {
         let (first, second) = bytes.split_at(bytes.len() / 2);
-        moment()?;
+        phase("write the draft");
+        step()?;
         self.file.write_all(first)?;
-        moment()?;
+        step()?;
         self.file.write_all(second)?;
-        moment()?;
+        phase("sync the draft");
+        step()?;
         self.file.sync_all()
     }
 
-    fn rename(&mut self) -> io::Result<()> {
-        moment()?;
-        if !same_file(&self.target.draft, &self.file)? {
-            return Err(io::Error::other("somebody has put another file in the draft's place"));
-        }
-        fs::rename(&self.target.draft, &self.target.path)?;
-        self.renamed = true;
+    fn rename(&mut self, over: Over) -> Result<(), Failure> {
+        phase("rename the draft");
+        step().map_err(|error| cannot_write(self.target, &error))?;
+        seen(self.target, over)?;
+        let renamed = leftovers::settle(&self.target.draft, || {
+            if !means(&self.target.draft, &self.file)? {
+                return Err(io::Error::other("somebody has put another file in the draft's place"));
+            }
+            fs::rename(&self.target.draft, &self.target.path)
+        });
+        renamed.map_err(|error| cannot_write(self.target, &error))?;
+        memory::changed();
+        self.settled = true;
         Ok(())
     }
 }
@@ -107,58 +155,86 @@ impl<'a> Draft<'a> {
 impl Drop for Draft<'_> {
     /// A draft that has not taken the target's place goes away, while its lock is still held.
     fn drop(&mut self) {
-        if !self.renamed && same_file(&self.target.draft, &self.file).unwrap_or(false) {
-            let _ = fs::remove_file(&self.target.draft);
+        if self.settled {
+            return;
         }
+        let _ = leftovers::settle(&self.target.draft, || {
+            if means(&self.target.draft, &self.file).unwrap_or(false) {
+                let _ = fs::remove_file(&self.target.draft);
+            }
+            Ok(())
+        });
     }
+}
+
+/// Fails if something has come to the target's place, or gone from it, that the run has not seen.
+fn seen(target: &Target, over: Over) -> Result<(), Failure> {
+    let found = fs::symlink_metadata(&target.path).ok();
+    let words = match (over, found) {
+        (Over::Nothing, Some(_)) => return Err(exists(&target.shown)),
+        (Over::Opened(_), None) => "was removed while this run was at it, and was not made again",
+        (Over::Opened(file), Some(found)) if !file.metadata().is_ok_and(|file| same(&file, &found)) => {
+            "was replaced by another file while this run was at it; that one was not altered"
+        }
+        _ => return Ok(()),
+    };
+    let failure = Failure::file(format!("{}: {words}", shown(&target.shown)));
+    Err(failure.advising("see what is there now, then run it again."))
+}
+
+/// A file is in the way of a new one.
+pub fn exists(path: &Path) -> Failure {
+    let failure = Failure::file(format!("{}: exists already and was not altered", shown(path)));
+    failure.advising("choose another name, or move the old file away first.")
 }
 
 /// Removes the draft of a killed run, under its lock.
-fn remove_leftover(target: &Target) -> io::Result<()> {
-    match locked_leftover(target) {
-        Ok(Some(_locked)) => {
-            moment()?;
-            fs::remove_file(&target.draft)
-        }
-        Err(error) if error.kind() != ErrorKind::NotFound => Err(error),
-        _ => Ok(()),
-    }
-}
-
-/// The leftover, locked, if its name still means it.
-fn locked_leftover(target: &Target) -> io::Result<Option<File>> {
-    if !fs::symlink_metadata(&target.draft)?.is_file() {
-        let words = format!("{} is in the way and is not a regular file", target.draft.display());
-        return Err(io::Error::other(words));
-    }
-    let file = File::open(&target.draft)?;
-    match file.try_lock() {
-        Ok(()) => Ok(same_file(&target.draft, &file)?.then_some(file)),
-        Err(TryLockError::WouldBlock) => Err(ErrorKind::WouldBlock.into()),
-        Err(TryLockError::Error(error)) => Err(error),
-    }
-}
-
-/// Whether the name means this very file, and not through a link.
-fn same_file(path: &Path, file: &File) -> io::Result<bool> {
-    let named = match fs::symlink_metadata(path) {
-        Ok(named) => named,
-        Err(error) if error.kind() == ErrorKind::NotFound => return Ok(false),
+fn remove_leftover<'a>(target: &Target) -> io::Result<Attempt<'a>> {
+    let found = match fs::symlink_metadata(&target.draft) {
+        Ok(found) => found,
+        Err(error) if error.kind() == ErrorKind::NotFound => return Ok(Attempt::Crossed),
         Err(error) => return Err(error),
     };
-    let own = file.metadata()?;
-    Ok((named.dev(), named.ino()) == (own.dev(), own.ino()))
+    if !found.is_file() {
+        let words = format!("{} is in the way and is not a regular file", shown(&target.draft));
+        return Err(io::Error::other(words));
+    }
+    let file = match File::open(&target.draft) {
+        Ok(file) => file,
+        Err(error) if error.kind() == ErrorKind::NotFound => return Ok(Attempt::Crossed),
+        Err(error) if error.kind() == ErrorKind::PermissionDenied => return Ok(Attempt::Closed(error)),
+        Err(error) => return Err(error),
+    };
+    if !locks::lock(&file)? {
+        return Ok(Attempt::Held(file));
+    }
+    if means(&target.draft, &file)? {
+        step()?;
+        fs::remove_file(&target.draft)?;
+    }
+    Ok(Attempt::Crossed)
 }
 
-/// Another process is at the file.
-pub fn busy(shown: &Path) -> Failure {
-    let shown = shown.display();
-    Failure::File(format!(
-        "{shown}: being written by another process, which holds its lock; nothing was altered\n\
-         What to do: wait until the other run has ended, then try again."
-    ))
+/// The draft could not be made. If one is there it is another user's, and in the way.
+fn cannot_make(target: &Target, error: &io::Error) -> Failure {
+    let failure = cannot_write(target, error);
+    if error.kind() != ErrorKind::PermissionDenied {
+        return failure;
+    }
+    let draft = quoted(&target.draft);
+    match fs::symlink_metadata(&target.draft) {
+        Ok(found) => failure.advising(format!(
+            "the draft {draft} of user {} is in the way, and this user may not open or remove it; \
+             if none of that user's runs is still at work, let that user or root remove it: `rm {draft}`.",
+            found.uid()
+        )),
+        Err(_) => failure.advising(format!(
+            "the folder {} may not be written by this user; ask its owner for that.",
+            quoted(&target.folder)
+        )),
+    }
 }
 
 fn cannot_write(target: &Target, error: &io::Error) -> Failure {
-    Failure::file(&target.shown, "could not be written, and was not altered", error)
+    refused_access(&target.shown, "could not be written, and was not altered", error)
 }

@@ -1,17 +1,23 @@
-//! The picture of a pool, as SVG: its cells by use, a legend, and the longest chain of each version.
+//! The picture of a store, as SVG: its cells and its records by use, side by side, a legend, and the longest chain of
+//! each version.
 
-use crate::shared::Use;
-use crate::table::Version;
+use crate::palette::{colour, marks, Mark};
+use crate::shared::{count, Use};
+use crate::table::{Position, Version};
+use crate::words::counted;
 
-const WIDTH: usize = 1_024;
+/// Of the cells and of the records.
+const WIDTH: usize = 768;
 const MARGIN: usize = 24;
-const FREE: &str = "#eceff1";
-const TILLS: &str = "#263238";
-/// A colour for each till.
-const COLOURS: [&str; 16] = [
-    "#e53935", "#1e88e5", "#43a047", "#fb8c00", "#8e24aa", "#00acc1", "#c0ca33", "#d81b60", "#3949ab", "#00897b",
-    "#fdd835", "#6d4c41", "#5e35b1", "#7cb342", "#f4511e", "#757575",
-];
+const RIGHT: usize = WIDTH + 2 * MARGIN;
+
+/// What is drawn.
+pub struct Drawing<'a> {
+    pub name: &'a str,
+    pub uses: &'a [Use],
+    pub records: &'a [Vec<Position>],
+    pub tills: &'a [Vec<Version>],
+}
 
 /// A picture that grows downwards.
 struct Picture {
@@ -19,20 +25,44 @@ struct Picture {
     y: usize,
 }
 
-pub fn draw(name: &str, uses: &[Use], tills: &[Vec<Version>]) -> String {
+pub fn draw(drawing: &Drawing) -> String {
+    let cells: Vec<Mark> = drawing.uses.iter().map(|one| Mark::Cell(*one)).collect();
+    let positions = positions(drawing);
     let mut picture = Picture { body: String::new(), y: MARGIN };
-    picture.title(name, uses);
-    picture.pool(uses);
-    picture.legend(uses, tills);
-    picture.chains(tills);
-    let (width, height) = (WIDTH + 2 * MARGIN, picture.y + MARGIN);
+    picture.titles(drawing);
+    let heights = [picture.grid(0, &cells), picture.grid(RIGHT, &positions)];
+    picture.y += heights[0].max(heights[1]);
+    picture.legend(&cells, &positions, drawing.tills);
+    picture.chains(drawing.tills);
+    let (width, height) = (RIGHT + WIDTH + 2 * MARGIN, picture.y + MARGIN);
+    let used = marks().filter(|mark| cells.contains(mark) || positions.contains(mark) || shown(*mark, drawing.tills));
+    let patterns: String = used.filter_map(Mark::pattern).collect();
     format!(
         "<svg xmlns=\"http://www.w3.org/2000/svg\" width=\"{width}\" height=\"{height}\" \
          viewBox=\"0 0 {width} {height}\" font-family=\"sans-serif\" font-size=\"13\" role=\"img\">\n\
-         <title>{}</title>\n<rect width=\"{width}\" height=\"{height}\" fill=\"#ffffff\"/>\n{}</svg>\n",
-        escaped(name),
+         <title>{}</title>\n<defs>\n{patterns}</defs>\n\
+         <rect width=\"{width}\" height=\"{height}\" fill=\"#ffffff\"/>\n{}</svg>\n",
+        escaped(drawing.name),
         picture.body
     )
+}
+
+/// The positions of all records, one record after the other.
+fn positions(drawing: &Drawing) -> Vec<Mark> {
+    let of = |record: &Vec<Position>| -> Vec<Mark> {
+        record.iter().map(|position| Mark::of(*position, is_free(record), drawing.uses)).collect()
+    };
+    drawing.records.iter().flat_map(of).collect()
+}
+
+/// Whether a record is free: all its positions are null.
+pub fn is_free(record: &[Position]) -> bool {
+    record.iter().all(|position| *position == Position::Null)
+}
+
+/// Whether a record in use has lost no position.
+pub fn is_whole(record: &[Position]) -> bool {
+    !is_free(record) && !record.contains(&Position::Removed)
 }
 
 impl Picture {
@@ -41,59 +71,61 @@ impl Picture {
         self.body.push_str(&format!("<text x=\"{x}\" y=\"{y}\"{attributes}>{}</text>\n", escaped(words)));
     }
 
-    fn heading(&mut self, words: &str) {
+    fn heading(&mut self, x: usize, words: &str) {
+        self.text(x, " font-size=\"17\" font-weight=\"bold\"", words);
+    }
+
+    fn titles(&mut self, drawing: &Drawing) {
+        let Drawing { name, uses, records, .. } = drawing;
+        let occupied = uses.len() - count(uses, Use::Free);
+        let (free, whole) = (|record: &&Vec<Position>| !is_free(record), |record: &&Vec<Position>| is_whole(record));
+        let (in_use, whole) = (records.iter().filter(free).count(), records.iter().filter(whole).count());
         self.y += 20;
-        self.text(0, " font-size=\"17\" font-weight=\"bold\"", words);
+        self.heading(0, &format!("{name}: {occupied} of {} occupied", counted(uses.len() as u64, "cell")));
+        let records = counted(records.len() as u64, "record");
+        self.heading(RIGHT, &format!("{in_use} of {records} in use, {whole} whole; eight positions each"));
         self.y += 16;
     }
 
-    fn title(&mut self, name: &str, uses: &[Use]) {
-        let occupied = uses.len() - counted(uses, Use::Free);
-        self.heading(&format!("{name}: {occupied} of {} cells occupied", uses.len()));
-    }
-
-    /// The cells in rows, from the left and from the top; cells of one use that lie side by side are one piece.
-    fn pool(&mut self, uses: &[Use]) {
-        let columns = columns(uses.len());
+    /// Marks in rows, from the left and from the top; those of one kind that lie side by side are one piece.
+    fn grid(&mut self, x: usize, all: &[Mark]) -> usize {
+        let columns = columns(all.len());
         let side = (WIDTH / columns).min(32);
-        for kind in kinds() {
+        for mark in marks().filter(|mark| all.contains(mark)) {
             let mut path = String::new();
-            for (row, cells) in uses.chunks(columns).enumerate() {
-                for (from, length) in runs(cells, kind) {
-                    let (x, y, width) = (MARGIN + from * side, self.y + row * side, length * side);
+            for (row, marks) in all.chunks(columns).enumerate() {
+                for (from, length) in runs(marks, mark) {
+                    let (x, y, width) = (MARGIN + x + from * side, self.y + row * side, length * side);
                     path.push_str(&format!("M{x} {y}h{width}v{side}h-{width}z"));
                 }
             }
-            if !path.is_empty() {
-                let title = escaped(&words(kind));
-                self.body.push_str(&format!("<path d=\"{path}\" {}><title>{title}</title></path>\n", fill(kind)));
-            }
+            let title = escaped(&mark.words());
+            self.body.push_str(&format!("<path d=\"{path}\" {}><title>{title}</title></path>\n", mark.fill()));
         }
-        self.y += uses.len().div_ceil(columns) * side;
+        all.len().div_ceil(columns) * side
     }
 
-    /// What the colours mean, with how many cells there are of each.
-    fn legend(&mut self, uses: &[Use], tills: &[Vec<Version>]) {
+    /// What the colours mean, with how many there are of each.
+    fn legend(&mut self, cells: &[Mark], positions: &[Mark], tills: &[Vec<Version>]) {
         self.y += 8;
-        let till_held = |till: usize| tills.get(till).is_some_and(|versions| !versions.is_empty());
-        let shown = kinds().filter(|kind| match kind {
-            Use::Free | Use::Tills => true,
-            Use::Single(till) | Use::Versions(till) => till_held(*till),
-        });
-        for (n, kind) in shown.enumerate() {
-            let x = n % 2 * (WIDTH / 2);
-            self.y += if n % 2 == 0 { 20 } else { 0 };
+        for (n, mark) in marks().filter(|mark| shown(*mark, tills)).enumerate() {
+            let x = n % 4 * (RIGHT / 2);
+            self.y += if n % 4 == 0 { 20 } else { 0 };
             let (left, top) = (MARGIN + x, self.y - 11);
-            self.body
-                .push_str(&format!("<rect x=\"{left}\" y=\"{top}\" width=\"13\" height=\"13\" {}/>\n", fill(kind)));
-            self.text(x + 20, "", &format!("{}: {} cells", words(kind), counted(uses, kind)));
+            self.body.push_str(&format!(
+                "<rect x=\"{left}\" y=\"{top}\" width=\"13\" height=\"13\" stroke=\"#90a4ae\" {}/>\n",
+                mark.fill()
+            ));
+            let number = if matches!(mark, Mark::Cell(_)) { count(cells, mark) } else { count(positions, mark) };
+            self.text(x + 20, "", &mark.counted(number));
         }
         self.y += 12;
     }
 
     fn chains(&mut self, tills: &[Vec<Version>]) {
-        self.heading("Longest chain of each version, the oldest version first");
-        self.y += 4;
+        self.y += 20;
+        self.heading(0, "Longest chain of each version, the oldest version first");
+        self.y += 20;
         if tills.iter().all(|versions| versions.is_empty()) {
             self.y += 12;
             self.text(0, "", "no version is held");
@@ -114,7 +146,7 @@ impl Picture {
         self.text(0, " font-size=\"10\"", &held);
         for (n, version) in versions.iter().enumerate() {
             let (x, chain) = (124 + n * 14, version.chain());
-            let strength = 0.12 + 0.6 * f64::from(chain) / 63.0;
+            let strength = 0.1 + 0.4 * f64::from(chain) / 63.0;
             let (left, top, number) = (MARGIN + x, self.y - 11, version.number);
             self.body.push_str(&format!(
                 "<g><title>till {till}, version {number}: longest chain {chain}</title>\
@@ -127,53 +159,31 @@ impl Picture {
     }
 }
 
-/// Every use, in the order of the legend.
-fn kinds() -> impl Iterator<Item = Use> {
-    let tills = (0..COLOURS.len()).flat_map(|till| [Use::Single(till), Use::Versions(till)]);
-    [Use::Free, Use::Tills].into_iter().chain(tills)
-}
-
-fn counted(uses: &[Use], kind: Use) -> usize {
-    uses.iter().filter(|one| **one == kind).count()
-}
-
-fn words(kind: Use) -> String {
-    match kind {
-        Use::Free => "free".into(),
-        Use::Tills => "shared by several tills".into(),
-        Use::Single(till) => format!("till {till}, one version"),
-        Use::Versions(till) => format!("till {till}, shared by several versions"),
+/// Whether the legend has it: tills that hold nothing are left out.
+fn shown(mark: Mark, tills: &[Vec<Version>]) -> bool {
+    match mark {
+        Mark::Cell(Use::Single(till) | Use::Versions(till)) => {
+            tills.get(till).is_some_and(|versions| !versions.is_empty())
+        }
+        _ => true,
     }
 }
 
-fn fill(kind: Use) -> String {
-    match kind {
-        Use::Free => format!("fill=\"{FREE}\""),
-        Use::Tills => format!("fill=\"{TILLS}\""),
-        Use::Single(till) => format!("fill=\"{}\" fill-opacity=\"0.45\"", colour(till)),
-        Use::Versions(till) => format!("fill=\"{}\"", colour(till)),
-    }
-}
-
-fn colour(till: usize) -> &'static str {
-    COLOURS[till % COLOURS.len()]
-}
-
-/// Cells side by side: twice as many columns as rows, at most 256.
-fn columns(cells: usize) -> usize {
+/// Places side by side: twice as many columns as rows, at most 256, and always whole records.
+fn columns(places: usize) -> usize {
     let mut columns = 8;
-    while columns < 256 && columns * columns < 2 * cells {
+    while columns < 256 && columns * columns < 2 * places {
         columns *= 2;
     }
     columns
 }
 
-/// The places and lengths of the runs of one use.
-fn runs(cells: &[Use], kind: Use) -> Vec<(usize, usize)> {
+/// The places and lengths of the runs of one mark.
+fn runs(marks: &[Mark], mark: Mark) -> Vec<(usize, usize)> {
     let mut at = 0;
     let mut runs = Vec::new();
-    for run in cells.chunk_by(|one, other| one == other) {
-        if run.first() == Some(&kind) {
+    for run in marks.chunk_by(|one, other| one == other) {
+        if run.first() == Some(&mark) {
             runs.push((at, run.len()));
         }
         at += run.len();

@@ -20,11 +20,11 @@ pub fn uses(cells: usize, tills: &[Vec<Version>]) -> Vec<Use> {
     for (till, versions) in tills.iter().enumerate() {
         for version in versions {
             // A version that has a block several times needs its cell once.
-            let mut needed: Vec<u32> = version.traced.iter().filter_map(|block| block.cell).collect();
+            let mut needed: Vec<usize> = version.traced.iter().filter_map(|block| block.cell).collect();
             needed.sort_unstable();
             needed.dedup();
             for cell in needed {
-                if let Some(found) = uses.get_mut(cell as usize) {
+                if let Some(found) = uses.get_mut(cell) {
                     *found = found.with(till);
                 }
             }
@@ -42,4 +42,9 @@ impl Use {
             _ => Use::Tills,
         }
     }
+}
+
+/// How many of these are so.
+pub fn count<T: PartialEq>(all: &[T], one: T) -> usize {
+    all.iter().filter(|other| **other == one).count()
 }

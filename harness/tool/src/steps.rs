@@ -1,25 +1,37 @@
-//! The moments of a run at which a file or a folder is about to change, counted from 1, so that tests can kill the tool
-//! at each of them (LURDEMPOS_KILL_AT=n) or let the step fail there (LURDEMPOS_FAIL_AT=n). Without these variables a
-//! moment does nothing.
+//! The steps of a run at which a file or a folder is about to change, counted from 1, and the phases between them. A
+//! test build or a benchmark can watch them: kill the run at a step, let a step fail, or take the time of a phase. The
+//! tool itself is watched by nobody.
 
 use std::io;
 use std::sync::atomic::{AtomicU32, Ordering};
+use std::sync::OnceLock;
 
-static PASSED: AtomicU32 = AtomicU32::new(0);
+/// Somebody who watches.
+pub trait Watch: Sync {
+    /// Before every step that changes a file or a folder, and in the middle of every write.
+    fn step(&self, _number: u32) -> io::Result<()> {
+        Ok(())
+    }
 
-/// To be called before every step that changes a file or a folder, and in the middle of every write.
-pub fn moment() -> io::Result<()> {
-    let now = PASSED.fetch_add(1, Ordering::Relaxed) + 1;
-    if asked_for("LURDEMPOS_KILL_AT", now) {
-        // Ends the process at once: no destructor runs and no buffer is flushed.
-        std::process::abort();
-    }
-    if asked_for("LURDEMPOS_FAIL_AT", now) {
-        return Err(io::Error::other("failed because LURDEMPOS_FAIL_AT asks for it"));
-    }
-    Ok(())
+    /// At the beginning of a phase.
+    fn phase(&self, _name: &'static str) {}
 }
 
-fn asked_for(variable: &str, now: u32) -> bool {
-    std::env::var(variable).is_ok_and(|value| value == now.to_string())
+static WATCH: OnceLock<&'static dyn Watch> = OnceLock::new();
+static PASSED: AtomicU32 = AtomicU32::new(0);
+
+/// Lets somebody watch, once for the whole process.
+pub fn watch(watch: &'static dyn Watch) {
+    let _ = WATCH.set(watch);
+}
+
+pub(crate) fn step() -> io::Result<()> {
+    let number = PASSED.fetch_add(1, Ordering::Relaxed) + 1;
+    WATCH.get().map_or(Ok(()), |watch| watch.step(number))
+}
+
+pub(crate) fn phase(name: &'static str) {
+    if let Some(watch) = WATCH.get() {
+        watch.phase(name);
+    }
 }

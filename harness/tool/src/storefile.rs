@@ -1,96 +1,159 @@
 //! A store in its file: read, or read, changed and replaced.
 
-use crate::draft::{busy, Draft};
-use crate::form::{self, decode, encode};
-use crate::target::{regular, Target};
-use crate::{advice, Failure};
+use crate::attributes::Attributes;
+use crate::draft::{exists, Draft, Over};
+use crate::files::means;
+use crate::form::{self, decode, encode, Content, Misfit};
+use crate::names::{quoted, shown};
+use crate::patience::Patience;
+use crate::steps::phase;
+use crate::target::{cannot_read, refused_access, regular, Target};
+use crate::{advice, locks, Failure};
 use lurdempos::Store;
-use std::fs::{File, Metadata, OpenOptions, TryLockError};
-use std::io::Read;
+use std::fs::{File, Metadata, OpenOptions};
+use std::os::unix::fs::{FileExt, MetadataExt};
 use std::path::Path;
+
+/// A store that has been read, with what its file tells besides.
+pub struct Opened {
+    pub store: Store,
+    pub metadata: Metadata,
+    pub has_sums: bool,
+}
+
+/// Reads a store. No lock is needed: a store's file is never written in place, so whoever has opened it reads the old
+/// store or the new one.
+pub fn open(path: &Path) -> Result<Opened, Failure> {
+    let (file, metadata) = open_file(path)?;
+    sound_store(path, &file, metadata)
+}
+
+/// The store alone.
+pub fn read(path: &Path) -> Result<Store, Failure> {
+    open(path).map(|opened| opened.store)
+}
+
+/// A file's bytes as they are, as many as a store can have, for whoever makes do with a damaged one.
+pub fn read_bytes(path: &Path) -> Result<(Vec<u8>, Metadata), Failure> {
+    let (file, metadata) = open_file(path)?;
+    let bytes = first_bytes(path, &file, metadata.len().min(form::largest()))?;
+    Ok((bytes, metadata))
+}
+
+fn open_file(path: &Path) -> Result<(File, Metadata), Failure> {
+    regular(path)?;
+    let file = File::open(path).map_err(|error| cannot_read(path, &error))?;
+    let metadata = file.metadata().map_err(|error| cannot_read(path, &error))?;
+    Ok((file, metadata))
+}
 
 /// A store that is being changed, with the draft whose lock keeps other runs away.
 pub struct Change<'a> {
     pub store: Store,
     draft: Draft<'a>,
-    before: Metadata,
-    // Held for its lock.
-    _file: File,
-}
-
-/// Reads a store. No lock is needed: a store's file is never written in place, so whoever has opened it reads the old
-/// store or the new one.
-pub fn read(path: &Path) -> Result<Store, Failure> {
-    regular(path)?;
-    let file = File::open(path).map_err(|error| Failure::file(path, "cannot be read", &error))?;
-    sound_store(path, &file)
+    // Locked too.
+    file: File,
 }
 
 impl<'a> Change<'a> {
     /// Locks and reads a store.
-    pub fn begin(target: &'a Target) -> Result<Change<'a>, Failure> {
-        let draft = Draft::begin(target)?;
-        let failed = |error| Failure::file(&target.shown, "cannot be changed", &error);
-        // For writing too, though nothing is written here: so a file that is write-protected is left alone.
-        let file = OpenOptions::new().read(true).write(true).open(&target.path).map_err(failed)?;
-        // The draft's lock is enough among runs of this tool. This one is for others that want the store to stay as it
-        // is for a while, and holds until the folder is synced: the file that we rename is locked too.
-        match file.try_lock() {
-            Ok(()) => {}
-            Err(TryLockError::WouldBlock) => return Err(busy(&target.shown)),
-            Err(TryLockError::Error(error)) => return Err(failed(error)),
+    pub fn begin(target: &'a Target, patience: &Patience) -> Result<Change<'a>, Failure> {
+        let draft = Draft::begin(target, patience)?;
+        let (file, metadata) = lock(target, &draft, patience)?;
+        if metadata.nlink() > 1 {
+            return Err(several_names(&target.shown, metadata.nlink()));
         }
-        let before = file.metadata().map_err(failed)?;
-        let store = sound_store(&target.shown, &file)?;
-        Ok(Change { store, draft, before, _file: file })
+        let store = sound_store(&target.shown, &file, metadata)?.store;
+        phase("make the call");
+        Ok(Change { store, draft, file })
     }
 
     /// Puts the changed store in the old one's place.
     pub fn finish(self) -> Result<(), Failure> {
         let (pool, table) = self.store.into_parts();
-        self.draft.replace(&encode(&pool, &table), Some(&self.before))
+        phase("put the file together");
+        let bytes = encode(pool, &table);
+        self.draft.replace(&bytes, Over::Opened(&self.file))
     }
 }
 
-/// Writes an empty store to a file that is not there yet.
-pub fn create(shown: &Path, store: Store) -> Result<(), Failure> {
-    refuse_existing(shown)?;
-    let target = Target::new_or_existing(shown)?;
-    let draft = Draft::begin(&target)?;
-    // Once more, now that no other run can be making it.
-    refuse_existing(&target.path)?;
-    let (pool, table) = store.into_parts();
-    draft.replace(&encode(&pool, &table), None)
+/// The store's file, locked, for as long as its name means it.
+///
+/// The draft's lock is enough among runs of this tool. This one is for others that want the store to stay as it is for
+/// a while, and holds until the folder is synced: the file that is renamed is locked too.
+fn lock(target: &Target, draft: &Draft, patience: &Patience) -> Result<(File, Metadata), Failure> {
+    let failed = |error| refused_access(&target.shown, "cannot be changed", &error);
+    loop {
+        // For writing too, though nothing is written here: so a file that is write-protected is left alone.
+        let file = OpenOptions::new().read(true).write(true).open(&target.path).map_err(failed)?;
+        let metadata = file.metadata().map_err(failed)?;
+        draft.take_after(Attributes { metadata: &metadata, file: Some(&file) })?;
+        while !locks::lock(&file).map_err(failed)? {
+            if !patience.pause() {
+                return Err(locks::busy(&target.shown, Some(&file), patience));
+            }
+        }
+        if means(&target.path, &file).map_err(failed)? {
+            return Ok((file, metadata));
+        }
+    }
 }
 
-fn refuse_existing(path: &Path) -> Result<(), Failure> {
+/// A change replaces a file under one of its names; the others would keep the old store.
+fn several_names(path: &Path, names: u64) -> Failure {
+    let words = format!("{}: has {names} names (hard links), and a change would reach this one alone", shown(path));
+    let path = quoted(path);
+    Failure::file(words).advising(format!(
+        "remove the other names (`find / -samefile {path}` shows them), or make them symbolic links to this one."
+    ))
+}
+
+/// Writes a store to a file that is not there yet.
+pub fn create(path: &Path, store: Store, patience: &Patience) -> Result<(), Failure> {
+    refuse_existing(path)?;
+    let target = Target::new_or_existing(path)?;
+    let draft = Draft::begin(&target, patience)?;
+    let (pool, table) = store.into_parts();
+    draft.replace(&encode(pool, &table), Over::Nothing)
+}
+
+pub fn refuse_existing(path: &Path) -> Result<(), Failure> {
     // A link that leads nowhere exists too.
     match path.symlink_metadata() {
-        Ok(_) => Err(Failure::File(format!(
-            "{}: exists already and was not altered\n\
-             What to do: choose another name, or move the old file away first.",
-            path.display()
-        ))),
+        Ok(_) => Err(exists(path)),
         Err(_) => Ok(()),
     }
 }
 
-fn sound_store(shown: &Path, file: &File) -> Result<Store, Failure> {
-    let bytes = contents(shown, file)?;
-    let misfit = |misfit: form::Misfit| Failure::File(format!("{}: {misfit}", shown.display()));
-    let (pool, table) = decode(&bytes).map_err(misfit)?;
-    Store::from_parts(pool, table).map_err(|refusal| advice::unsound(refusal, shown))
+fn sound_store(path: &Path, file: &File, metadata: Metadata) -> Result<Opened, Failure> {
+    phase("read the file");
+    let bytes = contents(path, file, &metadata)?;
+    phase("test the checksums");
+    let Content { parts, pool, table } = decode(bytes).map_err(|misfit| not_a_store(path, &misfit))?;
+    phase("check that the store is sound");
+    let store = Store::from_parts(pool, table).map_err(|refusal| advice::unsound(refusal, path))?;
+    Ok(Opened { store, metadata, has_sums: parts.has_sums() })
+}
+
+fn not_a_store(path: &Path, misfit: &Misfit) -> Failure {
+    let failure = Failure::file(format!("{}: {misfit}", shown(path)));
+    match misfit {
+        Misfit::Sums { .. } | Misfit::Length { .. } => failure.advising(advice::damaged(path)),
+        _ => failure,
+    }
 }
 
 /// The file's bytes, unless it is longer than any store: then nothing is allocated for it.
-fn contents(shown: &Path, file: &File) -> Result<Vec<u8>, Failure> {
-    let failed = |error| Failure::file(shown, "cannot be read", &error);
-    let bytes = file.metadata().map_err(failed)?.len();
+fn contents(path: &Path, file: &File, metadata: &Metadata) -> Result<Vec<u8>, Failure> {
+    let bytes = metadata.len();
     if bytes > form::largest() {
-        let misfit = form::Misfit::TooLong { bytes };
-        return Err(Failure::File(format!("{}: {misfit}", shown.display())));
+        return Err(not_a_store(path, &Misfit::TooLong { bytes }));
     }
-    let mut contents = Vec::with_capacity(bytes as usize);
-    file.take(form::largest() + 1).read_to_end(&mut contents).map_err(failed)?;
+    first_bytes(path, file, bytes)
+}
+
+fn first_bytes(path: &Path, file: &File, bytes: u64) -> Result<Vec<u8>, Failure> {
+    let mut contents = vec![0; bytes as usize];
+    file.read_exact_at(&mut contents, 0).map_err(|error| cannot_read(path, &error))?;
     Ok(contents)
 }

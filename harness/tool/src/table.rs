@@ -1,12 +1,85 @@
-//! What the words of a sound store's table say about each version (docs/FORMAT.md). Only for stores that the library
-//! has found sound; what the library answers itself is asked of it.
+//! What the words of a sound store's table say about each version and each record (docs/FORMAT.md). Only for stores
+//! that the library has found sound; what the library answers itself is asked of it.
 
-use lurdempos::{Store, BLOCK, SEGMENT};
+use lurdempos::{Capacities, Store, BLOCK, SEGMENT};
 
 const HEADER_WORDS: usize = 8;
 const TILL_WORDS: usize = 4;
-const SLOT_WORDS: usize = 3;
+/// Words of a slot before its pointers.
+pub const SLOT_WORDS: usize = 3;
 const RECORD_WORDS: usize = 3 + 2 * SEGMENT;
+/// Words of a record before its cells.
+pub const MASK_WORDS: usize = 3;
+
+/// Where things begin in a table, in words.
+#[derive(Clone, Copy, Debug, PartialEq, Eq)]
+pub struct Layout {
+    pub capacities: Capacities,
+}
+
+impl Layout {
+    pub fn till(self, till: usize) -> usize {
+        HEADER_WORDS + till * (TILL_WORDS + self.capacities.versions as usize * self.slot_words())
+    }
+
+    pub fn slot(self, till: usize, slot: usize) -> usize {
+        self.till(till) + TILL_WORDS + slot * self.slot_words()
+    }
+
+    pub fn record(self, record: usize) -> usize {
+        self.till(self.capacities.tills as usize) + record * RECORD_WORDS
+    }
+
+    fn slot_words(self) -> usize {
+        SLOT_WORDS + self.capacities.blocks as usize
+    }
+}
+
+/// A pointer word.
+#[derive(Clone, Copy, Debug, PartialEq, Eq)]
+pub enum Pointer {
+    Null,
+    Direct {
+        record: usize,
+        position: usize,
+    },
+    Indirect {
+        block: usize,
+    },
+    /// No store writes such a word.
+    Unknown,
+}
+
+impl Pointer {
+    pub fn of(word: u32) -> Pointer {
+        let payload = (word & 0x00ff_ffff) as usize;
+        match (word >> 24, payload) {
+            (0, 0) => Pointer::Null,
+            (1, _) => Pointer::Direct { record: payload / 16, position: payload % 16 },
+            (2, _) => Pointer::Indirect { block: payload },
+            _ => Pointer::Unknown,
+        }
+    }
+}
+
+/// A position of a record.
+#[derive(Clone, Copy, Debug, PartialEq, Eq)]
+pub enum Position {
+    Null,
+    Held { cell: usize },
+    Removed,
+}
+
+impl Position {
+    /// From the record's two masks and its cell.
+    pub fn of(held: u32, removed: u32, position: usize, cell: u32) -> Position {
+        match (held >> position & 1, removed >> position & 1) {
+            (1, _) => Position::Held { cell: cell as usize },
+            (_, 1) => Position::Removed,
+            _ => Position::Null,
+        }
+    }
+}
 
 /// A held version.
 pub struct Version {
@@ -24,7 +97,7 @@ pub struct Version {
 #[derive(Clone, Copy, Default)]
 pub struct Traced {
     pub hops: u32,
-    pub cell: Option<u32>,
+    pub cell: Option<usize>,
 }
 
 impl Version {
@@ -34,23 +107,25 @@ impl Version {
     }
 }
 
+/// How many versions a till holds.
+pub fn held(store: &Store, till: u32) -> u32 {
+    let at = Layout { capacities: store.capacities() }.till(till as usize) + 1;
+    store.table().get(at).copied().unwrap_or(0)
+}
+
 /// The held versions of each till, the oldest first.
 pub fn tills(store: &Store) -> Vec<Vec<Version>> {
-    let capacities = store.capacities();
-    let slot = SLOT_WORDS + capacities.blocks as usize;
-    let till = TILL_WORDS + capacities.versions as usize * slot;
-    let words = store.table().get(HEADER_WORDS..).unwrap_or_default();
-    let (tills, records) = words.split_at_checked(capacities.tills as usize * till).unwrap_or_default();
-    tills.chunks_exact(till).map(|words| versions(words, slot, records)).collect()
+    let (tills, records) = (store.capacities().tills, records(store));
+    (0..tills).map(|till| versions(store, till, &records)).collect()
 }
 
 /// A till's versions. The newest is read first, since chains lead to newer ones.
-fn versions(till: &[u32], slot: usize, records: &[u32]) -> Vec<Version> {
-    let held = till.get(1).map_or(0, |&held| held as usize);
-    let slots: Vec<&[u32]> = till.get(TILL_WORDS..).unwrap_or_default().chunks_exact(slot).take(held).collect();
-    let mut versions: Vec<Version> = Vec::with_capacity(held);
-    for words in slots.into_iter().rev() {
+fn versions(store: &Store, till: u32, records: &[Vec<Position>]) -> Vec<Version> {
+    let layout = Layout { capacities: store.capacities() };
+    let mut versions: Vec<Version> = Vec::new();
+    for slot in (0..held(store, till) as usize).rev() {
         let newer = versions.last().map_or(&[][..], |newer| &newer.traced);
+        let words = store.table().get(layout.slot(till as usize, slot)..).unwrap_or_default();
         let version = version(words, newer, records);
         versions.push(version);
     }
@@ -58,22 +133,21 @@ fn versions(till: &[u32], slot: usize, records: &[u32]) -> Vec<Version> {
     versions
 }
 
-fn version(slot: &[u32], newer: &[Traced], records: &[u32]) -> Version {
+fn version(slot: &[u32], newer: &[Traced], records: &[Vec<Position>]) -> Version {
     let (number, bytes) = (slot[0], slot[1]);
     let mut version = Version { number, bytes, direct: 0, indirect: 0, null: 0, traced: Vec::new() };
     for &word in slot.iter().skip(SLOT_WORDS).take((bytes as usize).div_ceil(BLOCK)) {
-        let payload = (word & 0x00ff_ffff) as usize;
-        let traced = match word >> 24 {
-            1 => {
+        let traced = match Pointer::of(word) {
+            Pointer::Direct { record, position } => {
                 version.direct += 1;
-                Traced { hops: 0, cell: records.get(payload / 16 * RECORD_WORDS + 3 + payload % 16).copied() }
+                Traced { hops: 0, cell: cell_of(records, record, position) }
             }
-            2 => {
+            Pointer::Indirect { block } => {
                 version.indirect += 1;
-                let next = newer.get(payload).copied().unwrap_or_default();
+                let next = newer.get(block).copied().unwrap_or_default();
                 Traced { hops: next.hops + 1, ..next }
             }
-            _ => {
+            Pointer::Null | Pointer::Unknown => {
                 version.null += 1;
                 Traced::default()
             }
@@ -81,4 +155,22 @@ fn version(slot: &[u32], newer: &[Traced], records: &[u32]) -> Version {
         version.traced.push(traced);
     }
     version
+}
+
+fn cell_of(records: &[Vec<Position>], record: usize, position: usize) -> Option<usize> {
+    match records.get(record)?.get(position)? {
+        Position::Held { cell } => Some(*cell),
+        _ => None,
+    }
+}
+
+/// The positions of each record.
+pub fn records(store: &Store) -> Vec<Vec<Position>> {
+    let layout = Layout { capacities: store.capacities() };
+    let words = store.table().get(layout.record(0)..).unwrap_or_default();
+    let one = |words: &[u32]| {
+        let position = |n: usize| Position::of(words[0], words[1], n, words[MASK_WORDS + n]);
+        (0..SEGMENT).map(position).collect()
+    };
+    words.chunks_exact(RECORD_WORDS).map(one).collect()
 }

@@ -1,17 +1,24 @@
 //! Files that are no stores: clear words, exit status 3, nothing altered, nothing left behind.
 
 mod common;
-use common::{file_of, letters, Bench};
+use common::{file_of, form_1_of, letters, Bench};
 use lurdempos::{Capacities, Store};
 use std::fs;
 
 /// Every command on the file `s`.
-const LINES: [&str; 12] = [
+const LINES: [&str; 19] = [
     "backup s 0 image",
     "backup s 0 -",
     "restore s 0 1 out",
     "restore s 0 1 -",
+    "backup s 0 image --dry-run",
     "retire s 0 1",
+    "retire s 0 --keep 1",
+    "verify s 0 1 image",
+    "verify s 0 newest -",
+    "diff s 0 1 2",
+    "export-all s out",
+    "grow s out",
     "list s",
     "list s 0 --json",
     "tally s",
@@ -55,8 +62,8 @@ fn wrong_magic() {
 #[test]
 fn another_form() {
     let mut bytes = good();
-    bytes[12] = 2;
-    cannot_be_read(&bytes, "a store's file of form 2; this tool reads form 1");
+    bytes[12] = 3;
+    cannot_be_read(&bytes, "a store's file of form 3; this tool reads forms 1 and 2");
     bytes[12] = 0;
     cannot_be_read(&bytes, "a store's file of form 0");
 }
@@ -104,7 +111,7 @@ fn parts_of_other_lengths_are_unsound() {
         file_of(&pool[1..], &table),
         file_of(&pool, &table[1..]),
         file_of(&pool, &table[..7]),
-        file_of(&vec![0; 2_097_152], &vec![0; 1_129_544]),
+        form_1_of(&vec![0; 2_097_152], &vec![0; 1_129_544]),
         file_of(&vec![255; 2_097_152], &vec![u32::MAX; 1_129_544]),
     ];
     bench.write("image", "x");

@@ -87,7 +87,7 @@ fn json_for_programs() {
                     {\"till\": 0, \"oldest\": 0, \"newest\": 0, \"last\": 0, \"versions\": []},\n  \
                     {\"till\": 1, \"oldest\": 1, \"newest\": 2, \"last\": 2, \"versions\": [\n    \
                       {\"version\": 1, \"bytes\": 192, \"chain\": 1, \"direct\": 0, \"indirect\": 2, \"null\": 1},\n    \
-                      {\"version\": 2, \"bytes\": 150, \"chain\": 0, \"direct\": 3, \"indirect\": 0, \"null\": 0}]}\n]}\n";
+                      {\"version\": 2, \"bytes\": 150, \"chain\": 0, \"direct\": 3, \"indirect\": 0, \"null\": 0}]}]}\n";
     assert_eq!(bench.run("list --json s").accepted().out, listed);
     let tallied = "{\"file\": \"s\", \"cells\": 3, \"records\": 1, \"counts\": 3, \"versions\": 2, \"bytes\": 342, \
                    \"capacities\": {\"tills\": 2, \"versions\": 4, \"blocks\": 16, \"records\": 8, \"cells\": 64}}\n";

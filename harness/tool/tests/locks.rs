@@ -1,11 +1,20 @@
 //! Several processes at one store.
 
 mod common;
-use common::{letters, Bench};
-use std::fs::File;
+use common::{draft_of, letters, Bench};
+use std::fs::{self, File};
 use std::thread;
+use std::time::{Duration, Instant};
 
-const BEING_WRITTEN: [&str; 3] = ["being written by another process", "nothing was altered", "What to do: wait"];
+/// What is said with exit status 4, with the process that holds the lock: this one.
+fn being_written() -> [String; 3] {
+    let holder = format!("being written by another process (process id {})", std::process::id());
+    [holder, "nothing was altered".into(), "What to do: wait".into()]
+}
+
+fn is_told(run: &common::Run) {
+    run.fails(4, &being_written().each_ref().map(String::as_str));
+}
 
 #[test]
 fn told_when_another_run_writes() {
@@ -13,10 +22,10 @@ fn told_when_another_run_writes() {
     bench.fed("backup s 0 -", &letters("AB")).accepted();
     bench.write("image", letters("C"));
     let before = bench.read("s");
-    let draft = File::create(bench.path("s.lurdempos-new")).unwrap();
+    let draft = File::create(bench.path(&draft_of("s"))).unwrap();
     draft.lock().unwrap();
-    for line in ["backup s 0 image", "retire s 0 1"] {
-        bench.run(line).fails(3, &BEING_WRITTEN);
+    for line in ["backup s 0 image --wait 0", "retire s 0 1 --wait 0", "retire s 0 --keep 0 --wait=1"] {
+        is_told(&bench.run(line));
     }
     for line in ["list s", "tally s", "check s", "map s", "restore s 0 1 out"] {
         bench.run(line).accepted();
@@ -35,10 +44,10 @@ fn told_when_somebody_holds_the_store() {
     let store = File::open(bench.path("s")).unwrap();
     let before = bench.read("s");
     store.lock().unwrap();
-    bench.run("backup s 0 image").fails(3, &BEING_WRITTEN);
+    is_told(&bench.run("backup s 0 image --wait 0"));
     store.unlock().unwrap();
     store.lock_shared().unwrap();
-    bench.run("backup s 0 image").fails(3, &BEING_WRITTEN);
+    is_told(&bench.run("backup s 0 image --wait 0"));
     assert_eq!((bench.read("s"), bench.names()), (before, vec!["image".to_string(), "s".into()]));
     store.unlock().unwrap();
     bench.run("backup s 0 image").accepted();
@@ -48,15 +57,37 @@ fn told_when_somebody_holds_the_store() {
 fn told_when_an_output_or_a_new_store_is_being_written() {
     let bench = Bench::with_store("locked-output");
     bench.fed("backup s 0 -", &letters("AB")).accepted();
-    for (draft, line) in [("out.lurdempos-new", "restore s 0 1 out"), ("n.lurdempos-new", "init n")] {
-        let draft = File::create(bench.path(draft)).unwrap();
+    for (name, line) in [("out", "restore s 0 1 out --wait 0"), ("n", "init n --wait 0")] {
+        let draft = File::create(bench.path(&draft_of(name))).unwrap();
         draft.lock().unwrap();
-        bench.run(line).fails(3, &BEING_WRITTEN);
+        is_told(&bench.run(line));
         draft.unlock().unwrap();
     }
     bench.run("restore s 0 1 out").accepted();
     bench.run("init n").accepted();
     assert_eq!(bench.names(), ["n", "out", "s"]);
+}
+
+/// A run waits for another one, and goes on with what that has left.
+#[test]
+fn waits_for_the_other() {
+    let bench = Bench::with_store("waits");
+    bench.write("image", letters("C"));
+    for name in ["s".to_string(), draft_of("s")] {
+        let held = File::options().read(true).append(true).create(true).open(bench.path(&name)).unwrap();
+        held.lock().unwrap();
+        let begin = Instant::now();
+        let child = bench.spawn("backup s 0 image");
+        thread::sleep(Duration::from_millis(400));
+        held.unlock().unwrap();
+        common::Run::of("backup", child.wait_with_output().unwrap()).accepted();
+        assert!(begin.elapsed() >= Duration::from_millis(400), "{name}");
+    }
+    let store = File::open(bench.path("s")).unwrap();
+    store.lock().unwrap();
+    let begin = Instant::now();
+    is_told(&bench.run("backup s 0 image --wait 1"));
+    assert!(begin.elapsed() >= Duration::from_secs(1));
 }
 
 /// Something that is no draft of ours lies where the draft would.
@@ -65,15 +96,101 @@ fn in_the_way() {
     let bench = Bench::with_store("in-the-way");
     bench.write("precious", "keep me");
     bench.write("image", "x");
-    std::os::unix::fs::symlink("precious", bench.path("s.lurdempos-new")).unwrap();
-    bench.run("backup s 0 image").fails(3, &["s.lurdempos-new is in the way"]);
-    std::fs::remove_file(bench.path("s.lurdempos-new")).unwrap();
-    std::fs::create_dir(bench.path("s.lurdempos-new")).unwrap();
-    bench.run("backup s 0 image").fails(3, &["s.lurdempos-new is in the way"]);
+    let (draft, words) = (draft_of("s"), format!("{} is in the way", draft_of("s")));
+    std::os::unix::fs::symlink("precious", bench.path(&draft)).unwrap();
+    bench.run("backup s 0 image").fails(3, &[&words]);
+    fs::remove_file(bench.path(&draft)).unwrap();
+    fs::create_dir(bench.path(&draft)).unwrap();
+    bench.run("backup s 0 image").fails(3, &[&words]);
     assert_eq!(bench.read("precious"), b"keep me");
 }
 
-/// Many at once: each backup is kept or told to wait, and none of those that are kept is lost.
+/// A file of the user's own that is called almost like a draft stays.
+#[test]
+fn a_users_own_file_stays() {
+    let bench = Bench::with_store("own-file");
+    bench.write("image", "x");
+    for name in ["s.lurdempos-new", "out.lurdempos-new", "n.lurdempos-new"] {
+        bench.write(name, "my own");
+    }
+    for line in ["backup s 0 image", "restore s 0 1 out", "retire s 0 1", "init n", "map s --output out"] {
+        bench.run(line).accepted();
+    }
+    bench.run("restore s 0 1 s.lurdempos-new").fails(1, &["refused, 15"]);
+    for name in ["s.lurdempos-new", "out.lurdempos-new", "n.lurdempos-new"] {
+        assert_eq!(bench.read(name), b"my own");
+    }
+}
+
+/// A store that has several names is not changed under one of them.
+#[test]
+fn several_names() {
+    let bench = Bench::with_store("several-names");
+    bench.write("image", "x");
+    fs::hard_link(bench.path("s"), bench.path("other")).unwrap();
+    let before = bench.read("s");
+    for line in ["backup s 0 image", "backup other 0 image", "retire s 0 --keep 0"] {
+        bench.run(line).fails(3, &["has 2 names (hard links)", "What to do: remove the other names"]);
+    }
+    bench.run("list other").accepted();
+    assert!(bench.read("s") == before && bench.read("other") == before);
+    fs::remove_file(bench.path("other")).unwrap();
+    bench.run("backup s 0 image").accepted();
+    assert_eq!(bench.names(), ["image", "s"]);
+}
+
+/// A store that somebody replaces while a backup runs: what was put there is there at the end, or is what was changed.
+#[test]
+fn replaced_while_it_runs() {
+    let bench = Bench::new("replaced");
+    bench.run("init first").accepted();
+    bench.run("init second --tills 3").accepted();
+    bench.write("image", vec![9; 33_268]);
+    let (first, second) = (bench.read("first"), bench.read("second"));
+    let mut refused = 0;
+    for round in 0..20 {
+        bench.write("s", &first);
+        bench.write("new", &second);
+        let mut child = bench.spawn("backup s 2 image");
+        while bench.drafts().is_empty() && child.try_wait().unwrap().is_none() {}
+        thread::sleep(Duration::from_micros(400 * round));
+        fs::rename(bench.path("new"), bench.path("s")).unwrap();
+        let run = common::Run::of("backup", child.wait_with_output().unwrap());
+        if run.status == Some(0) {
+            // It was replaced before it was opened, or after the backup was made.
+            let tills = bench.run("list s").out.lines().filter(|line| line.starts_with("till")).count();
+            assert_eq!(tills, 3, "what was put there is lost");
+        } else {
+            run.fails(3, &["s: was replaced by another file while this run was at it"]);
+            assert!(bench.read("s") == second);
+            refused += 1;
+        }
+        assert!(bench.drafts().is_empty());
+    }
+    println!("{refused} of 20 were refused");
+}
+
+/// Tills that close at the same time: all are kept, five times 16 with patience and 16 without asking for any.
+#[test]
+fn tills_closing_at_once() {
+    let bench = Bench::new("at-once");
+    bench.run("init s").accepted();
+    for (runs, wait) in [(80, "--wait 60"), (16, "")] {
+        let children: Vec<_> = (0..runs)
+            .map(|n| {
+                bench.write(&format!("image{n}"), format!("closing {n} ").repeat(300));
+                bench.spawn(&format!("backup s {} image{n} {wait}", n % 16))
+            })
+            .collect();
+        for child in children {
+            common::Run::of("backup", child.wait_with_output().unwrap()).accepted();
+        }
+    }
+    bench.run("tally s").accepted().says("versions       96 held");
+    assert!(bench.drafts().is_empty());
+}
+
+/// Many at once that do not wait: each backup is kept or told, and none of those that are kept is lost.
 #[test]
 fn no_update_is_lost() {
     let bench = Bench::new("crowd");
@@ -108,11 +225,11 @@ fn work(bench: &Bench, worker: u32) -> Vec<(u32, String, Vec<u8>, usize)> {
         let image = format!("worker {worker}, image {n} ").repeat(60).into_bytes();
         let mut told = 0;
         let version = loop {
-            let run = bench.fed(&format!("backup s {till} -"), &image);
+            let run = bench.fed(&format!("backup s {till} - --wait 0"), &image);
             if run.status == Some(0) {
                 break run.out.split_whitespace().nth(3).unwrap().to_string();
             }
-            run.fails(3, &BEING_WRITTEN);
+            run.fails(4, &["being written by another process", "nothing was altered"]);
             bench.run("check s").accepted();
             told += 1;
         };
@@ -125,7 +242,7 @@ fn work(bench: &Bench, worker: u32) -> Vec<(u32, String, Vec<u8>, usize)> {
 fn one_of_many_inits() {
     let bench = Bench::new("inits");
     for round in 0..5 {
-        let line = format!("init s{round} --tills {} --cells 100", round + 1);
+        let line = format!("init s{round} --tills {} --blocks 16 --cells 100", round + 1);
         let runs: Vec<common::Run> = thread::scope(|scope| {
             let all: Vec<_> = (0..6).map(|_| scope.spawn(|| bench.run(&line))).collect();
             all.into_iter().map(|one| one.join().unwrap()).collect()

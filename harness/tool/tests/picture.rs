@@ -20,7 +20,11 @@ fn well_formed(svg: &str) {
 
 /// The cells that the legend counts.
 fn counted(svg: &str) -> usize {
-    let number = |line: &str| line.split(": ").nth(1)?.strip_suffix(" cells</text>")?.parse::<usize>().ok();
+    let number = |line: &str| {
+        let counted = line.split(": ").nth(1)?;
+        let counted = counted.strip_suffix(" cells</text>").or(counted.strip_suffix(" cell</text>"))?;
+        counted.parse::<usize>().ok()
+    };
     svg.lines().filter(|line| line.starts_with("<text")).filter_map(number).sum()
 }
 
@@ -40,14 +44,17 @@ fn cells_by_use_and_chains() {
         "s: 12 of 64 cells occupied",
         ">free: 52 cells<",
         ">shared by several tills: 8 cells<",
-        ">till 0, one version: 2 cells<", // K of version 2, L of version 3
-        ">till 0, shared by several versions: 1 cells<", // J
-        ">till 1, one version: 1 cells<", // I
+        ">till 0, one version: 2 cells<",               // K of version 2, L of version 3
+        ">till 0, shared by several versions: 1 cell<", // J
+        ">till 1, one version: 1 cell<",                // I
         ">till 1, shared by several versions: 0 cells<",
         "<title>till 0, version 1: longest chain 2</title>",
         "<title>till 0, version 2: longest chain 1</title>",
         "<title>till 0, version 3: longest chain 0</title>",
         "<title>till 1, version 1: longest chain 0</title>",
+        ">4 of 8 records in use, 3 whole; eight positions each<",
+        ">null, of a record in use: 19 positions<",
+        ">removed: 1 position<",
     ];
     said.iter().for_each(|words| assert!(svg.contains(words), "{words} is not in {svg}"));
     assert_eq!(counted(&svg), 64);

@@ -1,7 +1,7 @@
 //! Each refusal that the tool can meet: its number, its words, what to do, exit status 1, and nothing altered.
 
 mod common;
-use common::{file_of, letters, Bench};
+use common::{file_of, form_1_of, letters, Bench};
 use lurdempos::{Capacities, Store};
 
 /// Refused with this number and these words; the folder stays as it is.
@@ -23,15 +23,15 @@ fn capacities_1() {
         ("--tills 17", "--tills 17, but 1 to 16"),
         ("--versions 0", "--versions 0, but 1 to 64"),
         ("--versions 65", "--versions 65, but 1 to 64"),
-        ("--blocks 0", "images of 0 blocks"),
-        ("--blocks 1025", "images of 1025 blocks"),
-        ("--image-bytes 0", "images of 0 blocks"),
-        ("--image-bytes 65537", "images of 1025 blocks"),
+        ("--blocks 0", "--blocks 0, but 1 to 1024"),
+        ("--blocks 1025", "--blocks 1025, but 1 to 1024"),
+        ("--image-bytes 0", "--image-bytes 0, but 1 to 65536"),
+        ("--image-bytes 65537", "--image-bytes 65537, but 1 to 65536"),
         ("--records 0", "--records 0, but 1 to 4096"),
         ("--records 4097", "--records 4097, but 1 to 4096"),
         ("--cells 0", "--cells 0, but 1 to 32768"),
         ("--cells 4294967295", "--cells 4294967295, but 1 to 32768"),
-        ("--image-bytes 4294967295", "blocks of 64 bytes, but 1 to 1024"),
+        ("--image-bytes 4294967295", "--image-bytes 4294967295, but 1 to 65536"),
     ];
     for (option, words) in out_of_range {
         refused(&bench, &format!("init s {option}"), 1, &[words, "choose each from its range"]);
@@ -47,7 +47,7 @@ fn tills_3() {
         refused(&bench, line, 3, &["there is no till 2, this store has tills 0 to 1", "lurdempos list s"]);
     }
     refused(&bench, "list s 4294967295", 3, &["there is no till 4294967295"]);
-    bench.run("init one --tills 1 --cells 2").accepted();
+    bench.run("init one --tills 1 --cells 2 --blocks 2").accepted();
     refused(&bench, "list one 1", 3, &["this store has till 0 alone"]);
 }
 
@@ -113,11 +113,47 @@ fn retires_13_and_15() {
 #[test]
 fn no_record_14_and_no_run_16() {
     let bench = Bench::new("refusal-14");
-    bench.run("init records --tills 1 --blocks 16 --records 1 --cells 64").accepted();
-    bench.run("init cells --tills 1 --blocks 16 --records 8 --cells 15").accepted();
-    bench.write("image", letters("ABCDEFGHIJKLMNOP"));
-    refused(&bench, "backup records 0 image", 14, &["the store's 1 segment records", "--records"]);
-    refused(&bench, "backup cells 0 image", 16, &["the store's 15 cells", "--cells", "retire the oldest versions"]);
+    bench.run("init records --tills 1 --blocks 8 --records 1 --cells 64").accepted();
+    bench.run("init cells --tills 1 --blocks 8 --records 8 --cells 9").accepted();
+    bench.fed("backup records 0 -", &letters("AB")).accepted();
+    bench.fed("backup cells 0 -", &letters("AB")).accepted();
+    bench.write("image", letters("CDEFGHIJ"));
+    let advice = ["retire the oldest versions", "does not fit beside the others"];
+    refused(&bench, "backup records 0 image", 14, &["store's 1 segment record", "grow records NEW --records N"]);
+    refused(&bench, "backup cells 0 image", 16, &["store's 9 cells", "grow cells NEW --cells N"]);
+    refused(&bench, "backup cells 0 image", 16, &advice);
+    // 32 images of 1,024 different blocks take all records that a store can have.
+    bench.run("init largest --versions 3 --blocks 1024").accepted();
+    let image = |n: u32| (0..1024).flat_map(|block| [(n * 1024 + block + 1).to_le_bytes(); 16].concat()).collect();
+    for n in 0..32u32 {
+        let image: Vec<u8> = image(n);
+        bench.fed(&format!("backup largest {} -", n % 16), &image).accepted();
+    }
+    let image: Vec<u8> = image(32);
+    bench.write("image", image);
+    refused(
+        &bench,
+        "backup largest 0 image",
+        14,
+        &["go on in a second store: this one has as many as a store can have"],
+    );
+}
+
+/// In an empty store there is nothing to retire: it says so, and what the image takes.
+#[test]
+fn no_room_in_an_empty_store() {
+    let bench = Bench::new("refusal-16-empty");
+    let warned = bench.run("init cells --tills 1 --blocks 16 --records 8 --cells 9");
+    assert!(warned.status == Some(0) && warned.err.contains("not even one image of 1024 bytes"), "{warned:?}");
+    let warned = bench.run("init records --tills 1 --blocks 16 --records 1 --cells 64");
+    assert!(warned.err.contains("it takes 2 records and 16 cells"), "{warned:?}");
+    // Two segments; a block of zeros takes nothing, and the second comes again.
+    bench.write("image", letters("ABCDEFG.HIJKLMNO"));
+    let advice = "`--records 2 --cells 15`, which this image takes";
+    refused(&bench, "backup cells 0 image", 16, &["the store is empty, and its 9 cells are too few", advice]);
+    refused(&bench, "backup records 0 image", 14, &["the store is empty, and its 1 segment record", advice]);
+    bench.run("init enough --tills 1 --blocks 16 --records 2 --cells 15");
+    bench.run("backup enough 0 image").accepted();
 }
 
 #[test]
@@ -125,13 +161,20 @@ fn unsound_10() {
     let bench = Bench::with_store("refusal-10");
     bench.fed("backup s 0 -", &letters("ABC")).accepted();
     bench.write("image", "x");
-    let mut bytes = bench.read("s");
-    bytes[32 + 64 * 60] = 1; // a free cell that is not zero
-    bench.write("s", &bytes);
+    let (mut pool, table) = {
+        let mut store = Store::new(Capacities::new(2, 4, 16, 8, 64)).unwrap();
+        store.backup(0, &letters("ABC")).unwrap();
+        store.into_parts()
+    };
+    assert_eq!(bench.read("s"), file_of(&pool, &table));
+    pool[64 * 60] = 1; // a free cell that is not zero
+    bench.write("s", file_of(&pool, &table));
+    bench.write("old", form_1_of(&pool, &table));
     let lines =
         ["backup s 0 image", "restore s 0 1 out", "restore s 0 1 -", "retire s 0 1", "list s", "list s 0 --json"];
     for line in lines.into_iter().chain(["tally s", "check s", "map s", "map s --output m", "list s 9"]) {
         refused(&bench, line, 10, &["pool and table are not a sound store", "s has been damaged", "lurdempos check"]);
     }
-    assert_eq!(bench.names(), ["image", "s"]);
+    refused(&bench, "check old", 10, &["old has been damaged", "lurdempos salvage old FOLDER"]);
+    assert_eq!(bench.names(), ["image", "old", "s"]);
 }

@@ -3,7 +3,7 @@
 mod common;
 use common::{letters, Bench, Run};
 use std::fs::{self, Permissions};
-use std::os::unix::fs::{symlink, FileTypeExt, PermissionsExt};
+use std::os::unix::fs::{symlink, FileTypeExt, MetadataExt, PermissionsExt};
 use std::process::Stdio;
 
 fn with_version(name: &str) -> (Bench, Vec<u8>) {
@@ -11,10 +11,6 @@ fn with_version(name: &str) -> (Bench, Vec<u8>) {
     let image: Vec<u8> = (0..1000u32).map(|n| (n * n % 251) as u8).collect();
     bench.fed("backup s 0 -", &image).accepted().says("till 0: version 1 kept, 1000 bytes");
     (bench, image)
-}
-
-fn mode(bench: &Bench, name: &str) -> u32 {
-    fs::metadata(bench.path(name)).unwrap().permissions().mode() & 0o7777
 }
 
 #[test]
@@ -93,8 +89,92 @@ fn named_pipes() {
     assert!(bench.read("got") == image);
     assert!(fs::metadata(bench.path("p")).unwrap().file_type().is_fifo());
     assert_eq!(bench.names(), ["got", "p", "s"]);
-    let image_and_words = bench.shell("lurdempos restore s 0 1 /dev/stdout | cat").accepted().bytes.clone();
-    assert!(image_and_words.starts_with(&image));
+}
+
+/// Names of descriptors mean the descriptors, as `-` does: a file behind one is written to where it stands, and no word
+/// is added to the image.
+#[test]
+fn descriptors_by_their_names() {
+    let (bench, image) = with_version("descriptors");
+    symlink("/dev/stdout", bench.path("link")).unwrap();
+    for name in ["/dev/stdout", "/dev/fd/1", "/proc/self/fd/1", "./link", "-"] {
+        bench.write("log", "before\n");
+        let number = fs::metadata(bench.path("log")).unwrap().ino();
+        bench.shell(&format!("lurdempos restore s 0 1 {name} >> log")).accepted();
+        assert!(bench.read("log") == [b"before\n", &image[..]].concat(), "{name}");
+        assert_eq!(fs::metadata(bench.path("log")).unwrap().ino(), number, "{name} replaced the log");
+        let piped = bench.shell(&format!("lurdempos restore s 0 1 {name} | cat")).accepted().bytes.clone();
+        assert!(piped == image, "{name}");
+    }
+    bench.write("log", "before\n");
+    let run = bench.shell("lurdempos restore s 0 1 /dev/fd/3 3>> log; lurdempos restore s 0 1 /dev/stderr 2>> log");
+    assert_eq!(run.accepted().out, "");
+    assert!(bench.read("log") == [b"before\n", &image[..], &image[..]].concat());
+    bench.shell("lurdempos restore s 0 1 /dev/fd/9 9>&-").fails(3, &["descriptor 9 could not be written"]);
+    let picture = bench.run("map s").accepted().bytes.clone();
+    bench.write("log", "before\n");
+    bench.shell("lurdempos map s --output /dev/stdout >> log").accepted();
+    assert!(bench.read("log") == [b"before\n", &picture[..]].concat());
+    assert_eq!(bench.names(), ["link", "log", "s"]);
+}
+
+/// An image that nobody gets is an error, and so is one that would go into the store.
+#[test]
+fn closed_or_the_store_itself() {
+    let (bench, _) = with_version("closed-output");
+    for name in ["-", "/dev/stdout", "/dev/fd/1"] {
+        bench.shell(&format!("lurdempos restore s 0 1 {name} >&-")).fails(3, &["standard output could not be written"]);
+    }
+    bench.write("image", "x");
+    let before = bench.read("s");
+    let lines = ["restore s 0 1 -", "restore s 0 1 /dev/stdout", "list s", "check s", "map s", "salvage s f"];
+    for line in lines.into_iter().chain(["backup s 0 image", "tally s --json", "restore s 0 1 out", "retire s 0 1"]) {
+        let run = bench.shell(&format!("lurdempos {line} >> s"));
+        run.fails(2, &["standard output is s, the store itself"]);
+        // Not even this is said if it would go there.
+        assert_eq!(bench.shell(&format!("lurdempos {line} >> s 2>&1")).status, Some(2));
+        assert_eq!(bench.shell(&format!("lurdempos {line} 2>> s")).status, Some(2));
+        assert!(bench.read("s") == before, "{line}");
+    }
+    bench.shell("lurdempos restore s 0 1 /dev/fd/3 3>> s").fails(2, &["the store itself"]);
+    assert_eq!((bench.read("s"), bench.names()), (before, vec!["image".to_string(), "s".into()]));
+}
+
+/// Stores and protected files are not replaced by an output unless that is asked for.
+#[test]
+fn protected_outputs() {
+    let (bench, image) = with_version("protected");
+    bench.run("init other --cells 600").accepted();
+    bench.write("readonly", "precious");
+    bench.write("plain", "old");
+    fs::set_permissions(bench.path("readonly"), Permissions::from_mode(0o444)).unwrap();
+    let store = bench.read("other");
+    for command in ["restore s 0 1", "map s --output"] {
+        bench.run(&format!("{command} other")).fails(2, &["other is a store, which would be lost", "--force"]);
+        bench.run(&format!("{command} readonly")).fails(2, &["readonly is write-protected", "--force"]);
+        bench.run(&format!("{command} s --force")).fails(2, &["s is the store itself"]);
+        bench.run(&format!("{command} plain")).accepted();
+    }
+    assert_eq!((bench.read("other"), bench.read("readonly")), (store, b"precious".to_vec()));
+    bench.run("restore s 0 1 other --force").accepted();
+    bench.run("restore --force s 0 1 readonly").accepted();
+    assert!(bench.read("other") == image && bench.read("readonly") == image);
+    assert_eq!(bench.mode("readonly"), 0o444);
+}
+
+/// Names as long as the system takes them.
+#[test]
+fn long_names() {
+    let (bench, image) = with_version("long-names");
+    for name in ["n".repeat(255), "ü".repeat(127)] {
+        bench.run(&format!("restore s 0 1 {name}")).accepted();
+        assert!(bench.read(&name) == image);
+        fs::remove_file(bench.path(&name)).unwrap();
+        bench.run(&format!("init {name}")).accepted();
+        bench.shell(&format!("cat s | lurdempos backup {name} 0 -; lurdempos list {name} 0 > list")).accepted();
+        bench.run(&format!("export-all {name} {}", name.replace(['n', 'ü'], "o"))).accepted();
+    }
+    assert!(bench.drafts().is_empty());
 }
 
 #[test]
@@ -125,7 +205,23 @@ fn permissions_stay() {
     fs::set_permissions(bench.path("out"), Permissions::from_mode(0o604)).unwrap();
     bench.run("backup s 0 image").accepted();
     bench.run("restore s 0 1 out").accepted();
-    assert_eq!((mode(&bench, "s"), mode(&bench, "out")), (0o640, 0o604));
+    assert_eq!((bench.mode("s"), bench.mode("out")), (0o640, 0o604));
     bench.shell("umask 027; lurdempos init n && lurdempos restore s 0 1 o").accepted();
-    assert_eq!((mode(&bench, "n"), mode(&bench, "o")), (0o640, 0o640));
+    assert_eq!((bench.mode("n"), bench.mode("o")), (0o640, 0o640));
+}
+
+/// A restored image is for the same eyes as the store.
+#[test]
+fn images_get_the_stores_mode() {
+    let (bench, _) = with_version("image-modes");
+    for mode in [0o600, 0o640, 0o660] {
+        fs::set_permissions(bench.path("s"), Permissions::from_mode(mode)).unwrap();
+        bench.shell(&format!("umask 022; lurdempos restore s 0 1 o{mode}")).accepted();
+        assert_eq!(bench.mode(&format!("o{mode}")), mode);
+        bench.shell(&format!("lurdempos export-all s f{mode} && lurdempos salvage s g{mode}")).accepted();
+        for name in [format!("f{mode}/till-0-version-1.img"), format!("g{mode}/till-0-version-1.img")] {
+            assert_eq!(bench.mode(&name), mode, "{name}");
+        }
+        assert_eq!(bench.mode(&format!("f{mode}")), 0o100 | mode | (mode & 0o444) >> 2);
+    }
 }

@@ -3,7 +3,22 @@
 mod common;
 use common::Bench;
 
-const COMMANDS: [&str; 9] = ["init", "backup", "restore", "retire", "list", "tally", "check", "map", "demo"];
+const COMMANDS: [&str; 14] = [
+    "init",
+    "backup",
+    "restore",
+    "verify",
+    "diff",
+    "retire",
+    "list",
+    "tally",
+    "check",
+    "map",
+    "export-all",
+    "grow",
+    "salvage",
+    "demo",
+];
 
 #[test]
 fn help_and_version() {
@@ -36,36 +51,50 @@ fn no_command() {
 }
 
 /// Wrong lines, and what is said about them.
-const WRONG: [(&str, &str); 29] = [
-    ("init", "an argument is missing"),
+const WRONG: [(&str, &str); 43] = [
+    ("init", "FILE is missing"),
     ("init n m", "one argument too many: m"),
     ("init n --till 3", "unknown option --till"),
-    ("init n --tills", "option --tills needs a value"),
+    ("init n --tills", "option --tills needs a value, N"),
     ("init n --tills 3 --tills=3", "option --tills is given twice"),
     ("init n --blocks 3 --image-bytes 3", "--image-bytes and --blocks say the same"),
-    ("init n --json", "unknown option --json"),
+    ("init n --output m", "unknown option --output"),
     ("init n -t", "unknown option -t"),
-    ("backup s 0", "an argument is missing"),
+    ("backup s 0", "IMAGE is missing"),
     ("backup s 0 image more", "one argument too many: more"),
     ("backup s -1 image", "unknown option -1"),
     ("backup - 0 image", "FILE has to be a file"),
-    ("restore s 0 1", "an argument is missing"),
+    ("restore s 0 1", "OUTPUT is missing"),
     ("restore s 0 1 s", "is the store itself"),
     ("restore s 0 1 ./s", "is the store itself"),
     ("map s --output s", "is the store itself"),
-    ("retire s 0", "an argument is missing"),
-    ("list", "an argument is missing"),
+    ("retire s 0", "VERSION is missing"),
+    ("retire s 0 1 --keep 1", "VERSION and --keep both say what goes"),
+    ("retire s 0 newest", "VERSION has to be a number"),
+    ("restore s 0 latest out", "VERSION has to be a number"),
+    ("restore s 0 1 - --json", "--json and an image cannot go to one output"),
+    ("verify s 0 1", "IMAGE is missing"),
+    ("diff s 0 1", "OTHER is missing"),
+    ("export-all s", "FOLDER is missing"),
+    ("salvage s", "FOLDER is missing"),
+    ("grow s", "NEW is missing"),
+    ("grow s -", "NEW has to be a file"),
+    ("salvage s -", "FOLDER has to be a folder"),
+    ("grow s n --cells 63", "NEW would have 63 cells, OLD has 64"),
+    ("backup s 0 image --wait soon", "--wait has to be a number"),
+    ("backup s 0 image --keep 3", "unknown option --keep"),
+    ("list", "FILE is missing"),
     ("list s 0 1", "one argument too many: 1"),
     ("list s --json --json", "option --json is given twice"),
     ("list s --json=yes", "unknown option --json=yes"),
     ("tally s 0", "one argument too many: 0"),
-    ("check", "an argument is missing"),
+    ("check", "FILE is missing"),
     ("check -", "FILE has to be a file"),
     ("map s --output", "option --output needs a value"),
     ("map s --output=", "option --output needs a file"),
     ("demo now", "one argument too many: now"),
-    ("init x.lurdempos-new", "are for the tool's own drafts"),
-    ("restore s 0 1 s.lurdempos-new", "are for the tool's own drafts"),
+    ("init x.lurdempos-draft-0123abcd", "are for the tool's drafts"),
+    ("restore s 0 1 s.lurdempos-draft-0123abcd", "are for the tool's drafts"),
 ];
 
 #[test]
@@ -77,7 +106,13 @@ fn wrong_lines() {
     let kept = bench.read("s");
     assert_ne!(before, kept);
     for (line, words) in WRONG {
-        bench.run(line).fails(2, &[words]);
+        let run = bench.run(line);
+        run.fails(2, &[words]);
+        // What the right line is, wherever it is the line that is wrong and not the file.
+        if !["the store itself", "drafts"].iter().any(|end| words.ends_with(end)) {
+            let command = line.split(' ').next().unwrap();
+            run.fails(2, &[&format!("\nUsage: lurdempos {command} "), &format!("`lurdempos {command} --help`")]);
+        }
     }
     assert_eq!((bench.read("s"), bench.names()), (kept, vec!["image".to_string(), "s".into()]));
 }
@@ -102,9 +137,9 @@ fn numbers_are_strict() {
 fn options_anywhere_and_odd_names() {
     use std::os::unix::ffi::OsStrExt;
     let bench = Bench::new("odd-names");
-    bench.run("init --tills 1 --cells 4 -- --tills").accepted();
+    bench.run("init --tills 1 --cells 4 --blocks 4 -- --tills").accepted();
     bench.run("check -- --tills").accepted().says("--tills: sound");
-    bench.run("init ./- --cells 4").accepted();
+    bench.run("init ./- --cells 4 --blocks 4").accepted();
     bench.run("check ./-").accepted();
     let odd = std::ffi::OsStr::from_bytes(b"\xff\xfe <&>");
     let run = |words: &[&str]| bench.command("").args(words).arg(odd).output().unwrap();
@@ -112,4 +147,36 @@ fn options_anywhere_and_odd_names() {
     assert!(run(&["list", "--json"]).status.success());
     assert!(String::from_utf8(run(&["map"]).stdout).unwrap().contains("&lt;&amp;&gt;"));
     assert_eq!(bench.command("list").arg("--").arg(odd).arg(odd).output().unwrap().status.code(), Some(2));
+}
+
+/// Names that begin with a dash or have control characters: what is said can be read, and copied.
+#[test]
+fn names_in_messages() {
+    let bench = Bench::with_store("names");
+    bench.write("image", "x");
+    bench.run("backup s 0 image").accepted().says("version 1 kept, 1 byte\n");
+    bench.run("backup s 0 image").accepted();
+    let said = |words: &[&str]| common::Run::of("", bench.command("").args(words).output().unwrap());
+    std::fs::copy(bench.path("s"), bench.path("-x")).unwrap();
+    said(&["retire", "--", "-x", "0", "2"]).fails(1, &["`lurdempos retire ./-x 0 1`"]);
+    bench.run("retire ./-x 0 1").accepted().says("version 1 retired, 1 byte\n");
+    said(&["check", "-x"]).fails(2, &["unknown option -x", "written ./-x, or put after `--`"]);
+    let odd = "a\u{1b}[31m\nb";
+    std::fs::copy(bench.path("s"), bench.path(odd)).unwrap();
+    let refused = said(&["retire", odd, "0", "2"]);
+    refused.fails(1, &[r"`lurdempos retire $'a\x1b[31m\x0ab' 0 1`"]);
+    let checked = said(&["check", odd]);
+    checked.accepted().says(r"a\x1b[31m\x0ab: sound");
+    let missing = said(&["check", "\u{1b}]0;title\u{7}"]);
+    missing.fails(3, &[r"\x1b]0;title\x07: cannot be read"]);
+    let unknown = said(&["\u{1b}c"]);
+    unknown.fails(2, &[r"there is no command `\x1bc`"]);
+    for run in [refused, checked, missing, unknown] {
+        assert!(!run.err.contains('\u{1b}') && !run.out.contains('\u{1b}'), "{run:?}");
+    }
+    // The command that is advised does what it says, in a shell that knows such names.
+    let mut bash = std::process::Command::new("bash");
+    bash.args(["-c", r"cat $'a\x1b[31m\x0ab' | wc -c"]);
+    let counted = bash.current_dir(bench.path("")).output().unwrap();
+    assert_eq!(String::from_utf8_lossy(&counted.stdout).trim(), bench.read("s").len().to_string());
 }

@@ -1,57 +1,142 @@
 //! `backup`: the next version of a till.
 
-use super::Command;
+use super::dry_run::{tried, Cells};
 use crate::advice::Call;
 use crate::arguments::Arguments;
+use crate::json::Json;
+use crate::patience::Patience;
 use crate::reply::Reply;
 use crate::storefile::Change;
+use crate::syntax::{Argument, Command, Opt, Takes, DRY_RUN, FILE, TILL, WAIT};
 use crate::target::Target;
-use crate::Failure;
-use lurdempos::Capacities;
-use std::fs::File;
-use std::io::{self, Read};
+use crate::words::bytes;
+use crate::{image, Failure};
+use lurdempos::{Refusal, Store};
 use std::path::Path;
 
 pub static COMMAND: Command = Command {
     name: "backup",
-    usage: "FILE TILL IMAGE",
+    arguments: &[FILE, TILL, Argument::needed("IMAGE", Takes::File)],
+    options: &[
+        Opt::flag("--rotate", "retire the till's oldest version first if the till is full, in the same write"),
+        Opt::flag("--unless-same", "keep no new version if the till's newest has the same bytes"),
+        Opt::with("--bytes", "N", "keep the image only if it has exactly N bytes"),
+        DRY_RUN,
+        WAIT,
+    ],
     about: "keep an image as the till's next version",
     help: "
 TILL is the till's number, from 0. IMAGE is a file with the till's memory, or - for standard input.
 The reply tells the number of the new version.
 ",
-    least: 3,
-    most: 3,
-    options: &[],
-    flags: &[],
     run,
 };
 
-fn run(arguments: &Arguments) -> Result<Reply, Failure> {
-    let (file, till) = (arguments.store()?, arguments.number(1, "TILL")?);
-    let target = Target::existing(file)?;
-    // Before the lock is taken: standard input may come slowly.
-    let image = image(arguments.path(2, "IMAGE")?)?;
-    let mut change = Change::begin(&target)?;
-    let version = match change.store.backup(till, &image) {
-        Ok(version) => version,
-        Err(refusal) => {
-            let call = Call { file, store: &change.store, till, version: 0, image: image.len() };
-            return Err(call.refused(refusal));
-        }
-    };
-    change.finish()?;
-    Ok(Reply::Done(format!("till {till}: version {version} kept, {} bytes\n", image.len())))
+/// What became of an image.
+struct Outcome {
+    /// Its version, or the newest if that has the same bytes.
+    version: u32,
+    kept: bool,
+    /// The version that made room, with its bytes.
+    retired: Option<(u32, u32)>,
 }
 
-/// The image, or its beginning if it is longer than any store takes: then the store refuses it for its length.
-fn image(path: &Path) -> Result<Vec<u8>, Failure> {
-    let most = Capacities::LARGEST.image_bytes() as u64 + 1;
-    let mut image = Vec::new();
-    let read = if path == Path::new("-") {
-        io::stdin().lock().take(most).read_to_end(&mut image)
-    } else {
-        File::open(path).and_then(|file| file.take(most).read_to_end(&mut image))
-    };
-    read.map(|_| image).map_err(|error| Failure::file(path, "cannot be read", &error))
+/// A backup that is asked for.
+struct Asked<'a> {
+    file: &'a Path,
+    till: u32,
+    image: &'a [u8],
+    rotate: bool,
+    unless_same: bool,
+}
+
+fn run(arguments: &Arguments) -> Result<Reply, Failure> {
+    let (file, till) = (arguments.store()?, arguments.number(1)?);
+    let patience = Patience::asked(arguments)?;
+    let target = Target::existing(file)?;
+    // Before the lock is taken: standard input may come slowly.
+    let image = image::read(arguments.path(2)?)?;
+    refuse_length(arguments, &image)?;
+    let (rotate, unless_same) = (arguments.has("--rotate"), arguments.has("--unless-same"));
+    let asked = Asked { file, till, image: &image, rotate, unless_same };
+    if arguments.has("--dry-run") {
+        let (outcome, cells) = tried(file, |store| asked.keep(store))?;
+        return Ok(asked.reply(&outcome, Some(&cells)));
+    }
+    let mut change = Change::begin(&target, &patience)?;
+    let outcome = asked.keep(&mut change.store)?;
+    if outcome.kept {
+        change.finish()?;
+    }
+    Ok(asked.reply(&outcome, None))
+}
+
+impl Asked<'_> {
+    fn keep(&self, store: &mut Store) -> Result<Outcome, Failure> {
+        if let Some(version) = self.same_version(store) {
+            return Ok(Outcome { version, kept: false, retired: None });
+        }
+        match store.backup(self.till, self.image) {
+            Ok(version) => Ok(Outcome { version, kept: true, retired: None }),
+            Err(Refusal::TillFull) if self.rotate => self.rotate(store),
+            Err(refusal) => Err(self.refused(store, refusal)),
+        }
+    }
+
+    fn rotate(&self, store: &mut Store) -> Result<Outcome, Failure> {
+        let oldest = store.listing(self.till).map_err(|refusal| self.refused(store, refusal))?.oldest;
+        let length = store.retire(self.till, oldest).map_err(|refusal| self.refused(store, refusal))?;
+        let version = store.backup(self.till, self.image).map_err(|refusal| self.refused(store, refusal))?;
+        Ok(Outcome { version, kept: true, retired: Some((oldest, length)) })
+    }
+
+    /// The till's newest version, if it has the same bytes and that matters.
+    fn same_version(&self, store: &Store) -> Option<u32> {
+        let newest = store.listing(self.till).ok().filter(|_| self.unless_same)?.newest;
+        store.image(self.till, newest).is_ok_and(|image| image == self.image).then_some(newest)
+    }
+
+    fn refused(&self, store: &Store, refusal: Refusal) -> Failure {
+        Call { file: self.file, store, till: self.till, version: 0, image: self.image }.refused(refusal)
+    }
+
+    /// In words and for programs; with cells if it was only tried.
+    fn reply(&self, outcome: &Outcome, cells: Option<&Cells>) -> Reply {
+        let (till, version) = (self.till, outcome.version);
+        let would = if cells.is_some() { "would be " } else { "" };
+        let room = cells.map_or(String::new(), |cells| format!("; {cells}"));
+        let mut text = String::new();
+        if let Some((version, length)) = outcome.retired {
+            text.push_str(&format!("till {till}: version {version} {would}retired, {}\n", bytes(length as usize)));
+        }
+        text.push_str(&match outcome.kept {
+            true => format!("till {till}: version {version} {would}kept, {}{room}\n", bytes(self.image.len())),
+            false => format!("till {till}: the same as version {version}, nothing {would}kept{room}\n"),
+        });
+        let retired = outcome.retired.map(|(version, length)| image::fields(version, length as usize));
+        let fields = Json::object([
+            ("file", self.file.into()),
+            ("till", till.into()),
+            ("version", version.into()),
+            ("bytes", self.image.len().into()),
+            ("kept", outcome.kept.into()),
+            ("retired", retired.unwrap_or(Json::Null)),
+            ("dry_run", cells.is_some().into()),
+            ("cells", cells.map_or(Json::Null, Cells::fields)),
+        ]);
+        Reply::done(text, fields)
+    }
+}
+
+/// An image of another length than asked for was cut on its way, or is another file.
+fn refuse_length(arguments: &Arguments, image: &[u8]) -> Result<(), Failure> {
+    let path = arguments.path(2)?;
+    match arguments.option_number("--bytes")? {
+        Some(asked) if asked as usize != image.len() => {
+            let (path, length) = (image::name(path), image::length(image));
+            let failure = Failure::file(format!("{path}: has {length}, --bytes asks for {asked}; it was not kept"));
+            Err(failure.advising("see that the image came over whole, and is this till's."))
+        }
+        _ => Ok(()),
+    }
 }

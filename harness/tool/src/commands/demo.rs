@@ -1,11 +1,14 @@
 //! `demo`: a bakery's week, played with the real commands in a temporary store.
 
-use super::Command;
+use super::tally;
 use crate::arguments::Arguments;
 use crate::bakery::{self, Till, LENGTH};
+use crate::json::Json;
 use crate::reply::Reply;
-use crate::{storefile, Failure};
-use lurdempos::{Store, BLOCK};
+use crate::syntax::Command;
+use crate::words::grouped;
+use crate::{leftovers, storefile, table, Failure};
+use lurdempos::BLOCK;
 use std::ffi::OsString;
 use std::fs;
 use std::os::unix::fs::DirBuilderExt;
@@ -13,15 +16,12 @@ use std::path::{Path, PathBuf};
 
 pub static COMMAND: Command = Command {
     name: "demo",
-    usage: "",
+    arguments: &[],
+    options: &[],
     about: "play a bakery's week in a temporary store",
     help: "
 The store is made in the folder for temporary files and removed at the end.
 ",
-    least: 0,
-    most: 0,
-    options: &[],
-    flags: &[],
     run,
 };
 
@@ -30,20 +30,22 @@ const DAYS: [&str; 6] = ["Monday", "Tuesday", "Wednesday", "Thursday", "Friday",
 
 fn run(_: &Arguments) -> Result<Reply, Failure> {
     let _folder = Folder::enter()?;
-    let mut play = Play { text: String::new(), tills: ["counter", "cafe", "van"].map(|name| (name, Till::new(name))) };
+    let tills = ["counter", "cafe", "van"].map(|name| (name, Till::new(name)));
+    let mut play = Play { text: String::new(), tills, days: Vec::new() };
     play.monday()?;
     play.week()?;
     play.look()?;
     play.old_version()?;
     play.retire()?;
     play.say("\nThe temporary store is removed again. `lurdempos --help` shows all commands.");
-    Ok(Reply::Text(play.text))
+    Ok(Reply::text(play.text, Json::object([("days", Json::List(play.days))])))
 }
 
-/// The words of the play so far, and the tills with the names of their images.
+/// The words of the play so far, the tills with the names of their images, and the evenings' numbers for programs.
 struct Play {
     text: String,
     tills: [(&'static str, Till); 3],
+    days: Vec<Json>,
 }
 
 impl Play {
@@ -57,7 +59,7 @@ impl Play {
         self.say(&format!("$ lurdempos {line}"));
         let reply = match command(line) {
             Ok(reply) => reply,
-            Err(failure @ Failure::Refused(..)) => format!("lurdempos: {}\n", failure.words()),
+            Err(failure) if failure.is_refusal() => format!("lurdempos: {}\n", failure.words()),
             Err(failure) => return Err(failure),
         };
         self.text.push_str(&reply);
@@ -90,14 +92,20 @@ impl Play {
             self.measured(day)?;
         }
         let file = grouped(read(STORE)?.len());
-        self.say(&format!("The file has {file} bytes from the first day on: room for all its cells, and the table."));
+        let room = "room for all its cells, the table and the checksums";
+        self.say(&format!("The file has {file} bytes from the first day on: {room}."));
         Ok(())
     }
 
     fn measured(&mut self, day: &str) -> Result<(), Failure> {
-        let (versions, cells) = (held(&store()?)?, cells(&store()?)?);
+        let store = storefile::read(Path::new(STORE))?;
+        let cells = tally::of(Path::new(STORE), &store)?.cells as usize;
+        let versions: usize = table::tills(&store).iter().map(Vec::len).sum();
         let (whole, kept) = (grouped(versions * LENGTH), grouped(BLOCK * cells));
         self.say(&format!("  {day:<9}   {versions:>8}   {whole:>12}   {cells:>5}   {kept:>12}"));
+        let fields = [("versions", versions), ("whole_bytes", versions * LENGTH), ("cell_bytes", BLOCK * cells)];
+        let fields = fields.map(|(name, number)| (name, number.into()));
+        self.days.push(Json::Object([("day", day.into())].into_iter().chain(fields).collect()));
         Ok(())
     }
 
@@ -112,7 +120,7 @@ impl Play {
         self.shell(&format!("restore {STORE} 0 1 restored.img"))?;
         let (restored, kept) = (read("restored.img")?, read("monday.img")?);
         if restored != kept {
-            return Err(Failure::File("restored.img: not the image that the till sent on Monday".into()));
+            return Err(Failure::file("restored.img: not the image that the till sent on Monday"));
         }
         self.say("Compared with what the till sent on Monday: the same, byte for byte. Its journal ends with");
         self.say(&format!("  {}", bakery::last_line(&restored)));
@@ -137,44 +145,15 @@ impl Play {
 /// Runs a command line and gives its reply.
 fn command(line: &str) -> Result<String, Failure> {
     let words: Vec<OsString> = line.split_whitespace().map(OsString::from).collect();
-    super::run(&words).map(|reply| match reply {
-        Reply::Done(text) | Reply::Text(text) => text,
-        Reply::Data(bytes) => String::from_utf8_lossy(&bytes).into_owned(),
-    })
-}
-
-fn store() -> Result<Store, Failure> {
-    storefile::read(Path::new(STORE))
-}
-
-fn held(store: &Store) -> Result<usize, Failure> {
-    Ok(crate::table::tills(store).iter().map(Vec::len).sum())
-}
-
-fn cells(store: &Store) -> Result<usize, Failure> {
-    let tally = store.tally().map_err(|refusal| crate::advice::unsound(refusal, Path::new(STORE)))?;
-    Ok(tally.cells as usize)
+    super::run(&words).map(|reply| reply.text)
 }
 
 fn keep(name: &str, bytes: &[u8]) -> Result<(), Failure> {
-    fs::write(name, bytes).map_err(|error| Failure::file(Path::new(name), "could not be written", &error))
+    fs::write(name, bytes).map_err(|error| Failure::io(Path::new(name), "could not be written", &error))
 }
 
 fn read(name: &str) -> Result<Vec<u8>, Failure> {
-    fs::read(name).map_err(|error| Failure::file(Path::new(name), "cannot be read", &error))
-}
-
-/// A number with commas between thousands.
-fn grouped(number: usize) -> String {
-    let digits = number.to_string();
-    let mut text = String::new();
-    for (n, digit) in digits.chars().enumerate() {
-        if n > 0 && (digits.len() - n).is_multiple_of(3) {
-            text.push(',');
-        }
-        text.push(digit);
-    }
-    text
+    fs::read(name).map_err(|error| Failure::io(Path::new(name), "cannot be read", &error))
 }
 
 /// A temporary folder that the play works in; it goes with the play, whatever happens.
@@ -186,9 +165,9 @@ struct Folder {
 impl Folder {
     fn enter() -> Result<Folder, Failure> {
         let own = std::env::temp_dir().join(format!("lurdempos-demo-{}", std::process::id()));
-        let failed = |error| Failure::file(&own, "could not be made for the play", &error);
+        let failed = |error| Failure::io(&own, "could not be made for the play", &error);
         let before = std::env::current_dir().unwrap_or_else(|_| PathBuf::from("/"));
-        fs::DirBuilder::new().mode(0o700).create(&own).map_err(failed)?;
+        leftovers::make_folder(&own, || fs::DirBuilder::new().mode(0o700).create(&own)).map_err(failed)?;
         let folder = Folder { own: own.clone(), before };
         std::env::set_current_dir(&folder.own).map_err(failed)?;
         Ok(folder)
@@ -198,6 +177,6 @@ impl Folder {
 impl Drop for Folder {
     fn drop(&mut self) {
         let _ = std::env::set_current_dir(&self.before);
-        let _ = fs::remove_dir_all(&self.own);
+        let _ = leftovers::settle(&self.own, || fs::remove_dir_all(&self.own));
     }
 }

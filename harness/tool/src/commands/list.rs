@@ -1,29 +1,25 @@
 //! `list`: the versions held.
 
-use super::Command;
 use crate::advice::Call;
 use crate::arguments::Arguments;
+use crate::json::Json;
 use crate::reply::Reply;
+use crate::syntax::{Argument, Command, Takes, FILE};
 use crate::table::{self, Version};
-use crate::{json, storefile, Failure};
+use crate::{storefile, Failure};
 use lurdempos::{Listing, Store};
 use std::path::Path;
 
 pub static COMMAND: Command = Command {
     name: "list",
-    usage: "FILE [TILL] [--json]",
+    arguments: &[FILE, Argument::optional("TILL", Takes::Anything)],
+    options: &[],
     about: "show the versions held",
     help: "
 Of all tills, or of one. For each version, the oldest first: its number and bytes; the longest chain,
 which is the most versions that a restore goes through for a block; and how many of its blocks lie in
 the pool for it (direct), are borrowed from the next newer version (indirect), or are all zero (null).
-
-  --json   the same for programs
 ",
-    least: 1,
-    most: 2,
-    options: &[],
-    flags: &["--json"],
     run,
 };
 
@@ -36,30 +32,27 @@ struct Till {
 
 fn run(arguments: &Arguments) -> Result<Reply, Failure> {
     let file = arguments.store()?;
-    let asked = arguments.word(1).map(|_| arguments.number(1, "TILL")).transpose()?;
+    let asked = arguments.word(1).map(|_| arguments.number(1)).transpose()?;
     let store = storefile::read(file)?;
     let tills = tills(file, &store, asked)?;
-    let text = if arguments.has("--json") { for_programs(file, &tills) } else { for_people(&tills) };
-    Ok(Reply::Text(text))
+    Ok(Reply::text(text(&tills), Json::object([("file", file.into()), ("tills", Json::list(&tills, fields))])))
 }
 
 fn tills(file: &Path, store: &Store, asked: Option<u32>) -> Result<Vec<Till>, Failure> {
     let mut tills = Vec::new();
+    let listing = |till| store.listing(till).map_err(|refusal| Call::of_till(file, store, till).refused(refusal));
     if let Some(till) = asked {
-        let call = Call { file, store, till, version: 0, image: 0 };
-        store.listing(till).map_err(|refusal| call.refused(refusal))?;
+        listing(till)?;
     }
     for (number, versions) in
         (0..).zip(table::tills(store)).filter(|(number, _)| asked.is_none_or(|one| one == *number))
     {
-        let call = Call { file, store, till: number, version: 0, image: 0 };
-        let listing = store.listing(number).map_err(|refusal| call.refused(refusal))?;
-        tills.push(Till { number, listing, versions });
+        tills.push(Till { number, listing: listing(number)?, versions });
     }
     Ok(tills)
 }
 
-fn for_people(tills: &[Till]) -> String {
+fn text(tills: &[Till]) -> String {
     let mut text = String::new();
     for Till { number, listing: Listing { oldest, newest, last }, versions } in tills {
         match (oldest, last) {
@@ -80,23 +73,19 @@ fn for_people(tills: &[Till]) -> String {
     text
 }
 
-fn for_programs(file: &Path, tills: &[Till]) -> String {
-    let tills: Vec<String> = tills.iter().map(till_for_programs).collect();
-    let file = json::string(&file.to_string_lossy());
-    format!("{{\"file\": {file}, \"tills\": [\n{}\n]}}\n", tills.join(",\n"))
+fn fields(till: &Till) -> Json {
+    let Listing { oldest, newest, last } = till.listing;
+    Json::object([
+        ("till", till.number.into()),
+        ("oldest", oldest.into()),
+        ("newest", newest.into()),
+        ("last", last.into()),
+        ("versions", Json::list(&till.versions, version_fields)),
+    ])
 }
 
-fn till_for_programs(till: &Till) -> String {
-    let Till { number, listing: Listing { oldest, newest, last }, versions } = till;
-    let versions: Vec<String> = versions.iter().map(version_for_programs).collect();
-    let versions = if versions.is_empty() { String::new() } else { format!("\n    {}", versions.join(",\n    ")) };
-    format!(
-        "  {{\"till\": {number}, \"oldest\": {oldest}, \"newest\": {newest}, \"last\": {last}, \"versions\": [{versions}]}}"
-    )
-}
-
-fn version_for_programs(version: &Version) -> String {
-    json::numbers(&[
+fn version_fields(version: &Version) -> Json {
+    Json::object([
         ("version", version.number.into()),
         ("bytes", version.bytes.into()),
         ("chain", version.chain().into()),

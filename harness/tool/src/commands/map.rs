@@ -1,45 +1,80 @@
-//! `map`: a picture of the pool.
+//! `map`: a picture of the store.
 
-use super::Command;
 use crate::arguments::Arguments;
+use crate::json::Json;
+use crate::names::shown;
+use crate::output::{self, Output};
+use crate::patience::Patience;
+use crate::picture::{self, is_free, is_whole, Drawing};
 use crate::reply::Reply;
-use crate::{output, picture, shared, storefile, table, Failure};
+use crate::shared::{self, count, Use};
+use crate::streams::Stream;
+use crate::syntax::{Command, Opt, FILE, FORCE, WAIT};
+use crate::{storefile, table, Failure};
 use std::path::Path;
 
 pub static COMMAND: Command = Command {
     name: "map",
-    usage: "FILE [--output F]",
-    about: "draw the pool as an SVG picture",
+    arguments: &[FILE],
+    options: &[Opt::with_file("--output", "F", "write the picture to the file F, not to standard output"), FORCE, WAIT],
+    about: "draw the cells and records as an SVG picture",
     help: "
-Each cell has a colour: free, shared by several tills, or of one till, pale if only one version needs it.
-Below stands the longest chain of each version.
-
-  --output F   write the picture to the file F, not to standard output
+Each cell, and each position of a record beside it, has a colour: free, shared by several tills, or of one till,
+hatched if only one version needs it. Below stands the longest chain of each version.
+With --json the numbers of the picture are printed in its place.
 ",
-    least: 1,
-    most: 1,
-    options: &["--output"],
-    flags: &[],
     run,
 };
 
 fn run(arguments: &Arguments) -> Result<Reply, Failure> {
     let file = arguments.store()?;
-    let to = arguments.value("--output").map(Path::new).filter(|to| *to != Path::new("-"));
+    let patience = Patience::asked(arguments)?;
+    let to = arguments.value("--output").map(Path::new);
     if to == Some(Path::new("")) {
         return Err(arguments.wrong("option --output needs a file"));
     }
+    let stream = to.map_or(Some(Stream::OUT), Stream::named);
     if let Some(to) = to {
         output::apart(file, to)?;
     }
     let store = storefile::read(file)?;
-    let tills = table::tills(&store);
+    let (tills, records) = (table::tills(&store), table::records(&store));
     let uses = shared::uses(store.capacities().cells as usize, &tills);
     let name = file.file_name().unwrap_or(file.as_os_str()).to_string_lossy();
-    let picture = picture::draw(&name, &uses, &tills);
-    let Some(to) = to else {
-        return Ok(Reply::Text(picture));
+    let drawing = Drawing { name: &name, uses: &uses, records: &records, tills: &tills };
+    let (picture, fields) = (picture::draw(&drawing), fields(file, to, &drawing));
+    match (stream, to) {
+        (Some(Stream::OUT), _) => Ok(Reply::document(picture, fields)),
+        (Some(stream), _) => Ok(Reply::data(stream, picture.into_bytes())),
+        (None, to) => {
+            let path = to.unwrap_or(Path::new(""));
+            Output { path, force: arguments.has("--force"), mode: None, patience }.put(picture.as_bytes())?;
+            Ok(Reply::done(format!("{}: drawn to {}\n", shown(file), shown(path)), fields))
+        }
+    }
+}
+
+/// The picture's numbers.
+fn fields(file: &Path, to: Option<&Path>, drawing: &Drawing) -> Json {
+    let Drawing { uses, records, tills, .. } = drawing;
+    let number = |kind: Use| Json::from(count(uses, kind));
+    let held = (0..tills.len()).filter(|&till| !tills[till].is_empty());
+    let till = |till: usize| {
+        Json::object([
+            ("till", till.into()),
+            ("one_version", number(Use::Single(till))),
+            ("several_versions", number(Use::Versions(till))),
+        ])
     };
-    output::put(to, picture.as_bytes())?;
-    Ok(Reply::Done(format!("{}: drawn to {}\n", file.display(), to.display())))
+    let in_use = records.iter().filter(|record| !is_free(record)).count();
+    let whole = records.iter().filter(|record| is_whole(record)).count();
+    Json::object([
+        ("file", file.into()),
+        ("output", to.map_or(Json::Null, Json::from)),
+        ("cells", uses.len().into()),
+        ("free", number(Use::Free)),
+        ("several_tills", number(Use::Tills)),
+        ("tills", Json::list(held, till)),
+        ("records", Json::object([("of", records.len().into()), ("in_use", in_use.into()), ("whole", whole.into())])),
+    ])
 }

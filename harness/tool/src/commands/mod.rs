@@ -1,60 +1,60 @@
 //! The commands, and the choice between them.
 
 mod backup;
+mod capacities;
 mod check;
 mod demo;
+mod diff;
+mod dry_run;
+mod export_all;
+mod grow;
 mod init;
 mod list;
 mod map;
 mod restore;
 mod retire;
+mod salvage;
 mod tally;
+mod verify;
 
 use crate::arguments::Arguments;
+use crate::json::Json;
+use crate::names::shown;
 use crate::reply::Reply;
-use crate::{help, Failure};
+use crate::syntax::Command;
+use crate::{completions, help, manual, Failure};
 use std::ffi::{OsStr, OsString};
 
-pub struct Command {
-    pub name: &'static str,
-    /// The arguments, as the help shows them.
-    pub usage: &'static str,
-    /// What it does, in one line.
-    pub about: &'static str,
-    /// What else is to be known.
-    pub help: &'static str,
-    /// The least and the most arguments besides options.
-    pub least: usize,
-    pub most: usize,
-    /// Options that need a value, and those that do not.
-    pub options: &'static [&'static str],
-    pub flags: &'static [&'static str],
-    pub run: fn(&Arguments) -> Result<Reply, Failure>,
-}
-
-pub static COMMANDS: [&Command; 9] = [
+pub static COMMANDS: [&Command; 14] = [
     &init::COMMAND,
     &backup::COMMAND,
     &restore::COMMAND,
+    &verify::COMMAND,
+    &diff::COMMAND,
     &retire::COMMAND,
     &list::COMMAND,
     &tally::COMMAND,
     &check::COMMAND,
     &map::COMMAND,
+    &export_all::COMMAND,
+    &grow::COMMAND,
+    &salvage::COMMAND,
     &demo::COMMAND,
 ];
 
 /// Runs a command line, without the tool's own name.
 pub fn run(arguments: &[OsString]) -> Result<Reply, Failure> {
     let Some((first, rest)) = arguments.split_first() else {
-        return Err(Failure::Usage(format!("a command is missing\n\n{}", help::overview().trim_end())));
+        return Err(Failure::usage(format!("a command is missing\n\n{}", help::overview().trim_end())));
     };
     match (first.to_str(), rest) {
-        (Some("--help" | "-h" | "help"), []) => Ok(Reply::Text(help::overview())),
-        (Some("help"), [name]) => named(name).map(|command| Reply::Text(help::of(command))),
-        (Some("--version" | "-V"), []) => Ok(Reply::Text(help::version())),
-        (Some("--help" | "-h" | "help" | "--version" | "-V"), [.., extra]) => {
-            Err(Failure::Usage(format!("one argument too many: {}", extra.to_string_lossy())))
+        (Some("--help" | "-h" | "help"), []) => Ok(text(help::overview())),
+        (Some("help"), [name]) => named(name).map(|command| text(help::of(command))),
+        (Some("--version" | "-V"), []) => Ok(text(help::version())),
+        (Some("--manual"), []) => Ok(text(manual::page())),
+        (Some("--completions"), []) => Ok(text(completions::for_bash())),
+        (Some("--help" | "-h" | "help" | "--version" | "-V" | "--manual" | "--completions"), [.., extra]) => {
+            Err(Failure::usage(format!("one argument too many: {}", shown(extra))))
         }
         _ => run_command(named(first)?, rest),
     }
@@ -63,15 +63,21 @@ pub fn run(arguments: &[OsString]) -> Result<Reply, Failure> {
 fn run_command(command: &'static Command, rest: &[OsString]) -> Result<Reply, Failure> {
     let mut options = rest.iter().take_while(|word| *word != "--");
     if options.any(|word| word == "--help" || word == "-h") {
-        return Ok(Reply::Text(help::of(command)));
+        return Ok(text(help::of(command)));
     }
     (command.run)(&Arguments::parse(command, rest)?)
+}
+
+/// A text that is asked for itself; programs get it in one field.
+fn text(text: String) -> Reply {
+    let fields = Json::object([("text", text.as_str().into())]);
+    Reply::document(text, fields)
 }
 
 fn named(name: &OsStr) -> Result<&'static Command, Failure> {
     COMMANDS.into_iter().find(|command| name == command.name).ok_or_else(|| {
         let known: Vec<&str> = COMMANDS.iter().map(|command| command.name).collect();
-        let name = name.to_string_lossy();
-        Failure::Usage(format!("there is no command `{name}`\nWhat to do: choose one of {}.", known.join(", ")))
+        let failure = Failure::usage(format!("there is no command `{}`", shown(name)));
+        failure.advising(format!("choose one of {}.", known.join(", ")))
     })
 }

@@ -1,49 +1,62 @@
 //! `restore`: the image of a version.
 
-use super::Command;
 use crate::advice::Call;
 use crate::arguments::Arguments;
+use crate::json::Json;
+use crate::names::shown;
+use crate::output::{self, Output};
+use crate::patience::Patience;
 use crate::reply::Reply;
-use crate::{output, storefile, Failure};
-use std::path::Path;
+use crate::storefile::{self, Opened};
+use crate::streams::Stream;
+use crate::syntax::{Argument, Command, Takes, FILE, FORCE, TILL, VERSION, WAIT};
+use crate::words::bytes;
+use crate::Failure;
+use std::os::unix::fs::MetadataExt;
 
 pub static COMMAND: Command = Command {
     name: "restore",
-    usage: "FILE TILL VERSION OUTPUT",
+    arguments: &[FILE, TILL, VERSION, Argument::needed("OUTPUT", Takes::File)],
+    options: &[FORCE, WAIT],
     about: "write a version's image to a file",
     help: "
-OUTPUT is a file, or - for standard output. A file that exists is replaced as a whole; nobody ever
-sees half of it. The reply tells the image's bytes and the longest chain: the most versions that had to
-be gone through for a block.
+VERSION is a number, or the word newest. OUTPUT is a file, or - for standard output. A file that exists is
+replaced as a whole; nobody ever sees half of it. The reply tells the image's bytes and the longest
+chain: the most versions that had to be gone through for a block.
 ",
-    least: 4,
-    most: 4,
-    options: &[],
-    flags: &[],
     run,
 };
 
 fn run(arguments: &Arguments) -> Result<Reply, Failure> {
-    let (file, till) = (arguments.store()?, arguments.number(1, "TILL")?);
-    let (version, path) = (arguments.number(2, "VERSION")?, arguments.path(3, "OUTPUT")?);
-    let stream = path == Path::new("-");
-    if !stream {
-        output::apart(file, path)?;
+    let (file, till) = (arguments.store()?, arguments.number(1)?);
+    let (version, path) = (arguments.version(2)?, arguments.path(3)?);
+    let (patience, stream) = (Patience::asked(arguments)?, Stream::named(path));
+    if stream.is_some() && arguments.has("--json") {
+        return Err(arguments.wrong("--json and an image cannot go to one output; name a file for the image"));
     }
-    let store = storefile::read(file)?;
+    output::apart(file, path)?;
+    let Opened { store, metadata, .. } = storefile::open(file)?;
+    let call = Call::of_till(file, &store, till);
+    let version = call.number(version)?;
     let mut image = vec![0; store.capacities().image_bytes()];
-    let restored = store.restore(till, version, &mut image).map_err(|refusal| {
-        let call = Call { file, store: &store, till, version, image: 0 };
-        call.refused(refusal)
-    })?;
+    let restored = store.restore(till, version, &mut image);
+    let restored = restored.map_err(|refusal| Call { version, ..call }.refused(refusal))?;
     image.truncate(restored.length as usize);
-    if stream {
-        return Ok(Reply::Data(image));
+    if let Some(stream) = stream {
+        return Ok(Reply::data(stream, image));
     }
-    output::put(path, &image)?;
-    let (bytes, chain) = (restored.length, restored.hops);
-    let path = path.display();
-    Ok(Reply::Done(format!(
-        "till {till}: version {version} restored to {path}, {bytes} bytes, longest chain {chain}\n"
-    )))
+    // An image is not for more eyes than the store.
+    let mode = Some(metadata.mode());
+    Output { path, force: arguments.has("--force"), mode, patience }.put(&image)?;
+    let (length, chain) = (bytes(image.len()), restored.hops);
+    let text = format!("till {till}: version {version} restored to {}, {length}, longest chain {chain}\n", shown(path));
+    let fields = Json::object([
+        ("file", file.into()),
+        ("till", till.into()),
+        ("version", version.into()),
+        ("output", path.into()),
+        ("bytes", restored.length.into()),
+        ("chain", chain.into()),
+    ]);
+    Ok(Reply::done(text, fields))
 }

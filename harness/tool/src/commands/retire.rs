@@ -1,40 +1,113 @@
-//! `retire`: a till's oldest version goes.
+//! `retire`: a till's oldest versions go.
 
-use super::Command;
+use super::dry_run::{tried, Cells};
 use crate::advice::Call;
 use crate::arguments::Arguments;
+use crate::json::Json;
+use crate::patience::Patience;
 use crate::reply::Reply;
 use crate::storefile::Change;
+use crate::syntax::{Argument, Command, Opt, Takes, DRY_RUN, FILE, TILL, WAIT};
 use crate::target::Target;
-use crate::Failure;
+use crate::words::bytes;
+use crate::{image, table, Failure};
+use lurdempos::Store;
+use std::path::Path;
 
 pub static COMMAND: Command = Command {
     name: "retire",
-    usage: "FILE TILL VERSION",
+    arguments: &[FILE, TILL, Argument::optional("VERSION", Takes::Anything)],
+    options: &[
+        Opt::with("--keep", "N", "in VERSION's place: retire the oldest versions until N are left, in one write"),
+        DRY_RUN,
+        WAIT,
+    ],
     about: "take the till's oldest version away",
     help: "
 VERSION has to be the oldest that the till holds. Its number is not given again.
 The reply tells the bytes of the image that is gone.
 ",
-    least: 3,
-    most: 3,
-    options: &[],
-    flags: &[],
     run,
 };
 
+/// Which versions are to go.
+#[derive(Clone, Copy)]
+enum Which {
+    Version(u32),
+    /// The oldest, until so many are left.
+    AllBut(u32),
+}
+
+/// Versions that went, the oldest first, each with its bytes.
+type Retired = Vec<(u32, u32)>;
+
 fn run(arguments: &Arguments) -> Result<Reply, Failure> {
-    let (file, till) = (arguments.store()?, arguments.number(1, "TILL")?);
-    let version = arguments.number(2, "VERSION")?;
+    let (file, till) = (arguments.store()?, arguments.number(1)?);
+    let which = which(arguments)?;
+    let patience = Patience::asked(arguments)?;
     let target = Target::existing(file)?;
-    let mut change = Change::begin(&target)?;
-    let bytes = match change.store.retire(till, version) {
-        Ok(bytes) => bytes,
-        Err(refusal) => {
-            let call = Call { file, store: &change.store, till, version, image: 0 };
-            return Err(call.refused(refusal));
+    if arguments.has("--dry-run") {
+        let (retired, cells) = tried(file, |store| retire(file, store, till, which))?;
+        return Ok(reply(file, till, &retired, Some(&cells)));
+    }
+    let mut change = Change::begin(&target, &patience)?;
+    let retired = retire(file, &mut change.store, till, which)?;
+    if !retired.is_empty() {
+        change.finish()?;
+    }
+    Ok(reply(file, till, &retired, None))
+}
+
+fn which(arguments: &Arguments) -> Result<Which, Failure> {
+    match (arguments.word(2), arguments.option_number("--keep")?) {
+        (Some(_), None) => arguments.number(2).map(Which::Version),
+        (None, Some(keep)) => Ok(Which::AllBut(keep)),
+        (Some(_), Some(_)) => Err(arguments.wrong("VERSION and --keep both say what goes; give one of them")),
+        (None, None) => Err(arguments.missing("VERSION")),
+    }
+}
+
+fn retire(file: &Path, store: &mut Store, till: u32, which: Which) -> Result<Retired, Failure> {
+    let mut retired = Vec::new();
+    while let Some(version) = next(file, store, till, which, retired.len())? {
+        let call = |store| Call { version, ..Call::of_till(file, store, till) };
+        let length = store.retire(till, version).map_err(|refusal| call(store).refused(refusal))?;
+        retired.push((version, length));
+    }
+    Ok(retired)
+}
+
+/// The version that goes next, if one does.
+fn next(file: &Path, store: &Store, till: u32, which: Which, gone: usize) -> Result<Option<u32>, Failure> {
+    match which {
+        Which::Version(version) => Ok(Some(version).filter(|_| gone == 0)),
+        Which::AllBut(keep) => {
+            let listing = store.listing(till).map_err(|refusal| Call::of_till(file, store, till).refused(refusal))?;
+            let held = table::held(store, till);
+            Ok(Some(listing.oldest).filter(|_| held > keep))
+        }
+    }
+}
+
+/// In words and for programs; with cells if it was only tried.
+fn reply(file: &Path, till: u32, retired: &Retired, cells: Option<&Cells>) -> Reply {
+    let would = if cells.is_some() { "would be " } else { "" };
+    let room = cells.map_or(String::new(), |cells| format!("; {cells}"));
+    let sum = bytes(retired.iter().map(|(_, length)| *length as usize).sum());
+    let text = match retired[..] {
+        [] => format!("till {till}: no version {would}retired{room}\n"),
+        [(version, _)] => format!("till {till}: version {version} {would}retired, {sum}{room}\n"),
+        [(first, _), .., (last, _)] => {
+            format!("till {till}: versions {first} to {last} {would}retired, {sum}{room}\n")
         }
     };
-    change.finish()?;
-    Ok(Reply::Done(format!("till {till}: version {version} retired, {bytes} bytes\n")))
+    let one = |&(version, length): &(u32, u32)| image::fields(version, length as usize);
+    let fields = Json::object([
+        ("file", file.into()),
+        ("till", till.into()),
+        ("retired", Json::list(retired, one)),
+        ("dry_run", cells.is_some().into()),
+        ("cells", cells.map_or(Json::Null, Cells::fields)),
+    ]);
+    Reply::done(text, fields)
 }

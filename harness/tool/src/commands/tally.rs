@@ -1,69 +1,67 @@
 //! `tally`: the space in use.
 
-use super::Command;
-use crate::advice;
+use super::capacities;
 use crate::arguments::Arguments;
+use crate::json::Json;
 use crate::reply::Reply;
-use crate::{json, storefile, table, Failure};
+use crate::syntax::{Command, FILE};
+use crate::words::bytes;
+use crate::{advice, storefile, table, Failure};
 use lurdempos::{Store, Tally, BLOCK};
 use std::path::Path;
 
 pub static COMMAND: Command = Command {
     name: "tally",
-    usage: "FILE [--json]",
+    arguments: &[FILE],
+    options: &[],
     about: "show the space in use",
     help: "
 Occupied cells and records in use, each of how many there are; the sum of all counts, which is how many
 blocks of all versions point straight to a cell; and the versions held, with what they take as whole
 images and in cells.
-
-  --json   the same for programs
 ",
-    least: 1,
-    most: 1,
-    options: &[],
-    flags: &["--json"],
     run,
 };
 
 fn run(arguments: &Arguments) -> Result<Reply, Failure> {
     let file = arguments.store()?;
     let store = storefile::read(file)?;
-    let tally = store.tally().map_err(|refusal| advice::unsound(refusal, file))?;
-    let text = if arguments.has("--json") { for_programs(file, &store, tally) } else { for_people(&store, tally) };
-    Ok(Reply::Text(text))
+    let tally = of(file, &store)?;
+    Ok(Reply::text(text(&store, tally), fields(file, &store, tally)))
+}
+
+/// The store's own tally.
+pub fn of(file: &Path, store: &Store) -> Result<Tally, Failure> {
+    store.tally().map_err(|refusal| advice::unsound(refusal, file))
 }
 
 /// How many versions are held, and their bytes as whole images.
-fn whole(store: &Store) -> (u64, u64) {
+fn whole(store: &Store) -> (usize, usize) {
     let versions = table::tills(store).into_iter().flatten();
-    versions.fold((0, 0), |(held, bytes), version| (held + 1, bytes + u64::from(version.bytes)))
+    versions.fold((0, 0), |(held, bytes), version| (held + 1, bytes + version.bytes as usize))
 }
 
-fn for_people(store: &Store, Tally { cells, records, counts }: Tally) -> String {
-    let (capacities, (held, bytes)) = (store.capacities(), whole(store));
-    let kept = BLOCK * cells as usize;
+fn text(store: &Store, Tally { cells, records, counts }: Tally) -> String {
+    let (capacities, (held, whole)) = (store.capacities(), whole(store));
+    let (whole, kept) = (bytes(whole), bytes(BLOCK * cells as usize));
     format!(
         "cells     {cells:>7} of {} occupied\n\
          records   {records:>7} of {} in use\n\
          counts    {counts:>7} in sum\n\
-         versions  {held:>7} held: {bytes} bytes as whole images, {kept} bytes in cells\n",
+         versions  {held:>7} held: {whole} as whole images, {kept} in cells\n",
         capacities.cells, capacities.records
     )
 }
 
-fn for_programs(file: &Path, store: &Store, Tally { cells, records, counts }: Tally) -> String {
-    let (capacities, (held, bytes)) = (store.capacities(), whole(store));
-    let limits = json::numbers(&[
-        ("tills", capacities.tills.into()),
-        ("versions", capacities.versions.into()),
-        ("blocks", capacities.blocks.into()),
-        ("records", capacities.records.into()),
-        ("cells", capacities.cells.into()),
-    ]);
-    format!(
-        "{{\"file\": {}, \"cells\": {cells}, \"records\": {records}, \"counts\": {counts}, \
-         \"versions\": {held}, \"bytes\": {bytes}, \"capacities\": {limits}}}\n",
-        json::string(&file.to_string_lossy())
-    )
+fn fields(file: &Path, store: &Store, Tally { cells, records, counts }: Tally) -> Json {
+    let (held, whole) = whole(store);
+    Json::object([
+        ("file", file.into()),
+        ("cells", cells.into()),
+        ("records", records.into()),
+        ("counts", counts.into()),
+        ("versions", held.into()),
+        ("bytes", whole.into()),
+        ("capacities", capacities::fields(store.capacities())),
+    ])
 }

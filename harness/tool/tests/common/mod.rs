@@ -3,11 +3,16 @@
 
 use std::fs;
 use std::io::Write;
+use std::os::unix::fs::MetadataExt;
 use std::os::unix::process::ExitStatusExt;
 use std::path::{Path, PathBuf};
 use std::process::{Child, Command, Output, Stdio};
 
-pub const TOOL: &str = env!("CARGO_BIN_EXE_lurdempos");
+/// The tool, or its test build in the tests of that.
+pub const TOOL: &str = match (option_env!("CARGO_BIN_EXE_lurdempos"), option_env!("CARGO_BIN_EXE_killable")) {
+    (Some(tool), _) | (None, Some(tool)) => tool,
+    (None, None) => panic!("cargo sets one of them"),
+};
 
 /// A folder that is empty at first and goes at the end.
 pub struct Bench(PathBuf);
@@ -38,6 +43,17 @@ impl Bench {
 
     pub fn write(&self, name: &str, bytes: impl AsRef<[u8]>) {
         fs::write(self.path(name), bytes).unwrap();
+    }
+
+    /// Its permissions.
+    pub fn mode(&self, name: &str) -> u32 {
+        fs::metadata(self.path(name)).unwrap().mode() & 0o7777
+    }
+
+    /// The names of drafts in the folder.
+    pub fn drafts(&self) -> Vec<String> {
+        let is_draft = |name: &String| name.ends_with("-new") || name.contains(".lurdempos-draft-");
+        self.names().into_iter().filter(is_draft).collect()
     }
 
     /// The names in the folder.
@@ -136,13 +152,43 @@ pub fn letters(text: &str) -> Vec<u8> {
 
 /// A store's file by docs/FORMAT.md, from its parts.
 pub fn file_of(pool: &[u8], table: &[u32]) -> Vec<u8> {
+    let mut bytes = body_of(2, pool, table);
+    let (head, rest) = bytes.split_at(32);
+    let (pool, table) = rest.split_at(pool.len());
+    let sums: Vec<u32> = [head].into_iter().chain(pool.chunks(512)).chain(table.chunks(512)).map(crc32c).collect();
+    sums.iter().for_each(|sum| bytes.extend(sum.to_le_bytes()));
+    bytes
+}
+
+/// The same in form 1, without checksums.
+pub fn form_1_of(pool: &[u8], table: &[u32]) -> Vec<u8> {
+    body_of(1, pool, table)
+}
+
+fn body_of(form: u32, pool: &[u8], table: &[u32]) -> Vec<u8> {
     let mut bytes = b"lurdempos\r\n\x1a".to_vec();
-    bytes.extend(1u32.to_le_bytes());
+    bytes.extend(form.to_le_bytes());
     bytes.extend((pool.len() as u64).to_le_bytes());
     bytes.extend((table.len() as u64).to_le_bytes());
     bytes.extend(pool);
     table.iter().for_each(|word| bytes.extend(word.to_le_bytes()));
     bytes
+}
+
+/// CRC-32C, bit by bit.
+pub fn crc32c(bytes: &[u8]) -> u32 {
+    let bit = |sum: u32, _| if sum & 1 == 1 { sum >> 1 ^ 0x82f6_3b78 } else { sum >> 1 };
+    !bytes.iter().fold(!0u32, |sum, &byte| (0..8).fold(sum ^ u32::from(byte), bit))
+}
+
+/// What the draft of a file is called.
+pub fn draft_of(name: &str) -> String {
+    format!("{name}.lurdempos-draft-{:08x}", crc32c(name.as_bytes()))
+}
+
+/// A file that an earlier tool has made.
+pub fn kept_file(name: &str) -> Vec<u8> {
+    fs::read(Path::new(env!("CARGO_MANIFEST_DIR")).join("tests/files").join(name)).unwrap()
 }
 
 /// Pseudo-random numbers from a seed, the same on every machine.

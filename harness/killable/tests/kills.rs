@@ -1,9 +1,9 @@
 //! The tool killed, or a step of it failing, at every write, sync and rename of a run: the old file is there or the new
 //! one, never a mix, and what is left behind hinders nobody.
 
+#[path = "../../tool/tests/common/mod.rs"]
 mod common;
-use common::{letters, Bench, Random};
-use std::time::Duration;
+use common::{draft_of, letters, Bench};
 
 /// A line that changes one file, and how the folder looks before.
 struct Scene {
@@ -13,10 +13,13 @@ struct Scene {
     prepare: fn(&Bench),
 }
 
-const SCENES: [Scene; 8] = [
-    Scene { name: "init", line: "init new --tills 2 --cells 64 --records 8", file: "new", prepare: |_| {} },
+const SCENES: [Scene; 11] = [
+    Scene { name: "init", line: "init new --tills 2 --blocks 16 --cells 64 --records 8", file: "new", prepare: |_| {} },
     Scene { name: "backup", line: "backup s 0 image", file: "s", prepare: |_| {} },
     Scene { name: "retire", line: "retire s 0 1", file: "s", prepare: |_| {} },
+    Scene { name: "rotate", line: "backup s 0 image --rotate", file: "s", prepare: filled },
+    Scene { name: "retire-keep", line: "retire s 0 --keep 1", file: "s", prepare: |_| {} },
+    Scene { name: "grow", line: "grow s larger", file: "larger", prepare: |_| {} },
     Scene { name: "restore", line: "restore s 0 1 out", file: "out", prepare: |_| {} },
     Scene {
         name: "restore-over",
@@ -29,10 +32,15 @@ const SCENES: [Scene; 8] = [
         name: "leftover",
         line: "backup s 0 image",
         file: "s",
-        prepare: |bench| bench.write("s.lurdempos-new", "half a st"),
+        prepare: |bench| bench.write(&draft_of("s"), "half a st"),
     },
     Scene { name: "refused", line: "backup s 7 image", file: "s", prepare: |_| {} },
 ];
+
+/// Till 0 holds as many versions as it can.
+fn filled(bench: &Bench) {
+    ["AB", "BA"].iter().for_each(|text| assert_eq!(bench.fed("backup s 0 -", &letters(text)).status, Some(0)));
+}
 
 impl Scene {
     fn bench(&self, what: &str, n: u32) -> Bench {
@@ -65,11 +73,11 @@ impl Scene {
         }
         let again = bench.run(self.line);
         assert!(again.status.is_some(), "{again:?}");
-        let made = self.name == "init" && again.err.contains("exists already");
+        let made = ["init", "grow"].contains(&self.name) && again.err.contains("exists already");
         let retired = self.name == "retire" && again.err.contains("refused, 15");
         assert!(again.status == Some(0) || self.name == "refused" || made || retired, "{again:?}");
         bench.fed("backup s 1 -", &letters("QQQ")).accepted();
-        assert!(!bench.names().iter().any(|name| name.ends_with("-new")), "{:?}", bench.names());
+        assert!(bench.drafts().is_empty(), "{:?}", bench.names());
     }
 }
 
@@ -112,7 +120,7 @@ fn failing_at_every_step() {
         for n in 1.. {
             let bench = scene.bench("fail", n);
             let run = bench.run_with(scene.line, "LURDEMPOS_FAIL_AT", n);
-            let left = bench.names().iter().any(|name| name.ends_with("-new"));
+            let left = !bench.drafts().is_empty();
             if run.err.is_empty() || scene.name == "refused" && run.status == Some(1) {
                 break;
             }
@@ -127,49 +135,54 @@ fn failing_at_every_step() {
     }
 }
 
-/// Killed from outside, at any time.
+/// A folder of images is there as a whole or not at all; what a killed run leaves is named, and not removed unasked.
 #[test]
-fn killed_at_any_time() {
-    let bench = Bench::new("kill-any");
-    bench.run("init s").accepted();
-    bench.fed("backup s 3 -", &vec![7; 33_268]).accepted();
-    let old = bench.read("s");
-    bench.write("image", vec![9; 33_268]);
-    bench.run("backup s 3 image").accepted();
-    let new = bench.read("s");
-    let mut random = Random(11);
-    let mut met = [0, 0];
-    for _ in 0..40 {
-        bench.write("s", &old);
-        let mut child = bench.spawn("backup s 3 image");
-        std::thread::sleep(Duration::from_micros(random.below(30_000) as u64));
-        let _ = child.kill();
-        child.wait().unwrap();
-        let found = bench.read("s");
-        assert!(found == old || found == new, "a mix");
-        met[usize::from(found == new)] += 1;
-        bench.run("check s").accepted();
+fn a_folder_is_whole() {
+    for n in 1.. {
+        let bench = SCENES[1].bench("folder", n);
+        let run = bench.run_with("export-all s out", "LURDEMPOS_KILL_AT", n);
+        let there = bench.names().contains(&"out".to_string());
+        if run.signal.is_none() {
+            run.accepted();
+            assert!(there && n > 4, "{n}");
+            break;
+        }
+        assert!(!there, "killed at step {n}");
+        let again = bench.run("export-all s out");
+        match bench.drafts().as_slice() {
+            [] => drop(again.accepted()),
+            [draft] => drop(again.fails(3, &["of another run is in the way", &format!("{draft}`")])),
+            drafts => panic!("{drafts:?}"),
+        }
+        let failed = SCENES[1].bench("folder-fails", n);
+        failed.run_with("export-all s out", "LURDEMPOS_FAIL_AT", n).fails(3, &["LURDEMPOS_FAIL_AT"]);
+        assert_eq!(failed.names(), ["image", "s"], "a run that fails leaves nothing");
     }
-    bench.run("backup s 3 image").accepted();
-    assert_eq!(bench.names(), ["image", "s"], "after {met:?} kills before and after");
 }
 
-/// A write that the system really refuses: a limit on the length of files stands for a full disk.
+/// A store that somebody replaces or removes in the middle of a change is not overwritten.
 #[test]
-fn no_room_for_the_draft() {
-    let bench = Bench::with_store("no-room");
-    bench.fed("backup s 0 -", &letters("ABC")).accepted();
-    bench.write("image", letters("D"));
-    let before = bench.read("s");
-    for line in ["backup s 0 image", "retire s 0 1", "map s --output out", "init n"] {
-        let run = bench.shell(&format!("trap '' XFSZ; ulimit -f 2; lurdempos {line}"));
-        run.fails(3, &["could not be written, and was not altered: File too large"]);
-        // Without the trap the system kills the tool in the middle of the write.
-        assert_ne!(bench.shell(&format!("ulimit -f 2; lurdempos {line}")).status, Some(0));
-        assert!(bench.read("s") == before);
+fn replaced_in_the_middle() {
+    let disturbances = [
+        ("cp other another; mv another s", "s: was replaced by another file while this run was at it"),
+        ("rm s", "s: was removed while this run was at it"),
+    ];
+    for (disturbance, words) in disturbances {
+        // The draft is made in step 1; from step 2 on the store is open.
+        for step in 2..=5 {
+            let bench = SCENES[1].bench("replaced", step);
+            bench.write("other", "somebody else's");
+            let mut command = bench.command("backup s 0 image");
+            command.env("LURDEMPOS_RUN_AT", step.to_string()).env("LURDEMPOS_RUN", disturbance);
+            common::Run::of(disturbance, command.output().unwrap()).fails(3, &[words, "What to do: see what is there"]);
+            let found = std::fs::read(bench.path("s")).ok();
+            assert!(found.is_none() || found == Some(b"somebody else's".into()), "step {step} of {disturbance}");
+            assert!(bench.drafts().is_empty());
+        }
     }
-    bench.run("backup s 0 image").accepted();
-    bench.run("map s --output out").accepted();
-    bench.run("init n").accepted();
-    assert_eq!(bench.names(), ["image", "n", "out", "s"]);
+    let bench = SCENES[1].bench("appeared", 0);
+    let mut command = bench.command("init new");
+    command.env("LURDEMPOS_RUN_AT", "4").env("LURDEMPOS_RUN", "echo mine > new");
+    common::Run::of("init", command.output().unwrap()).fails(3, &["new: exists already"]);
+    assert_eq!(bench.read("new"), b"mine\n");
 }

@@ -1,0 +1,55 @@
+//! `export-all`: every image in a folder.
+
+use crate::advice::Call;
+use crate::arguments::{Arguments, Named};
+use crate::folder::NewFolder;
+use crate::json::Json;
+use crate::names::shown;
+use crate::reply::Reply;
+use crate::storefile::{self, Opened};
+use crate::syntax::{Argument, Command, Takes, FILE};
+use crate::words::{bytes, counted};
+use crate::{image, table, Failure};
+use std::os::unix::fs::MetadataExt;
+
+pub static COMMAND: Command = Command {
+    name: "export-all",
+    arguments: &[FILE, Argument::needed("FOLDER", Takes::Folder)],
+    options: &[],
+    about: "write the images of all versions to a folder",
+    help: "
+FOLDER must not exist yet; it is there with all images or not at all. They are called till-T-version-V.img.
+",
+    run,
+};
+
+fn run(arguments: &Arguments) -> Result<Reply, Failure> {
+    let (file, path) = (arguments.store()?, arguments.place(1)?);
+    let Opened { store, metadata, .. } = storefile::open(file)?;
+    let folder = NewFolder::begin(path, metadata.mode())?;
+    let mut written = Vec::new();
+    for (till, versions) in (0..).zip(table::tills(&store)) {
+        for version in versions {
+            let call = Call::of_till(file, &store, till);
+            let (number, image) = call.image_of(Named::Number(version.number))?;
+            let name = image::file_name(till, number);
+            folder.put(&name, &image)?;
+            written.push((till, number, name, image.len()));
+        }
+    }
+    folder.finish()?;
+    let sum = written.iter().map(|(.., length)| length).sum();
+    let versions = counted(written.len() as u64, "version");
+    let text = format!("{}: {versions} written to {}, {}\n", shown(file), shown(path), bytes(sum));
+    let one = |(till, version, name, length): &(u32, u32, String, usize)| {
+        Json::object([
+            ("till", (*till).into()),
+            ("version", (*version).into()),
+            ("bytes", (*length).into()),
+            ("image", name.as_str().into()),
+        ])
+    };
+    let fields =
+        Json::object([("file", file.into()), ("folder", path.into()), ("versions", Json::list(&written, one))]);
+    Ok(Reply::done(text, fields))
+}

@@ -1,0 +1,131 @@
+//! `grow`: a store carried into a larger one.
+
+use super::capacities::{
+    self, any_asked, asked, described, empty_store, BLOCKS, BYTES, CELLS, RECORDS, TILLS, VERSIONS,
+};
+use crate::advice::{self, Call};
+use crate::arguments::{Arguments, Named};
+use crate::json::Json;
+use crate::names::shown;
+use crate::patience::Patience;
+use crate::reply::Reply;
+use crate::syntax::{Argument, Command, Takes, WAIT};
+use crate::table::{self, Layout};
+use crate::words::counted;
+use crate::{storefile, Failure};
+use lurdempos::{Capacities, Store};
+use std::path::Path;
+
+pub static COMMAND: Command = Command {
+    name: "grow",
+    arguments: &[Argument::needed("OLD", Takes::File), Argument::needed("NEW", Takes::File)],
+    options: &[TILLS, VERSIONS, BYTES, BLOCKS, RECORDS, CELLS, WAIT],
+    about: "carry a store into a new, larger one",
+    help: "
+Every version of OLD is backed up into NEW under its own number, the oldest first, and compared at the end.
+OLD is not altered; NEW must not exist yet. A capacity that no option gives is OLD's; without any option the
+records and the cells are doubled, as far as a store can have them.
+",
+    run,
+};
+
+fn run(arguments: &Arguments) -> Result<Reply, Failure> {
+    let (old_path, new_path) = (arguments.store()?, arguments.place(1)?);
+    let patience = Patience::asked(arguments)?;
+    let old = storefile::read(old_path)?;
+    storefile::refuse_existing(new_path)?;
+    let capacities = larger(arguments, old.capacities())?;
+    let mut new = empty_store(arguments, capacities)?;
+    let order = order(&old);
+    for &(till, version) in &order {
+        new = numbered(new_path, new, till, version)?;
+        let (_, image) = Call::of_till(old_path, &old, till).image_of(Named::Number(version))?;
+        if let Err(refusal) = new.backup(till, &image) {
+            return Err(Call { file: old_path, store: &new, till, version, image: &image }.refused(refusal));
+        }
+    }
+    new = last_numbers(new_path, &old, new)?;
+    compared(&old, &new, &order)?;
+    storefile::create(new_path, new, &patience)?;
+    let versions = counted(order.len() as u64, "version");
+    let text = format!("{}: {versions} of {}, {}\n", shown(new_path), shown(old_path), described(capacities));
+    let fields = Json::object([
+        ("old", old_path.into()),
+        ("new", new_path.into()),
+        ("versions", order.len().into()),
+        ("capacities", capacities::fields(capacities)),
+    ]);
+    Ok(Reply::done(text, fields))
+}
+
+/// The capacities of the new store. None may be smaller than the old one's.
+fn larger(arguments: &Arguments, old: Capacities) -> Result<Capacities, Failure> {
+    let new = if any_asked(arguments) { asked(arguments, old)? } else { doubled(old) };
+    let names = ["tills", "versions", "blocks of an image", "records", "cells"];
+    let pairs = old.to_array().into_iter().zip(new.to_array());
+    match names.into_iter().zip(pairs).find(|(_, (old, new))| new < old) {
+        Some((name, (old, new))) => Err(arguments.wrong(&format!("NEW would have {new} {name}, OLD has {old}"))),
+        None => Ok(new),
+    }
+}
+
+/// Twice the records and cells, as far as a store can have them.
+fn doubled(old: Capacities) -> Capacities {
+    let most = Capacities::LARGEST;
+    Capacities { records: most.records.min(2 * old.records), cells: most.cells.min(2 * old.cells), ..old }
+}
+
+/// Tills and versions in the order in which they are backed up: those with as many newer ones of their till together,
+/// the oldest first, so that tills share what they share now.
+fn order(old: &Store) -> Vec<(u32, u32)> {
+    let tills = table::tills(old);
+    let most = tills.iter().map(Vec::len).max().unwrap_or(0);
+    let mut order = Vec::new();
+    for newer in (0..most).rev() {
+        for (till, versions) in (0..).zip(&tills) {
+            if let Some(at) = versions.len().checked_sub(newer + 1) {
+                order.push((till, versions[at].number));
+            }
+        }
+    }
+    order
+}
+
+/// The store with the till's last number set so that its next version gets this one.
+fn numbered(path: &Path, store: Store, till: u32, version: u32) -> Result<Store, Failure> {
+    let last = store.listing(till).map(|listing| listing.last).unwrap_or_default();
+    if last + 1 == version {
+        return Ok(store);
+    }
+    with_last(path, store, till, version - 1)
+}
+
+/// The last numbers of tills whose newest versions are gone.
+fn last_numbers(path: &Path, old: &Store, mut new: Store) -> Result<Store, Failure> {
+    for till in 0..old.capacities().tills {
+        let [before, now] = [old, &new].map(|store| store.listing(till).map_or(0, |listing| listing.last));
+        if before != now {
+            new = with_last(path, new, till, before)?;
+        }
+    }
+    Ok(new)
+}
+
+/// The store with another last number of a till. The store itself judges whether that is sound.
+fn with_last(path: &Path, store: Store, till: u32, last: u32) -> Result<Store, Failure> {
+    let at = Layout { capacities: store.capacities() }.till(till as usize);
+    let (pool, mut table) = store.into_parts();
+    table[at] = last;
+    Store::from_parts(pool, table).map_err(|refusal| advice::unsound(refusal, path))
+}
+
+/// Both have the same numbers, and under each the same bytes.
+fn compared(old: &Store, new: &Store, order: &[(u32, u32)]) -> Result<(), Failure> {
+    let tills = 0..old.capacities().tills;
+    let same = tills.into_iter().all(|till| old.listing(till) == new.listing(till))
+        && order.iter().all(|&(till, version)| old.image(till, version) == new.image(till, version));
+    if same {
+        return Ok(());
+    }
+    Err(Failure::file("the new store would not have the same versions, and was not written").advising("report it."))
+}

@@ -1,0 +1,50 @@
+//! `verify`: does a version have the bytes of this image?
+
+use crate::advice::Call;
+use crate::arguments::Arguments;
+use crate::json::Json;
+use crate::reply::Reply;
+use crate::syntax::{Argument, Command, Takes, FILE, TILL, VERSION};
+use crate::words::bytes;
+use crate::{image, storefile, Failure};
+
+pub static COMMAND: Command = Command {
+    name: "verify",
+    arguments: &[FILE, TILL, VERSION, Argument::needed("IMAGE", Takes::File)],
+    options: &[],
+    about: "compare a version with an image",
+    help: "
+VERSION is a number, or the word newest. IMAGE is a file, or - for standard input. Exit status 0 means that
+both have the same bytes, 5 that they have not; the reply tells the first byte that differs.
+",
+    run,
+};
+
+fn run(arguments: &Arguments) -> Result<Reply, Failure> {
+    let (file, till) = (arguments.store()?, arguments.number(1)?);
+    let (version, path) = (arguments.version(2)?, arguments.path(3)?);
+    let given = image::read(path)?;
+    let store = storefile::read(file)?;
+    let (version, kept) = Call::of_till(file, &store, till).image_of(version)?;
+    let first = kept.iter().zip(&given).position(|(one, other)| one != other);
+    let first = first.or((kept.len() != given.len()).then_some(kept.len().min(given.len())));
+    let path = image::name(path);
+    let text = match first {
+        None => format!("till {till}: version {version} and {path} are the same, {}\n", bytes(kept.len())),
+        Some(at) => format!(
+            "till {till}: version {version} with {} and {path} with {} differ, first at byte {at}\n",
+            bytes(kept.len()),
+            image::length(&given)
+        ),
+    };
+    let fields = Json::object([
+        ("file", file.into()),
+        ("till", till.into()),
+        ("version", version.into()),
+        ("bytes", kept.len().into()),
+        ("image_bytes", given.len().into()),
+        ("same", first.is_none().into()),
+        ("first_difference", first.map_or(Json::Null, Json::from)),
+    ]);
+    Ok(Reply::text(text, fields).with_difference(first.is_some()))
+}

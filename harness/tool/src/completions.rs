@@ -1,0 +1,76 @@
+//! Completions for bash, made from the same table as the help texts.
+
+use crate::commands::COMMANDS;
+use crate::syntax::{Command, Opt, Takes};
+
+/// What a version can be besides a number.
+const VERSIONS: &str = "newest";
+
+pub fn for_bash() -> String {
+    let names = COMMANDS.map(|command| command.name).join(" ");
+    let cases: String = COMMANDS.iter().map(|command| case(command)).collect();
+    format!(
+        "# Completions for bash: source <(lurdempos --completions)\n\
+         _lurdempos() {{\n    \
+             local word=${{COMP_WORDS[COMP_CWORD]}} before=${{COMP_WORDS[COMP_CWORD-1]}} place=0 n\n    \
+             local options='' values='' files='' kinds=()\n    \
+             if ((COMP_CWORD == 1)); then\n        \
+                 COMPREPLY=($(compgen -W '{names} help --help --version --manual --completions' -- \"$word\"))\n        \
+                 return\n    \
+             fi\n    \
+             case ${{COMP_WORDS[1]}} in\n{cases}    \
+             help) COMPREPLY=($(compgen -W '{names}' -- \"$word\")); return ;;\n    \
+             *) return ;;\n    \
+             esac\n{TAIL}"
+    )
+}
+
+/// The options of a command, those that need a value, and what each argument is.
+fn case(command: &Command) -> String {
+    let all: Vec<&str> = command.all_options().map(|option| option.name).collect();
+    let valued = |takes: Option<Takes>| {
+        let wanted = |option: &&'static Opt| option.has_value() && takes.is_none_or(|takes| option.takes == takes);
+        command.all_options().filter(wanted).map(|option| option.name).collect::<Vec<&str>>()
+    };
+    let kinds: Vec<&str> = command.arguments.iter().map(|argument| kind(argument.takes)).collect();
+    format!(
+        "    {}) options='{}' values=' {} ' files=' {} ' kinds=({}) ;;\n",
+        command.name,
+        all.join(" "),
+        valued(None).join(" "),
+        valued(Some(Takes::File)).join(" "),
+        kinds.join(" ")
+    )
+}
+
+fn kind(takes: Takes) -> &'static str {
+    match takes {
+        Takes::File => "file",
+        Takes::Folder => "folder",
+        Takes::Version => VERSIONS,
+        Takes::Anything => "any",
+    }
+}
+
+/// Which word it is, and what can stand there.
+const TAIL: &str = r#"    if [[ $files == *" $before "* ]]; then
+        compopt -o filenames 2> /dev/null
+        COMPREPLY=($(compgen -f -- "$word"))
+        return
+    fi
+    [[ $values == *" $before "* ]] && return
+    if [[ $word == -* ]]; then
+        COMPREPLY=($(compgen -W "$options" -- "$word"))
+        return
+    fi
+    for ((n = 2; n < COMP_CWORD; n++)); do
+        [[ ${COMP_WORDS[n]} == -?* || $values == *" ${COMP_WORDS[n-1]} "* ]] || ((place++))
+    done
+    case ${kinds[place]} in
+    file) compopt -o filenames 2> /dev/null; COMPREPLY=($(compgen -f -- "$word")) ;;
+    folder) compopt -o filenames 2> /dev/null; COMPREPLY=($(compgen -d -- "$word")) ;;
+    newest) COMPREPLY=($(compgen -W newest -- "$word")) ;;
+    esac
+}
+complete -F _lurdempos lurdempos
+"#;

@@ -1,0 +1,58 @@
+//! Images on their way into the store and out of it.
+
+use crate::json::Json;
+use crate::names::shown;
+use crate::target::cannot_read;
+use crate::words::bytes;
+use crate::Failure;
+use lurdempos::Capacities;
+use std::fs::File;
+use std::io::{self, Read};
+use std::path::Path;
+
+/// The image in a file, or on standard input for `-`; or its beginning if it is longer than any store takes.
+pub fn read(path: &Path) -> Result<Vec<u8>, Failure> {
+    let most = Capacities::LARGEST.image_bytes() as u64 + 1;
+    let mut image = Vec::new();
+    let read = if is_input(path) {
+        io::stdin().lock().take(most).read_to_end(&mut image)
+    } else {
+        File::open(path).and_then(|file| file.take(most).read_to_end(&mut image))
+    };
+    match read {
+        Ok(_) => Ok(image),
+        Err(error) if is_input(path) => Err(Failure::file(format!("{}: cannot be read: {error}", name(path)))),
+        Err(error) => Err(cannot_read(path, &error)),
+    }
+}
+
+fn is_input(path: &Path) -> bool {
+    path == Path::new("-")
+}
+
+/// What it is called in messages.
+pub fn name(path: &Path) -> String {
+    if is_input(path) {
+        return "standard input".into();
+    }
+    shown(path)
+}
+
+/// Its length in words. Of one that is longer than any store takes only the beginning was read.
+pub fn length(image: &[u8]) -> String {
+    let most = Capacities::LARGEST.image_bytes();
+    if image.len() > most {
+        return format!("more than {most} bytes");
+    }
+    bytes(image.len())
+}
+
+/// A version with its bytes, for programs.
+pub fn fields(version: u32, bytes: usize) -> Json {
+    Json::object([("version", version.into()), ("bytes", bytes.into())])
+}
+
+/// What a version's image is called in a folder.
+pub fn file_name(till: u32, version: u32) -> String {
+    format!("till-{till}-version-{version}.img")
+}

@@ -1,0 +1,63 @@
+//! Names of files as they stand in messages and in commands to copy.
+
+use std::ffi::OsStr;
+use std::os::unix::ffi::OsStrExt;
+
+/// A name for a message. Control characters, which could play with a terminal, and bytes that are no text stand as
+/// escapes.
+pub fn shown(name: impl AsRef<OsStr>) -> String {
+    let mut text = String::new();
+    for part in name.as_ref().as_bytes().utf8_chunks() {
+        for c in part.valid().chars() {
+            match c.is_control() {
+                true => text.push_str(&escaped(c.encode_utf8(&mut [0; 4]).as_bytes())),
+                false => text.push(c),
+            }
+        }
+        text.push_str(&escaped(part.invalid()));
+    }
+    text
+}
+
+/// A name as a shell takes it, also where the tool would take it for an option.
+pub fn quoted(name: impl AsRef<OsStr>) -> String {
+    let name = name.as_ref();
+    let text = shown(name);
+    let text = if text.starts_with('-') { format!("./{text}") } else { text };
+    let plain = |c: char| c.is_ascii_alphanumeric() || "-_./+:,@%=".contains(c);
+    if name.to_str().is_none_or(|name| name.contains(char::is_control)) {
+        return format!("$'{}'", text.replace('\'', r"\'"));
+    }
+    if !text.is_empty() && text.chars().all(plain) {
+        return text;
+    }
+    format!("'{}'", text.replace('\'', r"'\''"))
+}
+
+fn escaped(bytes: &[u8]) -> String {
+    bytes.iter().map(|byte| format!("\\x{byte:02x}")).collect()
+}
+
+#[cfg(test)]
+mod tests {
+    use super::{quoted, shown};
+    use std::ffi::OsStr;
+    use std::os::unix::ffi::OsStrExt;
+
+    #[test]
+    fn names_in_messages() {
+        assert_eq!(shown("plain name"), "plain name");
+        assert_eq!(shown("a\x1b[2J\nb"), "a\\x1b[2J\\x0ab");
+        assert_eq!(shown(OsStr::from_bytes(b"\xff\xc3\xa4")), "\\xffä");
+    }
+
+    #[test]
+    fn names_in_commands() {
+        assert_eq!(quoted("shop.lur"), "shop.lur");
+        assert_eq!(quoted("-x"), "./-x");
+        assert_eq!(quoted("it's"), r"'it'\''s'");
+        assert_eq!(quoted("-a b"), "'./-a b'");
+        assert_eq!(quoted("a\nb"), r"$'a\x0ab'");
+        assert_eq!(quoted(""), "''");
+    }
+}

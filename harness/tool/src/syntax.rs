@@ -1,0 +1,134 @@
+//! What a command line can have. Help texts, the manual page and the completions are all made from this.
+
+use crate::arguments::Arguments;
+use crate::reply::Reply;
+use crate::Failure;
+
+/// A command of the tool.
+pub struct Command {
+    pub name: &'static str,
+    pub arguments: &'static [Argument],
+    /// Its own options; those of every command come on top.
+    pub options: &'static [Opt],
+    /// What it does, in one line.
+    pub about: &'static str,
+    /// What else is to be known.
+    pub help: &'static str,
+    pub run: fn(&Arguments) -> Result<Reply, Failure>,
+}
+
+/// An argument by its place.
+pub struct Argument {
+    pub name: &'static str,
+    pub needed: bool,
+    pub takes: Takes,
+}
+
+/// An option by its name.
+pub struct Opt {
+    pub name: &'static str,
+    /// What its value is called; empty for an option that has none.
+    pub value: &'static str,
+    pub takes: Takes,
+    pub about: &'static str,
+}
+
+/// What a word on the command line can be, for completions.
+#[derive(Clone, Copy, PartialEq, Eq)]
+pub enum Takes {
+    File,
+    Folder,
+    Version,
+    Anything,
+}
+
+/// The options of every command.
+pub const COMMON: [Opt; 3] = [
+    Opt::flag("--json", "answer for programs"),
+    Opt::flag("--quiet", "say nothing if all goes well; what is written to - is still written"),
+    Opt::flag("--help", "show this text"),
+];
+
+/// The option of every command that may have to wait.
+pub const WAIT: Opt = Opt::with("--wait", "SECONDS", "wait so long for another run at the file (default 10)");
+
+/// The option of every command that can replace a file.
+pub const FORCE: Opt = Opt::flag("--force", "replace the output even if it is a store or write-protected");
+
+/// The options of commands that can be tried out.
+pub const DRY_RUN: Opt = Opt::flag("--dry-run", "change nothing; tell what would come of it, with the cells in use");
+
+pub const FILE: Argument = Argument::needed("FILE", Takes::File);
+pub const TILL: Argument = Argument::needed("TILL", Takes::Anything);
+pub const VERSION: Argument = Argument::needed("VERSION", Takes::Version);
+
+impl Argument {
+    pub const fn needed(name: &'static str, takes: Takes) -> Argument {
+        Argument { name, needed: true, takes }
+    }
+
+    pub const fn optional(name: &'static str, takes: Takes) -> Argument {
+        Argument { name, needed: false, takes }
+    }
+
+    /// As a usage line shows it.
+    fn shown(&self) -> String {
+        if self.needed {
+            self.name.into()
+        } else {
+            format!("[{}]", self.name)
+        }
+    }
+}
+
+impl Opt {
+    pub const fn flag(name: &'static str, about: &'static str) -> Opt {
+        Opt { name, value: "", takes: Takes::Anything, about }
+    }
+
+    pub const fn with(name: &'static str, value: &'static str, about: &'static str) -> Opt {
+        Opt { name, value, takes: Takes::Anything, about }
+    }
+
+    pub const fn with_file(name: &'static str, value: &'static str, about: &'static str) -> Opt {
+        Opt { name, value, takes: Takes::File, about }
+    }
+
+    pub fn has_value(&self) -> bool {
+        !self.value.is_empty()
+    }
+
+    /// With its value, as help shows it.
+    pub fn shown(&self) -> String {
+        format!("{} {}", self.name, self.value).trim_end().into()
+    }
+}
+
+impl Command {
+    /// All options, its own first.
+    pub fn all_options(&self) -> impl Iterator<Item = &'static Opt> {
+        self.options.iter().chain(&COMMON)
+    }
+
+    /// Its name and arguments.
+    pub fn call(&self) -> String {
+        let words = self.arguments.iter().map(Argument::shown);
+        std::iter::once(self.name.to_string()).chain(words).collect::<Vec<String>>().join(" ")
+    }
+
+    /// The line that shows its use.
+    pub fn usage(&self) -> String {
+        format!("lurdempos {} [OPTIONS]", self.call())
+    }
+}
+
+#[cfg(test)]
+mod tests {
+    use super::WAIT;
+    use crate::patience;
+
+    #[test]
+    fn the_default_is_told() {
+        assert!(WAIT.about.ends_with(&format!("(default {})", patience::DEFAULT)));
+    }
+}
