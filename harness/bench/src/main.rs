@@ -2,7 +2,9 @@
 //! table, in one run on the same buffers, and the best of several is shown.
 //!
 //! `bench [ROUNDS] [--write]`: with `--write` the run is put into docs/PERFORMANCE.md too.
+//! `bench --backups [--write]`: the same for the tool's backups.
 
+mod backups;
 mod cases;
 mod picture;
 mod space;
@@ -11,19 +13,28 @@ mod timing;
 use std::path::{Path, PathBuf};
 use std::{env, fs, io};
 
-/// What stands around the run in docs/PERFORMANCE.md.
-const FROM: &str = "<!-- the latest run -->\n";
+/// What stands before a run in docs/PERFORMANCE.md, and after it.
+const STORE_FROM: &str = "<!-- the latest run -->\n";
+const BACKUPS_FROM: &str = "<!-- the latest run of backups -->\n";
 const TO: &str = "<!-- its end -->\n";
 
 fn main() -> io::Result<()> {
+    if backups::as_the_tool()? {
+        return Ok(());
+    }
     let words: Vec<String> = env::args().skip(1).collect();
-    let rounds = words.iter().find_map(|word| word.parse().ok()).unwrap_or(25);
-    let days = space::days();
-    let report = format!("{}\n## Space\n\n{}", time_report(rounds), space::table(&days));
+    let has = |option: &str| words.iter().any(|word| word == option);
+    let (report, from) = if has("--backups") {
+        (backups::report()?, BACKUPS_FROM)
+    } else {
+        let rounds = words.iter().find_map(|word| word.parse().ok()).unwrap_or(25);
+        let days = space::days();
+        fs::write(docs("space.svg"), picture::svg(&days))?;
+        (format!("{}\n## Space\n\n{}", time_report(rounds), space::table(&days)), STORE_FROM)
+    };
     print!("{report}");
-    fs::write(docs("space.svg"), picture::svg(&days))?;
-    if words.iter().any(|word| word == "--write") {
-        write(&report)
+    if has("--write") {
+        write(&report, from)
     } else {
         Ok(())
     }
@@ -51,9 +62,9 @@ fn time_report(rounds: usize) -> String {
 }
 
 /// Puts the run in the place of the last one.
-fn write(report: &str) -> io::Result<()> {
+fn write(report: &str, from: &str) -> io::Result<()> {
     let page = fs::read_to_string(docs("PERFORMANCE.md"))?;
-    let parts = page.split_once(FROM).and_then(|(before, rest)| Some((before, rest.split_once(TO)?.1)));
+    let parts = page.split_once(from).and_then(|(before, rest)| Some((before, rest.split_once(TO)?.1)));
     let (before, after) = parts.ok_or_else(|| io::Error::other("docs/PERFORMANCE.md has no place for the run"))?;
-    fs::write(docs("PERFORMANCE.md"), format!("{before}{FROM}\n{report}\n{TO}{after}"))
+    fs::write(docs("PERFORMANCE.md"), format!("{before}{from}\n{report}\n{TO}{after}"))
 }
