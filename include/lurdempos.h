@@ -12,10 +12,10 @@
  * Every answer begins with a refusal. 0 is an accepted call. A refused call
  * answers 0 in every other field and alters no buffer.
  *
- *    1  a capacity outside its range
+ *    1  a capacity outside its range (lurdempos_table_length has the ranges)
  *    2  lay out: pool or table of another length than needed
  *    3  till number not below the tills
- *    4  image empty, or longer than 64 * blocks per image
+ *    4  image empty, or longer than block_bytes * blocks per image
  *    5  output shorter than the version
  *   10  pool and table are not a sound store
  *   11  the till holds its full number of versions
@@ -37,9 +37,6 @@
 #ifdef __cplusplus
 extern "C" {
 #endif
-
-/* A block is 64 bytes; the pool is exactly this times its cells. */
-#define LURDEMPOS_BLOCK_BYTES 64
 
 #define LURDEMPOS_ACCEPTED 0
 #define LURDEMPOS_CAPACITY_OUT_OF_RANGE 1
@@ -102,20 +99,34 @@ struct lurdempos_tally_answer {
     uint32_t counts;
 };
 
-/* Table length. tills 1 to 16, versions per till 1 to 64, blocks per image 1
- * to 1,024, segment records 1 to 4,096, cells 1 to 32,768.
+/* Table length, from the eight capacities that a store keeps for good:
+ *
+ *   tills            1 to 16
+ *   versions         per till, 1 to 64
+ *   blocks           per image, 1 to 65,536 / block_bytes
+ *   records          of segments, 1 to 4,096
+ *   cells            1 to 32,768
+ *   block_bytes      of a block and of a cell, 64, 128, 256 or 512
+ *   segment_blocks   blocks of a segment, 4, 8 or 16
+ *   rebuild_percent  0 to 100: a record that loses this part of the blocks it
+ *                    holds, or more, has the others copied together
+ *
+ * Stores from before the last three could be chosen have 64, 8 and 20; they go
+ * on as they are. A table has at most 1,195,080 words.
  * Refusals: 1. */
 struct lurdempos_table_length_answer lurdempos_table_length(
     uint32_t tills, uint32_t versions, uint32_t blocks, uint32_t records,
-    uint32_t cells);
+    uint32_t cells, uint32_t block_bytes, uint32_t segment_blocks,
+    uint32_t rebuild_percent);
 
-/* Makes an empty store in a pool of 64 * cells bytes and a table of the words
- * that lurdempos_table_length answers, whatever they had before.
+/* Makes an empty store in a pool of block_bytes * cells bytes and a table of
+ * the words that lurdempos_table_length answers, whatever they had before.
  * Refusals: 1, 2. */
 struct lurdempos_lay_out_answer lurdempos_lay_out(
     uint8_t *pool, size_t pool_bytes, uint32_t *table, size_t table_words,
     uint32_t tills, uint32_t versions, uint32_t blocks, uint32_t records,
-    uint32_t cells);
+    uint32_t cells, uint32_t block_bytes, uint32_t segment_blocks,
+    uint32_t rebuild_percent);
 
 /* Keeps the image as the till's newest version.
  * Refusals: 10, 3, 4, 11, 12, then, at the first segment that cannot be

@@ -13,9 +13,12 @@
 #define BLOCKS 16
 #define RECORDS 8
 #define CELLS 32
+#define BLOCK_BYTES 128
+#define SEGMENT_BLOCKS 4
+#define REBUILD_PERCENT 50
 #define TABLE_WORDS 512
 
-static uint8_t pool[CELLS * LURDEMPOS_BLOCK_BYTES];
+static uint8_t pool[CELLS * BLOCK_BYTES];
 static uint32_t table[TABLE_WORDS];
 
 static int expect(const char *call, uint32_t refusal, uint32_t expected)
@@ -24,28 +27,37 @@ static int expect(const char *call, uint32_t refusal, uint32_t expected)
     return refusal == expected;
 }
 
-static size_t words_needed(void)
+static struct lurdempos_table_length_answer length_with(uint32_t block_bytes)
 {
-    struct lurdempos_table_length_answer a =
-        lurdempos_table_length(TILLS, VERSIONS, BLOCKS, RECORDS, CELLS);
-    return a.refusal == LURDEMPOS_ACCEPTED && a.words <= TABLE_WORDS ? a.words : 0;
+    return lurdempos_table_length(TILLS, VERSIONS, BLOCKS, RECORDS, CELLS,
+                                  block_bytes, SEGMENT_BLOCKS,
+                                  REBUILD_PERCENT);
 }
 
 int main(void)
 {
     uint8_t image[500], output[512];
+    struct lurdempos_table_length_answer needed = length_with(BLOCK_BYTES);
+    struct lurdempos_table_length_answer no_store = length_with(96);
     struct lurdempos_lay_out_answer laid_out;
     struct lurdempos_backup_answer backup;
     struct lurdempos_restore_answer restored;
     struct lurdempos_listing_answer listing;
     struct lurdempos_tally_answer tally;
     struct lurdempos_retire_answer retired;
-    size_t words = words_needed();
+    size_t words = needed.words;
 
     memset(image, 'a', sizeof image);
     memset(output, 0xee, sizeof output);
+    if (!expect("table length", needed.refusal, LURDEMPOS_ACCEPTED)
+        || words > TABLE_WORDS)
+        return 1;
+    if (!expect("table length, blocks of 96 bytes", no_store.refusal,
+                LURDEMPOS_CAPACITY_OUT_OF_RANGE))
+        return 1;
     laid_out = lurdempos_lay_out(pool, sizeof pool, table, words, TILLS,
-                                 VERSIONS, BLOCKS, RECORDS, CELLS);
+                                 VERSIONS, BLOCKS, RECORDS, CELLS,
+                                 BLOCK_BYTES, SEGMENT_BLOCKS, REBUILD_PERCENT);
     if (!expect("lay out", laid_out.refusal, LURDEMPOS_ACCEPTED))
         return 1;
     backup = lurdempos_backup(pool, sizeof pool, table, words, 1, image,
@@ -62,11 +74,11 @@ int main(void)
     if (!expect("listing", listing.refusal, LURDEMPOS_ACCEPTED)
         || listing.oldest != 1 || listing.newest != 1 || listing.last != 1)
         return 1;
-    /* Seven equal blocks and one that is short: two cells would do, but only
+    /* Three equal blocks and one that is short: two cells would do, but only
      * whole segments are shared. */
     tally = lurdempos_tally(pool, sizeof pool, table, words);
-    if (!expect("tally", tally.refusal, LURDEMPOS_ACCEPTED) || tally.cells != 8
-        || tally.records != 1 || tally.counts != 8)
+    if (!expect("tally", tally.refusal, LURDEMPOS_ACCEPTED) || tally.cells != 4
+        || tally.records != 1 || tally.counts != 4)
         return 1;
     retired = lurdempos_retire(pool, sizeof pool, table, words, 1, 2);
     if (!expect("retire of 2", retired.refusal, LURDEMPOS_NOT_HELD))

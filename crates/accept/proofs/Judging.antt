@@ -3,18 +3,26 @@ use mathlib.Core.Path.{_≡_, refl, sym, ap, _∙_}
 use mathlib.Core.Bool.{Bool, true, false, cond, _||_}
 use mathlib.Core.List.{List}
 use Prim.Native.Nat.{ℕ, zero, suc, _*_, _≤_, _<_}
+use native.Mathlib.Nat.{mul-le-mul}
 use native.Mathlib.Omega.{arith}
 use lib.ListN.{length, getD}
 use lib.Dec.{eqb, leb, ltb}
 use borrow.Author.Tests.{le-leb, lt-leb, eq-eqb, ne-eqb, lt-ltb, le-ltb}
 use Rattle.model.specs.Calls.{BackupAnswer, tillOf, backup, backupAnswer, backupIn, backupOf, placeAndFile}
+use Rattle.model.specs.Measures.{Measures}
 use Rattle.model.specs.State.{Outcome, refused, done}
 use Rattle.model.specs.Table.{shapeOf, stateIn}
-use Rattle.laws.proofs.Stores.{Sound}
+use Rattle.laws.specs.Stores.{Sound, Header}
 use Rattle.laws.proofs.Tills.{last-most}
 use Rattle.tills.specs.declared.Head.{Head}
 use Rattle.tills.specs.Answers.{HeadOf}
-use Rattle.accept.specs.Accept.{Free, Accepted, refusedBackup, Judged, JudgedTill}
+use Rattle.accept.specs.Accept.{mostBytes, Free, Accepted, refusedBackup, Judged, JudgedTill}
+
+-- with the measures as the code read them
+pub bytes-fit : (table : List ℕ) → Header table → (m : Measures) → m ≡ shapeOf table .measures → m .blockBytes * getD table 2 0 ≤ 524288
+bytes-fit table h m e =
+    let most : m .blockBytes ≤ 512 = rw e (h .measured .mostBytes) in
+    mul-le-mul most (h .blocks)
 
 module _ {pool table : List ℕ} (h : Sound pool table) (t : ℕ) where
   pub no-till : (image : List ℕ) → getD table 0 0 ≤ t → backupOf pool table t image ≡ refusedBackup 3 pool table
@@ -25,11 +33,11 @@ module _ {pool table : List ℕ} (h : Sound pool table) (t : ℕ) where
   unfolding backupOf backupIn backup shapeOf backupAnswer
   no-bytes image n z = rw (h .is, lt-leb _ _ n, eq-eqb _ _ z)
 
-  pub many-bytes : (image : List ℕ) → t < getD table 0 0 → (length image ≡ 0 → ⊥) → 64 * getD table 2 0 < length image → backupOf pool table t image ≡ refusedBackup 4 pool table
+  pub many-bytes : (image : List ℕ) → t < getD table 0 0 → (length image ≡ 0 → ⊥) → mostBytes table < length image → backupOf pool table t image ≡ refusedBackup 4 pool table
   unfolding backupOf backupIn backup shapeOf backupAnswer
   many-bytes image n z m = rw (h .is, lt-leb _ _ n, ne-eqb _ _ z, lt-ltb _ _ m)
 
-  module _ (n : t < getD table 0 0) (image : List ℕ) (some : 0 < length image) (few : length image ≤ 64 * getD table 2 0) where
+  module _ (n : t < getD table 0 0) (image : List ℕ) (some : 0 < length image) (few : length image ≤ mostBytes table) where
     pub no-slot : getD table 1 0 ≤ length (tillOf (stateIn (shapeOf table) pool table) t .versions) → backupOf pool table t image ≡ refusedBackup 11 pool table
     unfolding backupOf backupIn backup shapeOf backupAnswer
     no-slot m = rw (h .is, lt-leb _ _ n, ne-eqb (length image) 0 (λ e. omega (arith, e, some)), le-ltb _ _ few, le-leb _ _ m)
@@ -58,7 +66,7 @@ module _ {pool table : List ℕ} (h : Sound pool table) (t : ℕ) where
       refusal = λ z. absurd (z refl);
     }
 
-  pub judged : (n : t < getD table 0 0) (image : List ℕ) (some : 0 < length image) (few : length image ≤ 64 * getD table 2 0) (r : ℕ) → JudgedTill pool table t r → Judged pool table t image r
+  pub judged : (n : t < getD table 0 0) (image : List ℕ) (some : 0 < length image) (few : length image ≤ mostBytes table) (r : ℕ) → JudgedTill pool table t r → Judged pool table t image r
   judged n image some few r j = record {
     accepted = λ e. record { there = n; some = some; few = few; free = j .accepted e };
     refusal = λ z. j .refusal z image some few;

@@ -5,7 +5,11 @@ use Prim.Native.Nat.{ℕ, zero, suc, _*_, _≤_, _<_}
 use lib.ListN.{length, getD}
 use Rattle.model.specs.Calls.{BackupAnswer, tillOf, backupOf}
 use Rattle.model.specs.Table.{shapeOf, stateIn}
-use Rattle.laws.proofs.Stores.{Sound}
+use Rattle.laws.specs.Stores.{Sound}
+
+-- the longest image's bytes
+abbrev pub mostBytes : List ℕ → ℕ
+mostBytes table = shapeOf table .measures .blockBytes * getD table 2 0
 
 -- the till has a slot and a number left
 pub record Free (pool table : List ℕ) (t : ℕ) : Type 0 where
@@ -15,7 +19,7 @@ pub record Free (pool table : List ℕ) (t : ℕ) : Type 0 where
 pub record Accepted (pool table : List ℕ) (t : ℕ) (image : List ℕ) : Type 0 where
   pub there : t < getD table 0 0
   pub some : 0 < length image
-  pub few : length image ≤ 64 * getD table 2 0
+  pub few : length image ≤ mostBytes table
   pub free : Free pool table t
 
 abbrev pub refusedBackup : ℕ → List ℕ → List ℕ → BackupAnswer
@@ -29,4 +33,4 @@ pub record Judged (pool table : List ℕ) (t : ℕ) (image : List ℕ) (r : ℕ)
 -- the same for a till that is there and an image of a right length
 pub record JudgedTill (pool table : List ℕ) (t : ℕ) (r : ℕ) : Type 0 where
   pub accepted : r ≡ 0 → Free pool table t
-  pub refusal : (r ≡ 0 → ⊥) → (image : List ℕ) → 0 < length image → length image ≤ 64 * getD table 2 0 → backupOf pool table t image ≡ refusedBackup r pool table
+  pub refusal : (r ≡ 0 → ⊥) → (image : List ℕ) → 0 < length image → length image ≤ mostBytes table → backupOf pool table t image ≡ refusedBackup r pool table

@@ -2,8 +2,17 @@
 ghost use mathlib.Core.Path.{_≡_};
 ghost use Prim.Native.Nat.{ℕ, _<_};
 ghost use lib.ListN.{length, getD};
-ghost use Rattle.laws.proofs.Stores.{Sound};
-ghost use Rattle.accept.specs.Accept.{Judged, JudgedTill};
+ghost use Rattle.laws.specs.Stores.{Sound, Header};
+ghost use Rattle.accept.specs.Accept.{mostBytes, Judged, JudgedTill};
+
+// The longest image's bytes.
+fn most_bytes(table: &[u32]) -> usize
+    requires { ⌜ Header (now table) ⌝ }
+    ensures { λ r. ⌜ r ≡ mostBytes (now (table .entry)) ⌝ }
+{
+    let m = layout::measures_in(table);
+    m.bytes * table[2] as usize
+}
 
 // Refusals 11 and 12.
 fn till_refusal(pool: &[u8], table: &[u32], till: u32) -> u32
@@ -32,7 +41,7 @@ pub fn backup_refusal(pool: &[u8], table: &[u32], till: u32, image: &[u8]) -> u3
     if bytes == 0 {
         return 4;
     }
-    if bytes > table[2] as usize * 64 {
+    if bytes > most_bytes(table) {
         return 4;
     }
     till_refusal(pool, table, till)

@@ -1,4 +1,5 @@
 pub mod Slots
 pub mod Tills
-pub mod Ranges
 pub mod Whole
+pub mod Ranges
+pub mod Answers

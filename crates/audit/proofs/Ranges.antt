@@ -1,20 +1,44 @@
--- The lengths that the checks ask are those of the definition.
-use mathlib.Core.Path.{_≡_}
-use mathlib.Core.Bool.{true}
+-- What the check of the header gives to the checks behind it.
+use mathlib.Core.Path.{_≡_, sym, subst}
 use mathlib.Core.List.{List}
-use Prim.Native.Nat.{ℕ}
-use borrow.Author.Tests.{eqb-true, eq-eqb}
-use Rattle.lists.proofs.Tests.{clause, all-true}
-use Rattle.model.specs.Measures.{tableWords, poolBytes}
+use Prim.Native.Nat.{ℕ, _≤_}
+use native.Mathlib.Omega.{arith}
+use lib.ListN.{length}
+use borrow.Author.Tests.{eqb-true}
+use Rattle.lists.proofs.Tests.{clause}
+use Rattle.model.specs.Measures.{Measures, tableWords, poolBytes}
 use Rattle.model.specs.Table.{shapeOf}
 use Rattle.model.specs.Sound.{hasLengths}
-use Rattle.audit_header.specs.Header.{Ranges, Lengths}
-use Rattle.audit_header.proofs.InRange.{range-of, range-at}
+use Rattle.laws.specs.Ranges.{Measured, Ranges}
+use Rattle.laws.proofs.Ranges.{ranges}
+use Rattle.audit_header.specs.Header.{Header}
+use Rattle.audit.specs.Good.{Sized}
 
-pub lengths-of : (pool ws : List ℕ) → Ranges ws → Lengths pool ws → hasLengths (shapeOf ws) pool ws ≡ true
-unfolding hasLengths poolBytes tableWords shapeOf
-lengths-of pool ws r l = all-true _ (range-of ws r, (eq-eqb _ _ (l .bytes), (eq-eqb _ _ (l .words), tt)))
+module _ (pool ws : List ℕ) (h : Header pool ws) where
+  in-ranges : Ranges (shapeOf ws)
+  unfolding hasLengths
+  in-ranges = ranges (shapeOf ws) (clause _ 0 (h .lengths))
 
-pub lengths-at : (pool ws : List ℕ) → hasLengths (shapeOf ws) pool ws ≡ true → Ranges ws × Lengths pool ws
-unfolding hasLengths poolBytes tableWords shapeOf
-lengths-at pool ws h = (range-at ws (clause _ 0 h), record { bytes = eqb-true _ _ (clause _ 1 h); words = eqb-true _ _ (clause _ 2 h) })
+  pub header-measured : Measured (shapeOf ws .measures)
+  header-measured = in-ranges .measured
+
+  pub header-sized : Sized (shapeOf ws .measures) pool ws
+  unfolding hasLengths poolBytes tableWords shapeOf
+  header-sized =
+      let r = in-ranges in
+      record {
+        tills = r .tills;
+        versions = r .versions;
+        blocks = r .blocks;
+        records = r .records;
+        cells = r .cells;
+        bytes = eqb-true _ _ (clause _ 1 (h .lengths));
+        words = eqb-true _ _ (clause _ 2 (h .lengths));
+      }
+
+  pub header-long : 8 ≤ length ws
+  header-long = omega (arith, header-sized .words)
+
+  -- of the measures that the code read
+  pub header-body : (m : Measures) → m ≡ shapeOf ws .measures → Measured m × Sized m pool ws
+  header-body m q = (subst Measured (sym q) header-measured, subst (λ (n : Measures). Sized n pool ws) (sym q) header-sized)

@@ -3,7 +3,7 @@ use mathlib.Core.Path.{_≡_, refl, sym, ap, ap₂, _∙_}
 use mathlib.Core.Bool.{Bool, true, false}
 use mathlib.Core.List.{List, [], _∷_, map}
 use Prim.Native.Nat.{ℕ, zero, suc, _+_, _-_, _*_, _/_, _≤_, _<_, min}
-use native.Mathlib.Nat.{not-suc-le-zero, le-of-suc-le-suc, zero-mul, suc-mul, sub-zero, suc-sub-suc, add-zero, mul-le-mul-right, min-eq-left, min-le-right}
+use native.Mathlib.Nat.{not-suc-le-zero, le-of-suc-le-suc, zero-mul, suc-mul, sub-zero, suc-sub-suc, add-zero, mul-le-mul, mul-le-mul-right, min-eq-left, min-le-right}
 use native.Mathlib.Numerals.{one-add}
 use native.Mathlib.Omega.{arith}
 use borrow.Author.Tests.{eqb-true, eqb-false, eq-eqb, leb-true, le-leb}
@@ -19,7 +19,7 @@ use Rattle.lists.proofs.Same.{zeros-eq}
 use Rattle.lists.proofs.Rows.{length-rows, wide-all}
 use Rattle.lists.proofs.Cuts.{length-parts, rows-parts}
 use Rattle.lists.proofs.Slices.{drop-next}
-use Rattle.model.specs.Measures.{Capacities, shapeFor, partsFor, slotWords, tillWords}
+use Rattle.model.specs.Measures.{Shape, partsFor, slotWords, tillWords}
 use Rattle.model.specs.State.{Shelf, Version}
 use Rattle.model.specs.Table.{kindUnit, wordToPointer, versionIn, versionsIn, tillIn, versionToWords, tillToWords}
 use Rattle.model.specs.Sound.{isNumbered, areTraceable, isTill}
@@ -68,88 +68,91 @@ fits-word w = go (eqb (w / kindUnit) 1) (eqb (w / kindUnit) 2) refl refl
     go false true e g = rw (read-indirect w (eqb-true _ _ g)) (omega arith)
     go false false e g = rw (read-other w (eqb-false _ _ e) (eqb-false _ _ g)) tt
 
-fits-words : (row : List ℕ) → Each PointerFits (versionIn 64 row .pointers)
+fits-words : (bytes : ℕ) (row : List ℕ) → Each PointerFits (versionIn bytes row .pointers)
 unfolding versionIn
-fits-words row =
-    let ws : List ℕ = take (partsFor 64 (getD row 1 0)) (drop 3 row) in
+fits-words bytes row =
+    let ws : List ℕ = take (partsFor bytes (getD row 1 0)) (drop 3 row) in
     each-map PointerFits wordToPointer ws (each-all (λ w. PointerFits (wordToPointer w)) fits-word ws)
 
-pub versions-long : (b n : ℕ) (xs : List ℕ) → length (versionsIn 64 b n xs) ≡ n
+pub versions-long : (bytes b n : ℕ) (xs : List ℕ) → length (versionsIn bytes b n xs) ≡ n
 unfolding versionsIn
-versions-long b n xs = length-map (parts (3 + b) n xs) (versionIn 64) ∙ length-parts (3 + b) n xs
+versions-long bytes b n xs = length-map (parts (3 + b) n xs) (versionIn bytes) ∙ length-parts (3 + b) n xs
 
-module _ (shelf : Shelf) (b : ℕ) where
+module _ (bytes : ℕ) (some : 0 < bytes) (shelf : Shelf) (b : ℕ) where
   record Traced (n first : ℕ) (xs : List ℕ) : Type 0 where
-    traceable : areTraceable 64 b shelf (versionsIn 64 b n xs) ≡ true
-    numbers : sameNumbers (map (λ (v : Version). v .number) (versionsIn 64 b n xs)) (counted (λ m. m) first n) ≡ true
-    words : Each (λ r. versionToWords b (versionIn 64 r) ≡ r) (parts (3 + b) n xs)
+    traceable : areTraceable bytes b shelf (versionsIn bytes b n xs) ≡ true
+    numbers : sameNumbers (map (λ (v : Version). v .number) (versionsIn bytes b n xs)) (counted (λ m. m) first n) ≡ true
+    words : Each (λ r. versionToWords b (versionIn bytes r) ≡ r) (parts (3 + b) n xs)
 
   first-fits : (n : ℕ) (xs : List ℕ) → suc n * (3 + b) ≤ length xs → (length (take (3 + b) xs) ≡ 3 + b) × (n * (3 + b) ≤ length (drop (3 + b) xs))
   first-fits n xs h = (length-take-le (3 + b) xs (omega (arith, h, suc-mul n (3 + b))), omega (arith, h, suc-mul n (3 + b), length-drop (3 + b) xs))
 
-  word-is : (xs : List ℕ) → versionIn 64 (take (3 + b) xs) .number ≡ getD xs 0 0
+  word-is : (xs : List ℕ) → versionIn bytes (take (3 + b) xs) .number ≡ getD xs 0 0
   unfolding versionIn
   word-is xs = getD-take (3 + b) xs 0 0 (omega arith)
 
-  traced : (n first : ℕ) (xs : List ℕ) → n * (3 + b) ≤ length xs → All (3 + b) (SlotSays shelf b) n first xs → Traced n first xs
+  traced : (n first : ℕ) (xs : List ℕ) → n * (3 + b) ≤ length xs → All (3 + b) (SlotSays bytes shelf b) n first xs → Traced n first xs
   unfolding areTraceable sameNumbers counted versionsIn parts
   traced zero first xs h f = record { traceable = refl; numbers = refl; words = tt }
   traced (suc n) first xs h f =
-      let s : SlotSays shelf b (suc n) first xs = all-head (3 + b) (SlotSays shelf b) n first xs f in
+      let s : SlotSays bytes shelf b (suc n) first xs = all-head (3 + b) (SlotSays bytes shelf b) n first xs f in
       let fit = first-fits n xs h in
       let e : suc n - 1 ≡ n = omega arith in
-      let r = traced n (suc first) (drop (3 + b) xs) (fit .1) (all-tail (3 + b) (SlotSays shelf b) n first xs f) in
+      let r = traced n (suc first) (drop (3 + b) xs) (fit .1) (all-tail (3 + b) (SlotSays bytes shelf b) n first xs f) in
       record {
-        traceable = all-true _ (form-length b (take (3 + b) xs) (fit .0) (s .form), (rw e at (s .leading), (rw e at (s .ends), (r .traceable, tt))));
+        traceable = all-true _ (form-length bytes some b (take (3 + b) xs) (fit .0) (s .form), (rw e at (s .leading), (rw e at (s .ends), (r .traceable, tt))));
         numbers = rw (eq-eqb _ _ (word-is xs ∙ s .numbered)) (r .numbers);
-        words = (form-same b (take (3 + b) xs) (fit .0) (s .form), r .words);
+        words = (form-same bytes some b (take (3 + b) xs) (fit .0) (s .form), r .words);
       }
 
-  untraced : (n first : ℕ) (xs : List ℕ) → n * (3 + b) ≤ length xs → Traced n first xs → All (3 + b) (SlotSays shelf b) n first xs
+  untraced : (n first : ℕ) (xs : List ℕ) → n * (3 + b) ≤ length xs → Traced n first xs → All (3 + b) (SlotSays bytes shelf b) n first xs
   unfolding areTraceable sameNumbers counted versionsIn parts
   untraced zero first xs h t = λ i g. absurd (not-suc-le-zero g)
   untraced (suc n) first xs h t =
       let fit = first-fits n xs h in
       let e : suc n - 1 ≡ n = omega arith in
       let m = cond-true _ _ (t .numbers) in
-      let l = length-at b (take (3 + b) xs) (fit .0) (clause _ 0 (t .traceable)) in
-      all-cons (3 + b) (SlotSays shelf b) n first xs
+      let l = length-at bytes some b (take (3 + b) xs) (fit .0) (clause _ 0 (t .traceable)) in
+      all-cons (3 + b) (SlotSays bytes shelf b) n first xs
       (record {
         numbered = sym (word-is xs) ∙ eqb-true _ _ (m .0);
-        form = same-form b (take (3 + b) xs) (fit .0) (t .words .0) (l .1) (l .0);
+        form = same-form bytes some b (take (3 + b) xs) (fit .0) (t .words .0) (l .1) (l .0);
         leading = rw e (clause _ 1 (t .traceable));
         ends = rw e (clause _ 2 (t .traceable));
       })
       (untraced n (suc first) (drop (3 + b) xs) (fit .1) (record { traceable = clause _ 3 (t .traceable); numbers = m .1; words = t .words .1 }))
 
-  smalls : b ≤ 1024 → (n first : ℕ) (xs : List ℕ) → n * (3 + b) ≤ length xs → first + n ≤ kindUnit → All (3 + b) (SlotSays shelf b) n first xs
-      → Each (SmallVersion b) (versionsIn 64 b n xs)
+  smalls : bytes ≤ 512 → b ≤ 1024 → (n first : ℕ) (xs : List ℕ) → n * (3 + b) ≤ length xs → first + n ≤ kindUnit → All (3 + b) (SlotSays bytes shelf b) n first xs
+      → Each (SmallVersion b) (versionsIn bytes b n xs)
   unfolding versionsIn parts
-  smalls hb zero first xs h k f = tt
-  smalls hb (suc n) first xs h k f =
-      let s : SlotSays shelf b (suc n) first xs = all-head (3 + b) (SlotSays shelf b) n first xs f in
+  smalls hy hb zero first xs h k f = tt
+  smalls hy hb (suc n) first xs h k f =
+      let s : SlotSays bytes shelf b (suc n) first xs = all-head (3 + b) (SlotSays bytes shelf b) n first xs f in
       let fit = first-fits n xs h in (
         record {
           number = omega (arith, word-is xs, s .numbered, k);
-          bytes = unfold versionIn in omega (arith, s .form .most, hb);
-          few = rw (pointers-count (take (3 + b) xs) b (fit .0)) (min-le-right ((getD (take (3 + b) xs) 1 0 + 63) / 64) b);
-          pointers = fits-words (take (3 + b) xs);
+          bytes = let most : bytes * b ≤ 524288 = mul-le-mul hy hb in unfold versionIn in omega (arith, s .form .most, most);
+          few = rw (pointers-count bytes (take (3 + b) xs) b (fit .0)) (min-le-right (partsFor bytes (getD (take (3 + b) xs) 1 0)) b);
+          pointers = fits-words bytes (take (3 + b) xs);
         },
-        smalls hb n (suc first) (drop (3 + b) xs) (fit .1) (omega (arith, k)) (all-tail (3 + b) (SlotSays shelf b) n first xs f),
+        smalls hy hb n (suc first) (drop (3 + b) xs) (fit .1) (omega (arith, k)) (all-tail (3 + b) (SlotSays bytes shelf b) n first xs f),
       )
 
 -- ---- a till's words
 
-pub record TillFine (c : Capacities) (shelf : Shelf) (row : List ℕ) : Type 0 where
-  pub words : tillToWords (c .versions) (c .blocks) (tillIn 64 (c .versions) (c .blocks) row) ≡ row
-  pub sound : isTill (shapeFor c) shelf (tillIn 64 (c .versions) (c .blocks) row) ≡ true
+pub record TillFine (s : Shape) (shelf : Shelf) (row : List ℕ) : Type 0 where
+  pub words : tillToWords (s .capacities .versions) (s .capacities .blocks) (tillIn (s .measures .blockBytes) (s .capacities .versions) (s .capacities .blocks) row) ≡ row
+  pub sound : isTill s shelf (tillIn (s .measures .blockBytes) (s .capacities .versions) (s .capacities .blocks) row) ≡ true
 
-module _ (c : Capacities) (shelf : Shelf) (row : List ℕ) (l : length row ≡ tillWords (c .versions) (c .blocks)) where
+module _ (s : Shape) (some : 0 < s .measures .blockBytes) (shelf : Shelf) (row : List ℕ) (l : length row ≡ tillWords (s .capacities .versions) (s .capacities .blocks)) where
+  abbrev bytes : ℕ
+  bytes = s .measures .blockBytes
+
   abbrev v : ℕ
-  v = c .versions
+  v = s .capacities .versions
 
   abbrev b : ℕ
-  b = c .blocks
+  b = s .capacities .blocks
 
   abbrev held : ℕ
   held = getD row 1 0
@@ -158,9 +161,9 @@ module _ (c : Capacities) (shelf : Shelf) (row : List ℕ) (l : length row ≡ t
   last = getD row 0 0
 
   abbrev vs : List Version
-  vs = versionsIn 64 b held (drop 4 row)
+  vs = versionsIn bytes b held (drop 4 row)
 
-  till-is : held ≤ v → tillIn 64 v b row ≡ record { last = last; versions = vs }
+  till-is : held ≤ v → tillIn bytes v b row ≡ record { last = last; versions = vs }
   unfolding tillIn
   till-is h = rw (min-eq-left h)
 
@@ -179,9 +182,9 @@ module _ (c : Capacities) (shelf : Shelf) (row : List ℕ) (l : length row ≡ t
   middle = ap (take 2) (drop-next row 2 0 (omega (arith, l)) ∙ ap (λ (r : List ℕ). getD row 2 0 ∷ r) (drop-next row 3 0 (omega (arith, l))))
 
   -- the slots in use, and the others
-  module _ (t : TillSays shelf v b row) where
-    trace : Traced shelf b held (1 + last - held) (drop 4 row)
-    trace = traced shelf b held (1 + last - held) (drop 4 row) (slots-fit (t .few)) (t .slots)
+  module _ (t : TillSays bytes shelf v b row) where
+    trace : Traced bytes some shelf b held (1 + last - held) (drop 4 row)
+    trace = traced bytes some shelf b held (1 + last - held) (drop 4 row) (slots-fit (t .few)) (t .slots)
 
     rest-zero : allZero (drop (held * (3 + b)) (drop 4 row)) ≡ true
     rest-zero = ap allZero (drop-drop (held * (3 + b)) 4 row) ∙ t .rest
@@ -192,26 +195,26 @@ module _ (c : Capacities) (shelf : Shelf) (row : List ℕ) (l : length row ≡ t
     filled : fill (v * (3 + b)) (rows (versionToWords b) vs) ≡ drop 4 row
     unfolding versionsIn
     filled =
-        ap (fill (v * (3 + b))) (rows-parts (versionToWords b) (versionIn 64) (3 + b) held (drop 4 row) (trace .words))
+        ap (fill (v * (3 + b))) (rows-parts (versionToWords b) (versionIn bytes) (3 + b) held (drop 4 row) (trace .words))
         ∙ fill-back (v * (3 + b)) (held * (3 + b)) (drop 4 row) slots-long rest-zero
 
-    same : tillToWords v b (tillIn 64 v b row) ≡ row
+    same : tillToWords v b (tillIn bytes v b row) ≡ row
     unfolding tillToWords
     same =
         ap (tillToWords v b) (till-is (t .few))
-        ∙ ap (λ (n : ℕ). last ∷ n ∷ 0 ∷ 0 ∷ fill (v * (3 + b)) (rows (versionToWords b) vs)) (versions-long b held (drop 4 row))
+        ∙ ap (λ (n : ℕ). last ∷ n ∷ 0 ∷ 0 ∷ fill (v * (3 + b)) (rows (versionToWords b) vs)) (versions-long bytes b held (drop 4 row))
         ∙ ap (λ (r : List ℕ). last ∷ held ∷ 0 ∷ 0 ∷ r) filled
         ∙ ap (λ (r : List ℕ). last ∷ held ∷ getD r 0 0 ∷ getD r 1 0 ∷ drop 4 row) (sym two-zeros)
         ∙ sym apart
 
     first-is : 1 + last - held ≡ suc last - length vs
-    first-is = ap₂ _-_ (one-add last) (sym (versions-long b held (drop 4 row)))
+    first-is = ap₂ _-_ (one-add last) (sym (versions-long bytes b held (drop 4 row)))
 
-    fine : isTill (shapeFor c) shelf (tillIn 64 v b row) ≡ true
+    fine : isTill s shelf (tillIn bytes v b row) ≡ true
     unfolding isTill isNumbered
     fine =
-        let n : length vs ≡ held = versions-long b held (drop 4 row) in
-        ap (isTill (shapeFor c) shelf) (till-is (t .few))
+        let n : length vs ≡ held = versions-long bytes b held (drop 4 row) in
+        ap (isTill s shelf) (till-is (t .few))
         ∙ all-true _ (
           all-true _ (
             le-leb (length vs) v (rw n (t .few)),
@@ -226,14 +229,14 @@ module _ (c : Capacities) (shelf : Shelf) (row : List ℕ) (l : length row ≡ t
           (trace .traceable, tt),
         )
 
-  pub till-fine : TillSays shelf v b row → TillFine c shelf row
+  pub till-fine : TillSays bytes shelf v b row → TillFine s shelf row
   till-fine t = record { words = same t; sound = fine t }
 
   -- back
-  module _ (f : TillFine c shelf row) where
+  module _ (f : TillFine s shelf row) where
     count-is : min held v ≡ held
     unfolding tillToWords tillIn
-    count-is = sym (versions-long b (min held v) (drop 4 row)) ∙ ap (λ (r : List ℕ). getD r 1 0) (f .words)
+    count-is = sym (versions-long bytes b (min held v) (drop 4 row)) ∙ ap (λ (r : List ℕ). getD r 1 0) (f .words)
 
     few : held ≤ v
     few = rw count-is at (min-le-right held v)
@@ -251,63 +254,63 @@ module _ (c : Capacities) (shelf : Shelf) (row : List ℕ) (l : length row ≡ t
 
     rows-long : length (rows (versionToWords b) vs) ≡ held * (3 + b)
     rows-long =
-        length-rows (versionToWords b) (3 + b) vs (wide-all (versionToWords b) (3 + b) (length-version b) vs) ∙ ap (λ (n : ℕ). n * (3 + b)) (versions-long b held (drop 4 row))
+        length-rows (versionToWords b) (3 + b) vs (wide-all (versionToWords b) (3 + b) (length-version b) vs) ∙ ap (λ (n : ℕ). n * (3 + b)) (versions-long bytes b held (drop 4 row))
 
     front : rows (versionToWords b) vs ≡ take (held * (3 + b)) (drop 4 row)
     front =
         sym (fill-front (v * (3 + b)) (rows (versionToWords b) vs) (drop 4 row) (omega (arith, rows-long, slots-fit few, slots-long)) filled-at)
         ∙ ap (λ (m : ℕ). take m (drop 4 row)) rows-long
 
-    sound-is : isTill (shapeFor c) shelf (record { last = last; versions = vs }) ≡ true
-    sound-is = ap (isTill (shapeFor c) shelf) (sym (till-is few)) ∙ f .sound
+    sound-is : isTill s shelf (record { last = last; versions = vs }) ≡ true
+    sound-is = ap (isTill s shelf) (sym (till-is few)) ∙ f .sound
 
     numbered : isNumbered v (record { last = last; versions = vs }) ≡ true
     unfolding isTill
     numbered = clause _ 0 sound-is
 
-    trace-at : Traced shelf b held (1 + last - held) (drop 4 row)
+    trace-at : Traced bytes some shelf b held (1 + last - held) (drop 4 row)
     unfolding isTill isNumbered versionsIn
     trace-at = record {
       traceable = clause _ 1 sound-is;
       numbers =
-          ap₂ (λ (a m : ℕ). sameNumbers (map (λ (v : Version). v .number) vs) (counted (λ m. m) a m)) (ap₂ _-_ (one-add last) (sym (versions-long b held (drop 4 row)))) (sym (versions-long b held (drop 4 row)))
+          ap₂ (λ (a m : ℕ). sameNumbers (map (λ (v : Version). v .number) vs) (counted (λ m. m) a m)) (ap₂ _-_ (one-add last) (sym (versions-long bytes b held (drop 4 row)))) (sym (versions-long bytes b held (drop 4 row)))
           ∙ clause _ 3 numbered;
-      words = rows-fixed (versionToWords b) (versionIn 64) (3 + b) held (drop 4 row) (each-all _ (λ r. length-version b (versionIn 64 r)) (parts (3 + b) held (drop 4 row))) (slots-fit few) front;
+      words = rows-fixed (versionToWords b) (versionIn bytes) (3 + b) held (drop 4 row) (each-all _ (λ r. length-version b (versionIn bytes r)) (parts (3 + b) held (drop 4 row))) (slots-fit few) front;
     }
 
     upto : held ≤ last
     unfolding isNumbered
-    upto = rw (versions-long b held (drop 4 row)) at (leb-true (length vs) last (clause _ 1 numbered))
+    upto = rw (versions-long bytes b held (drop 4 row)) at (leb-true (length vs) last (clause _ 1 numbered))
 
     most : last ≤ 65535
     unfolding isNumbered
     most = leb-true last 65535 (clause _ 2 numbered)
 
-    pub fine-till : TillSays shelf v b row
+    pub fine-till : TillSays bytes shelf v b row
     fine-till = record {
       few = few;
       upto = upto;
       most = most;
       zeros = zeros-at;
-      slots = untraced shelf b held (1 + last - held) (drop 4 row) (slots-fit few) trace-at;
+      slots = untraced bytes some shelf b held (1 + last - held) (drop 4 row) (slots-fit few) trace-at;
       rest =
           ap allZero (sym (drop-drop (held * (3 + b)) 4 row))
           ∙ back-fill (v * (3 + b)) (held * (3 + b)) (drop 4 row) (ap (fill (v * (3 + b))) (sym front) ∙ filled-at);
     }
 
-  pub till-small : v ≤ 64 → b ≤ 1024 → TillSays shelf v b row → SmallTill v b (tillIn 64 v b row)
-  till-small hv hb t =
+  pub till-small : bytes ≤ 512 → v ≤ 64 → b ≤ 1024 → TillSays bytes shelf v b row → SmallTill v b (tillIn bytes v b row)
+  till-small hy hv hb t =
       rw (till-is (t .few))
       (record {
         last = omega (arith, t .most);
-        held = omega (arith, versions-long b held (drop 4 row), t .few, hv);
+        held = omega (arith, versions-long bytes b held (drop 4 row), t .few, hv);
         few = few-rows;
-        versions = smalls shelf b hb held (1 + last - held) (drop 4 row) (slots-fit (t .few)) (omega (arith, t .most, t .upto)) (t .slots);
+        versions = smalls bytes some shelf b hy hb held (1 + last - held) (drop 4 row) (slots-fit (t .few)) (omega (arith, t .most, t .upto)) (t .slots);
       })
     where
       few-rows : length (rows (versionToWords b) vs) ≤ v * slotWords b
       few-rows =
           let n : length (rows (versionToWords b) vs) ≡ length vs * (3 + b) = length-rows (versionToWords b) (3 + b) vs (wide-all (versionToWords b) (3 + b) (length-version b) vs) in
           let m : held * (3 + b) ≤ v * (3 + b) = mul-le-mul-right (3 + b) (t .few) in
-          let k : length vs * (3 + b) ≡ held * (3 + b) = ap (λ (n : ℕ). n * (3 + b)) (versions-long b held (drop 4 row)) in
+          let k : length vs * (3 + b) ≡ held * (3 + b) = ap (λ (n : ℕ). n * (3 + b)) (versions-long bytes b held (drop 4 row)) in
           omega (arith, n, m, k)

@@ -1,32 +1,32 @@
--- What the checks ask of a pool and a table is that they are a sound store.
+-- What the checks ask of the words behind the header, and of the pool, is that they are a sound store; for any shape whose measures code can have.
 use mathlib.Core.Path.{_≡_, refl, sym, ap, ap₂, _∙_}
 use mathlib.Core.Bool.{Bool, true, false, cond}
 use mathlib.Core.List.{List, [], _∷_, _++_, map}
-use mathlib.Core.Option.{none, some}
-use Prim.Native.Nat.{ℕ, _+_, _-_, _*_, _/_, _<_}
+use mathlib.Core.Option.{Option, none, some}
+use Prim.Native.Nat.{ℕ, _+_, _-_, _*_, _/_, _≤_, _<_}
 use native.Mathlib.Omega.{arith}
-use borrow.Author.Tests.{eq-eqb}
-use lib.Dec.{eqb, lit<}
+use borrow.Author.Tests.{eqb-true, eq-eqb, leb-true}
+use lib.Dec.{eqb}
 use lib.ListN.{length, getD, take, drop, length-drop, length-map, take-append-drop}
 use lib.Seq.{take-at, drop-at, drop-drop, take-all, length-take-le}
-use Rattle.lists.specs.Lists.{every, allZero, count, sameNumbers, isSome}
+use Rattle.lists.specs.Lists.{every, count, sameNumbers, isSome}
 use Rattle.lists.specs.Rows.{rows, parts, chunks}
 use Rattle.lists.specs.Each.{Each}
-use Rattle.lists.specs.Tells.{Tells}
-use Rattle.lists.proofs.Checkers.{clash, is-not, denies, same-as}
+use Rattle.lists.proofs.Checkers.{clash}
 use Rattle.lists.proofs.Tests.{clause, all-true}
 use Rattle.lists.proofs.Each.{each-all, each-weaken, each-both, each-map, each-every, every-each}
-use Rattle.lists.proofs.Same.{same-refl, same-eq, zeros-eq}
+use Rattle.lists.proofs.Same.{same-refl, same-eq}
 use Rattle.lists.proofs.Rows.{length-rows, wide-all}
 use Rattle.lists.proofs.Cuts.{length-parts, each-part, part-each, chunks-parts, rows-chunks}
-use Rattle.lists.proofs.Slices.{drop-next}
-use Rattle.model.specs.Measures.{Capacities, baseMeasures, shapeFor, tillWords, recordsAt}
+use Rattle.lists.proofs.Places.{rows-few}
+use Rattle.model.specs.Measures.{Shape, isWithin, inRange, tillWords, recordWords, recordsAt, tableWords, poolBytes}
 use Rattle.model.specs.State.{Block, Shelf, State, Segment}
-use Rattle.model.specs.Table.{shapeOf, headerToWords, recordToWords, tillToWords, stateToWords, segmentIn, recordsIn, cellsIn, shelfIn, tillIn, tillsIn, tillsPart, recordsPart, stateIn}
-use Rattle.model.specs.Sound.{isShaped, isUsed, isTill, leadsTo, allPointers, allCounted, isSound, ifSound, hasLengths, storeAs, storeOf}
+use Rattle.model.specs.Table.{headerToWords, recordToWords, tillToWords, stateToWords, segmentIn, recordsIn, cellsIn, shelfIn, tillIn, tillsIn, tillsPart, recordsPart, stateIn}
+use Rattle.model.specs.Sound.{isShaped, isUsed, isTill, leadsTo, allPointers, allCounted, isSound, ifSound, hasLengths, storeAs}
+use Rattle.laws.specs.Ranges.{Measured}
 use Rattle.laws.proofs.RoundTrip.{length-till, length-record}
+use Rattle.laws.proofs.Ranges.{ranges}
 use Rattle.audit_words.specs.Words.{RecordForm}
-use Rattle.audit_header.specs.Header.{Ranges, Lengths, Header}
 use Rattle.lists.proofs.Answers.{every-map}
 use Rattle.audit_words.proofs.Positions.{segment-long}
 use Rattle.audit_words.proofs.Records.{RecordSays, record-says, says-record}
@@ -37,8 +37,6 @@ use Rattle.audit_counts.proofs.Counts.{counts-sound, sound-counts}
 use Rattle.audit_tills.specs.Says.{TillSays}
 use Rattle.audit.specs.Good.{Body}
 use Rattle.lists.proofs.Filled.{rows-fixed, parts-wide, with-long}
-use Rattle.audit.proofs.Ranges.{lengths-of, lengths-at}
-use Rattle.audit_header.proofs.InRange.{range-of}
 use Rattle.audit.proofs.Tills.{TillFine, till-fine, fine-till, till-small}
 
 -- ---- the answer
@@ -53,201 +51,226 @@ of-some true true x h = (refl, refl)
 of-some true false x h = absurd (clash refl h)
 of-some false b x h = absurd (clash refl h)
 
--- ---- the whole
+first-of {ℓ} : {A : Type ℓ} (a : Bool) (o : Option A) → isSome (cond a o none) ≡ true → a ≡ true
+unfolding isSome
+first-of true o h = refl
+first-of false o h = absurd (clash refl h)
 
-module _ (pool ws : List ℕ) (r : Ranges ws) (l : Lengths pool ws) where
-  abbrev caps : Capacities
-  caps = record { tills = getD ws 0 0; versions = getD ws 1 0; blocks = getD ws 2 0; records = getD ws 3 0; cells = getD ws 4 0 }
+-- ---- the whole, of a shape whose measures and lengths are in order
 
+module _ (s : Shape) (ok : Measured (s .measures)) (pool ws : List ℕ) (h : hasLengths s pool ws ≡ true) where
   abbrev nt : ℕ
-  nt = getD ws 0 0
+  nt = s .capacities .tills
 
   abbrev nv : ℕ
-  nv = getD ws 1 0
+  nv = s .capacities .versions
 
   abbrev nb : ℕ
-  nb = getD ws 2 0
+  nb = s .capacities .blocks
 
   abbrev nr : ℕ
-  nr = getD ws 3 0
+  nr = s .capacities .records
+
+  abbrev nc : ℕ
+  nc = s .capacities .cells
+
+  abbrev bytes : ℕ
+  bytes = s .measures .blockBytes
+
+  abbrev n : ℕ
+  n = s .measures .segmentBlocks
 
   abbrev tw : ℕ
-  tw = 4 + nv * (3 + nb)
+  tw = tillWords nv nb
+
+  abbrev sw : ℕ
+  sw = recordWords n
 
   abbrev tills : List ℕ
-  tills = take (nt * tw) (drop 8 ws)
+  tills = tillsPart (s .capacities) ws
 
   abbrev records : List ℕ
-  records = drop (8 + nt * tw) ws
+  records = recordsPart (s .capacities) ws
 
   abbrev shelf : Shelf
-  shelf = shelfIn baseMeasures pool records
+  shelf = shelfIn (s .measures) pool records
 
   abbrev state : State
-  state = stateIn (shapeOf ws) pool ws
+  state = stateIn s pool ws
+
+  in-range : inRange s ≡ true
+  unfolding hasLengths
+  in-range = clause _ 0 h
+
+  few-versions : nv ≤ 64
+  few-versions = ranges s in-range .versions
+
+  few-blocks : nb ≤ 1024
+  few-blocks = ranges s in-range .blocks
+
+  few-records : nr ≤ 4096
+  few-records = ranges s in-range .records
+
+  pool-long : length pool ≡ nc * bytes
+  unfolding hasLengths poolBytes
+  pool-long = eqb-true _ _ (clause _ 1 h)
+
+  table-long : length ws ≡ recordsAt nt nv nb + nr * sw
+  unfolding hasLengths tableWords
+  table-long = eqb-true _ _ (clause _ 2 h)
+
+  some-bytes : 0 < bytes
+  some-bytes = omega (arith, ok .someBytes)
 
   tills-long : length tills ≡ nt * tw
-  tills-long = length-take-le (nt * tw) (drop 8 ws) (omega (arith, length-drop 8 ws, l .words))
+  tills-long = length-take-le (nt * tw) (drop 8 ws) (omega (arith, length-drop 8 ws, table-long))
 
-  records-long : length records ≡ nr * 19
-  records-long = omega (arith, length-drop (8 + nt * tw) ws, l .words)
+  records-long : length records ≡ nr * sw
+  records-long = omega (arith, length-drop (8 + nt * tw) ws, table-long)
 
   -- ---- words
 
   Tilled : List ℕ → Type 0
-  Tilled row = tillToWords nv nb (tillIn 64 nv nb row) ≡ row
+  Tilled row = tillToWords nv nb (tillIn bytes nv nb row) ≡ row
 
   Recorded : List ℕ → Type 0
-  Recorded row = recordToWords (segmentIn 8 row) ≡ row
+  Recorded row = recordToWords (segmentIn n row) ≡ row
 
-  header-is : allZero (take 3 (drop 5 ws)) ≡ true → headerToWords (shapeOf ws) ≡ take 8 ws
-  unfolding headerToWords shapeOf
-  header-is z =
-      ap {B = List ℕ} (λ t. nt ∷ nv ∷ nb ∷ nr ∷ getD ws 4 0 ∷ t) (zeros-eq (take 3 (drop 5 ws)) 3 z (length-take-le 3 (drop 5 ws) (omega (arith, length-drop 5 ws, l .words))))
-      ∙ sym (ap (take 8) (step 0 (omega (arith, l .words))
-      ∙ ap {B = List ℕ} (λ t. nt ∷ t) (step 1 (omega (arith, l .words))
-      ∙ ap {B = List ℕ} (λ t. nv ∷ t) (step 2 (omega (arith, l .words))
-      ∙ ap {B = List ℕ} (λ t. nb ∷ t) (step 3 (omega (arith, l .words))
-      ∙ ap {B = List ℕ} (λ t. nr ∷ t) (step 4 (omega (arith, l .words))))))))
-    where
-      step : (i : ℕ) → i < length ws → drop i ws ≡ getD ws i 0 ∷ drop (i + 1) ws
-      step i h = drop-next ws i 0 h
-
-  words-of : allZero (take 3 (drop 5 ws)) ≡ true → Each Tilled (chunks tw tills) → Each Recorded (chunks 19 records) → stateToWords (shapeOf ws) state ≡ ws
-  unfolding Tilled Recorded stateToWords stateIn shelfIn tillsIn recordsIn shapeOf
+  words-of : headerToWords s ≡ take 8 ws → Each Tilled (chunks tw tills) → Each Recorded (chunks sw records) → stateToWords s state ≡ ws
+  unfolding Tilled Recorded stateToWords stateIn shelfIn tillsIn recordsIn
   words-of z t s =
-      ap₂ _++_ (header-is z)
-      (ap₂ _++_ (rows-chunks (tillToWords nv nb) (tillIn 64 nv nb) tw nt tills tills-long (omega arith) t)
-      (rows-chunks recordToWords (segmentIn 8) 19 nr records records-long (lit< tt) s ∙ sym (drop-drop (nt * tw) 8 ws))
+      ap₂ _++_ z
+      (ap₂ _++_ (rows-chunks (tillToWords nv nb) (tillIn bytes nv nb) tw nt tills tills-long (omega arith) t)
+      (rows-chunks recordToWords (segmentIn n) sw nr records records-long (omega arith) s ∙ sym (drop-drop (nt * tw) 8 ws))
       ∙ take-append-drop (nt * tw) (drop 8 ws))
       ∙ take-append-drop 8 ws
 
-  module _ (e : stateToWords (shapeOf ws) state ≡ ws) where
+  module _ (e : stateToWords s state ≡ ws) where
     abbrev tillRows : List ℕ
-    tillRows = rows (tillToWords nv nb) (map (tillIn 64 nv nb) (chunks tw tills))
+    tillRows = rows (tillToWords nv nb) (map (tillIn bytes nv nb) (chunks tw tills))
 
     abbrev recordRows : List ℕ
-    recordRows = rows recordToWords (map (segmentIn 8) (chunks 19 records))
+    recordRows = rows recordToWords (map (segmentIn n) (chunks sw records))
 
     behind : drop 8 ws ≡ tillRows ++ recordRows
-    unfolding stateToWords headerToWords stateIn shelfIn tillsIn recordsIn shapeOf
+    unfolding stateToWords headerToWords stateIn shelfIn tillsIn recordsIn
     behind = ap (drop 8) (sym e)
 
-    zeros-at : allZero (take 3 (drop 5 ws)) ≡ true
-    unfolding stateToWords headerToWords allZero every
-    zeros-at = ap (λ (x : List ℕ). allZero (take 3 (drop 5 x))) (sym e)
+    header-at : headerToWords s ≡ take 8 ws
+    unfolding stateToWords headerToWords
+    header-at = ap (take 8) e
 
     chunk-tills : chunks tw tills ≡ parts tw nt tills
     chunk-tills = chunks-parts tw nt tills tills-long (omega arith)
 
     tills-rows : length tillRows ≡ nt * tw
     tills-rows =
-        length-rows (tillToWords nv nb) tw (map (tillIn 64 nv nb) (chunks tw tills)) (wide-all (tillToWords nv nb) tw (length-till nv nb) (map (tillIn 64 nv nb) (chunks tw tills)))
-        ∙ ap (λ (n : ℕ). n * tw) (length-map (chunks tw tills) (tillIn 64 nv nb) ∙ ap length chunk-tills ∙ length-parts tw nt tills)
+        length-rows (tillToWords nv nb) tw (map (tillIn bytes nv nb) (chunks tw tills)) (wide-all (tillToWords nv nb) tw (length-till nv nb) (map (tillIn bytes nv nb) (chunks tw tills)))
+        ∙ ap (λ (n : ℕ). n * tw) (length-map (chunks tw tills) (tillIn bytes nv nb) ∙ ap length chunk-tills ∙ length-parts tw nt tills)
 
-    tills-are : rows (tillToWords nv nb) (map (tillIn 64 nv nb) (parts tw nt tills)) ≡ take (nt * tw) tills
+    tills-are : rows (tillToWords nv nb) (map (tillIn bytes nv nb) (parts tw nt tills)) ≡ take (nt * tw) tills
     tills-are =
-        ap (λ (p : List (List ℕ)). rows (tillToWords nv nb) (map (tillIn 64 nv nb) p)) (sym chunk-tills)
+        ap (λ (p : List (List ℕ)). rows (tillToWords nv nb) (map (tillIn bytes nv nb) p)) (sym chunk-tills)
         ∙ sym (take-at tillRows recordRows (nt * tw) tills-rows) ∙ ap (take (nt * tw)) (sym behind) ∙ sym (take-all (nt * tw) tills (omega (arith, tills-long)))
 
     tilled-at : Each Tilled (parts tw nt tills)
     unfolding Tilled
-    tilled-at = rows-fixed (tillToWords nv nb) (tillIn 64 nv nb) tw nt tills (each-all _ (λ x. length-till nv nb (tillIn 64 nv nb x)) (parts tw nt tills)) (omega (arith, tills-long)) tills-are
+    tilled-at = rows-fixed (tillToWords nv nb) (tillIn bytes nv nb) tw nt tills (each-all _ (λ x. length-till nv nb (tillIn bytes nv nb x)) (parts tw nt tills)) (omega (arith, tills-long)) tills-are
 
     tilled-all : Each Tilled (chunks tw tills)
     tilled-all = rw chunk-tills tilled-at
 
-    chunk-records : chunks 19 records ≡ parts 19 nr records
-    chunk-records = chunks-parts 19 nr records records-long (lit< tt)
+    chunk-records : chunks sw records ≡ parts sw nr records
+    chunk-records = chunks-parts sw nr records records-long (omega arith)
 
-    records-are : rows recordToWords (map (segmentIn 8) (parts 19 nr records)) ≡ take (nr * 19) records
+    records-are : rows recordToWords (map (segmentIn n) (parts sw nr records)) ≡ take (nr * sw) records
     records-are =
-        ap (λ (p : List (List ℕ)). rows recordToWords (map (segmentIn 8) p)) (sym chunk-records)
+        ap (λ (p : List (List ℕ)). rows recordToWords (map (segmentIn n) p)) (sym chunk-records)
         ∙ sym (drop-at tillRows recordRows (nt * tw) tills-rows) ∙ ap (drop (nt * tw)) (sym behind) ∙ drop-drop (nt * tw) 8 ws
-        ∙ sym (take-all (nr * 19) records (omega (arith, records-long)))
+        ∙ sym (take-all (nr * sw) records (omega (arith, records-long)))
 
-    recorded-at : Each Recorded (parts 19 nr records)
+    recorded-at : Each Recorded (parts sw nr records)
     unfolding Recorded
     recorded-at =
-        rows-fixed recordToWords (segmentIn 8) 19 nr records
-        (each-weaken (λ (x : List ℕ). length x ≡ 19) (λ x. length (recordToWords (segmentIn 8 x)) ≡ 19) (λ x n. length-record 8 (segmentIn 8 x) (segment-long x n)) (parts 19 nr records)
-        (parts-wide 19 nr records (omega (arith, records-long)))) (omega (arith, records-long)) records-are
+        rows-fixed recordToWords (segmentIn n) sw nr records
+        (each-weaken (λ (x : List ℕ). length x ≡ sw) (λ x. length (recordToWords (segmentIn n x)) ≡ sw) (λ x e. length-record n (segmentIn n x) (segment-long n x e)) (parts sw nr records)
+        (parts-wide sw nr records (omega (arith, records-long)))) (omega (arith, records-long)) records-are
 
-    recorded-all : Each Recorded (chunks 19 records)
+    recorded-all : Each Recorded (chunks sw records)
     recorded-all = rw chunk-records recorded-at
 
   -- ---- soundness
 
-  long-records : Each (λ (x : List ℕ). length x ≡ 19) (chunks 19 records)
-  long-records = rw (chunks-parts 19 nr records records-long (lit< tt)) (parts-wide 19 nr records (omega (arith, records-long)))
+  long-records : Each (λ (x : List ℕ). length x ≡ sw) (chunks sw records)
+  long-records = rw (chunks-parts sw nr records records-long (omega arith)) (parts-wide sw nr records (omega (arith, records-long)))
 
   long-tills : Each (λ (x : List ℕ). length x ≡ tw) (chunks tw tills)
   long-tills = rw (chunks-parts tw nt tills tills-long (omega arith)) (parts-wide tw nt tills (omega (arith, tills-long)))
 
-  long-cells : Each (λ (x : List ℕ). length x ≡ 64) (chunks 64 pool)
-  long-cells = rw (chunks-parts 64 (getD ws 4 0) pool (l .bytes) (lit< tt)) (parts-wide 64 (getD ws 4 0) pool (omega (arith, l .bytes)))
+  long-cells : Each (λ (x : List ℕ). length x ≡ bytes) (chunks bytes pool)
+  long-cells = rw (chunks-parts bytes nc pool pool-long some-bytes) (parts-wide bytes nc pool (omega (arith, pool-long)))
 
-  shaped : isShaped (shapeOf ws) state ≡ true
-  unfolding isShaped stateIn shelfIn tillsIn recordsIn cellsIn shapeOf
+  shaped : isShaped s state ≡ true
+  unfolding isShaped stateIn shelfIn tillsIn recordsIn cellsIn
   shaped =
       all-true _ (
-        eq-eqb _ _ (length-map (chunks tw tills) (tillIn 64 nv nb) ∙ ap length (chunks-parts tw nt tills tills-long (omega arith)) ∙ length-parts tw nt tills),
+        eq-eqb _ _ (length-map (chunks tw tills) (tillIn bytes nv nb) ∙ ap length (chunks-parts tw nt tills tills-long (omega arith)) ∙ length-parts tw nt tills),
         (
-          eq-eqb _ _ (length-map (chunks 19 records) (segmentIn 8) ∙ ap length (chunks-parts 19 nr records records-long (lit< tt)) ∙ length-parts 19 nr records),
+          eq-eqb _ _ (length-map (chunks sw records) (segmentIn n) ∙ ap length (chunks-parts sw nr records records-long (omega arith)) ∙ length-parts sw nr records),
           (
-            each-every (λ (s : Segment). length s ≡ 8) (λ s. eqb (length s) 8) (λ s. eq-eqb (length s) 8) (map (segmentIn 8) (chunks 19 records))
-                (each-map (λ (s : Segment). length s ≡ 8) (segmentIn 8) (chunks 19 records) (each-weaken (λ (x : List ℕ). length x ≡ 19) (λ x. length (segmentIn 8 x) ≡ 8) segment-long (chunks 19 records) long-records)),
+            each-every (λ (g : Segment). length g ≡ n) (λ g. eqb (length g) n) (λ g. eq-eqb (length g) n) (map (segmentIn n) (chunks sw records))
+                (each-map (λ (g : Segment). length g ≡ n) (segmentIn n) (chunks sw records) (each-weaken (λ (x : List ℕ). length x ≡ sw) (λ x. length (segmentIn n x) ≡ n) (segment-long n) (chunks sw records) long-records)),
             (
-              eq-eqb _ _ (ap length (chunks-parts 64 (getD ws 4 0) pool (l .bytes) (lit< tt)) ∙ length-parts 64 (getD ws 4 0) pool),
-              (each-every (λ (x : Block). length x ≡ 64) (λ x. eqb (length x) 64) (λ x. eq-eqb (length x) 64) (chunks 64 pool) long-cells, tt),
+              eq-eqb _ _ (ap length (chunks-parts bytes nc pool pool-long some-bytes) ∙ length-parts bytes nc pool),
+              (each-every (λ (x : Block). length x ≡ bytes) (λ x. eqb (length x) bytes) (λ x. eq-eqb (length x) bytes) (chunks bytes pool) long-cells, tt),
             ),
           ),
         ),
       )
 
   -- what is asked of every till and every record, as a list
-  tills-each : ((t : ℕ) → t < nt → TillSays shelf nv nb (take tw (drop (t * tw) tills))) → Each (TillSays shelf nv nb) (chunks tw tills)
-  tills-each f = rw (chunks-parts tw nt tills tills-long (omega arith)) (each-part (TillSays shelf nv nb) tw nt tills f)
+  tills-each : ((t : ℕ) → t < nt → TillSays bytes shelf nv nb (take tw (drop (t * tw) tills))) → Each (TillSays bytes shelf nv nb) (chunks tw tills)
+  tills-each f = rw (chunks-parts tw nt tills tills-long (omega arith)) (each-part (TillSays bytes shelf nv nb) tw nt tills f)
 
-  each-tills : Each (TillSays shelf nv nb) (chunks tw tills) → (t : ℕ) → t < nt → TillSays shelf nv nb (take tw (drop (t * tw) tills))
-  each-tills e = part-each (TillSays shelf nv nb) tw nt tills (rw (chunks-parts tw nt tills tills-long (omega arith)) at e)
+  each-tills : Each (TillSays bytes shelf nv nb) (chunks tw tills) → (t : ℕ) → t < nt → TillSays bytes shelf nv nb (take tw (drop (t * tw) tills))
+  each-tills e = part-each (TillSays bytes shelf nv nb) tw nt tills (rw (chunks-parts tw nt tills tills-long (omega arith)) at e)
 
-  small-tills : Each (TillSays shelf nv nb) (chunks tw tills) → Each (SmallTill nv nb) (map (tillIn 64 nv nb) (chunks tw tills))
+  small-tills : Each (TillSays bytes shelf nv nb) (chunks tw tills) → Each (SmallTill nv nb) (map (tillIn bytes nv nb) (chunks tw tills))
   small-tills e =
-      each-map (SmallTill nv nb) (tillIn 64 nv nb) (chunks tw tills)
-      (with-long (TillSays shelf nv nb) (λ x. SmallTill nv nb (tillIn 64 nv nb x)) tw (λ x n t. till-small caps shelf x n (r .versions) (r .blocks) t) (chunks tw tills) long-tills e)
+      each-map (SmallTill nv nb) (tillIn bytes nv nb) (chunks tw tills)
+      (with-long (TillSays bytes shelf nv nb) (λ x. SmallTill nv nb (tillIn bytes nv nb x)) tw (λ x e t. till-small s some-bytes shelf x e (ok .mostBytes) few-versions few-blocks t) (chunks tw tills) long-tills e)
 
-  counted : Each (TillSays shelf nv nb) (chunks tw tills) → Each Tilled (chunks tw tills) → (k i : ℕ) → k < length records / 19 → i < 8
-      → pointersTo (k * 16 + i) tills ≡ count (leadsTo k i) (allPointers (map (tillIn 64 nv nb) (chunks tw tills)))
+  counted : Each (TillSays bytes shelf nv nb) (chunks tw tills) → Each Tilled (chunks tw tills) → (k i : ℕ) → k < length records / sw → i < n
+      → pointersTo (k * 16 + i) tills ≡ count (leadsTo k i) (allPointers (map (tillIn bytes nv nb) (chunks tw tills)))
   unfolding Tilled
   counted e s k i hk hi =
-      let few : k < 4096 = omega (arith, hk, records-long, r .records) in
-      ap (pointersTo (k * 16 + i)) (sym (rows-chunks (tillToWords nv nb) (tillIn 64 nv nb) tw nt tills tills-long (omega arith) s))
-      ∙ tills-count k i (omega (arith, hi)) (omega (arith, few, hi)) nv nb (map (tillIn 64 nv nb) (chunks tw tills)) (small-tills e)
+      let few : k < 4096 = omega (arith, hk, rows-few (length records) sw (omega arith) nr (omega (arith, records-long)), few-records) in
+      ap (pointersTo (k * 16 + i)) (sym (rows-chunks (tillToWords nv nb) (tillIn bytes nv nb) tw nt tills tills-long (omega arith) s))
+      ∙ tills-count k i (omega (arith, hi, ok .mostBlocks)) (omega (arith, few, hi, ok .mostBlocks)) nv nb (map (tillIn bytes nv nb) (chunks tw tills)) (small-tills e)
 
-  module _ (b : Body pool tills records nt nv nb) where
-    says : Each (TillSays shelf nv nb) (chunks tw tills)
+  module _ (b : Body (s .measures) pool tills records nt nv nb) where
+    says : Each (TillSays bytes shelf nv nb) (chunks tw tills)
     says = tills-each (b .tillsSay)
 
-    fines : Each (TillFine caps shelf) (chunks tw tills)
-    fines = with-long (TillSays shelf nv nb) (TillFine caps shelf) tw (λ x n t. till-fine caps shelf x n t) (chunks tw tills) long-tills says
+    fines : Each (TillFine s shelf) (chunks tw tills)
+    fines = with-long (TillSays bytes shelf nv nb) (TillFine s shelf) tw (λ x e t. till-fine s some-bytes shelf x e t) (chunks tw tills) long-tills says
 
-    record-fines : Each RecordSays (chunks 19 records)
-    record-fines = with-long RecordForm RecordSays 19 record-says (chunks 19 records) long-records (b .forms)
+    record-fines : Each (RecordSays n) (chunks sw records)
+    record-fines = with-long (RecordForm n) (RecordSays n) sw (record-says n) (chunks sw records) long-records (b .forms)
 
     tilled : Each Tilled (chunks tw tills)
     unfolding Tilled
-    tilled = each-weaken (TillFine caps shelf) (λ x. tillToWords nv nb (tillIn 64 nv nb x) ≡ x) (λ x f. f .words) (chunks tw tills) fines
+    tilled = each-weaken (TillFine s shelf) (λ x. tillToWords nv nb (tillIn bytes nv nb x) ≡ x) (λ x f. f .words) (chunks tw tills) fines
 
-    recorded : Each Recorded (chunks 19 records)
+    recorded : Each Recorded (chunks sw records)
     unfolding Recorded
-    recorded = each-weaken RecordSays (λ x. recordToWords (segmentIn 8 x) ≡ x) (λ x f. f .words) (chunks 19 records) record-fines
+    recorded = each-weaken (RecordSays n) (λ x. recordToWords (segmentIn n x) ≡ x) (λ x f. f .words) (chunks sw records) record-fines
 
-    body-sound : isSound (shapeOf ws) state ≡ true
-    unfolding isSound stateIn tillsIn shapeOf
+    body-sound : isSound s state ≡ true
+    unfolding isSound stateIn tillsIn
     body-sound =
         all-true _ (
-          range-of ws r,
+          in-range,
           (
             shaped,
             (
@@ -266,108 +289,75 @@ module _ (pool ws : List ℕ) (r : Ranges ws) (l : Lengths pool ws) where
           ),
         )
       where
-        right : allCounted (allPointers (map (tillIn 64 nv nb) (chunks tw tills))) 0 (shelf .records) ≡ true
-        right = unfold shelfIn in counts-sound (allPointers (map (tillIn 64 nv nb) (chunks tw tills))) tills records (counted says tilled) (b .counts)
+        right : allCounted (allPointers (map (tillIn bytes nv nb) (chunks tw tills))) 0 (shelf .records) ≡ true
+        right = unfold shelfIn in counts-sound n (allPointers (map (tillIn bytes nv nb) (chunks tw tills))) tills records (counted says tilled) (b .counts)
 
         used : every isUsed (shelf .records) ≡ true
-        used = unfold shelfIn recordsIn in each-every (λ s. isUsed s ≡ true) isUsed (λ s e. e) (map (segmentIn 8) (chunks 19 records)) (each-map (λ s. isUsed s ≡ true) (segmentIn 8) (chunks 19 records) (each-weaken RecordSays (λ x. isUsed (segmentIn 8 x) ≡ true) (λ x f. f .used) (chunks 19 records) record-fines))
+        used = unfold shelfIn recordsIn in each-every (λ g. isUsed g ≡ true) isUsed (λ g e. e) (map (segmentIn n) (chunks sw records)) (each-map (λ g. isUsed g ≡ true) (segmentIn n) (chunks sw records) (each-weaken (RecordSays n) (λ x. isUsed (segmentIn n x) ≡ true) (λ x f. f .used) (chunks sw records) record-fines))
 
-        every-till : every (isTill (shapeFor caps) shelf) (map (tillIn 64 nv nb) (chunks tw tills)) ≡ true
-        every-till = each-every (λ t. isTill (shapeFor caps) shelf t ≡ true) (isTill (shapeFor caps) shelf) (λ t e. e) (map (tillIn 64 nv nb) (chunks tw tills)) (each-map (λ t. isTill (shapeFor caps) shelf t ≡ true) (tillIn 64 nv nb) (chunks tw tills) (each-weaken (TillFine caps shelf) (λ x. isTill (shapeFor caps) shelf (tillIn 64 nv nb x) ≡ true) (λ x f. f .sound) (chunks tw tills) fines))
+        every-till : every (isTill s shelf) (map (tillIn bytes nv nb) (chunks tw tills)) ≡ true
+        every-till = each-every (λ t. isTill s shelf t ≡ true) (isTill s shelf) (λ t e. e) (map (tillIn bytes nv nb) (chunks tw tills)) (each-map (λ t. isTill s shelf t ≡ true) (tillIn bytes nv nb) (chunks tw tills) (each-weaken (TillFine s shelf) (λ x. isTill s shelf (tillIn bytes nv nb x) ≡ true) (λ x f. f .sound) (chunks tw tills) fines))
 
   -- back
-  module _ (tilled : Each Tilled (chunks tw tills)) (recorded : Each Recorded (chunks 19 records)) (h : isSound (shapeOf ws) state ≡ true) where
-    used-at : every isUsed (map (segmentIn 8) (chunks 19 records)) ≡ true
-    unfolding isSound stateIn shelfIn recordsIn shapeOf
-    used-at = clause _ 2 h
+  module _ (tilled : Each Tilled (chunks tw tills)) (recorded : Each Recorded (chunks sw records)) (sound : isSound s state ≡ true) where
+    used-at : every isUsed (map (segmentIn n) (chunks sw records)) ≡ true
+    unfolding isSound stateIn shelfIn recordsIn
+    used-at = clause _ 2 sound
 
-    every-till : every (isTill (shapeFor caps) shelf) (map (tillIn 64 nv nb) (chunks tw tills)) ≡ true
-    unfolding isSound stateIn tillsIn shapeOf
-    every-till = clause _ 4 h
+    every-till : every (isTill s shelf) (map (tillIn bytes nv nb) (chunks tw tills)) ≡ true
+    unfolding isSound stateIn tillsIn
+    every-till = clause _ 4 sound
 
-    right-at : allCounted (allPointers (map (tillIn 64 nv nb) (chunks tw tills))) 0 (recordsIn 8 records) ≡ true
-    unfolding isSound stateIn tillsIn shelfIn shapeOf
-    right-at = clause _ 5 h
+    right-at : allCounted (allPointers (map (tillIn bytes nv nb) (chunks tw tills))) 0 (recordsIn n records) ≡ true
+    unfolding isSound stateIn tillsIn shelfIn
+    right-at = clause _ 5 sound
 
     cells-at : CellsSay shelf
-    unfolding isSound stateIn shapeOf
-    cells-at = record { named = clause _ 3 h; filled = clause _ 6 h }
+    unfolding isSound stateIn
+    cells-at = record { named = clause _ 3 sound; filled = clause _ 6 sound }
 
-    says-at : Each (TillSays shelf nv nb) (chunks tw tills)
+    says-at : Each (TillSays bytes shelf nv nb) (chunks tw tills)
     unfolding Tilled
     says-at =
-        with-long (TillFine caps shelf) (TillSays shelf nv nb) tw (λ x n f. fine-till caps shelf x n f) (chunks tw tills) long-tills
-        (each-weaken (λ x. (tillToWords nv nb (tillIn 64 nv nb x) ≡ x) × (isTill (shapeFor caps) shelf (tillIn 64 nv nb x) ≡ true)) (TillFine caps shelf) (λ x p. record { words = p .0; sound = p .1 }) (chunks tw tills)
-        (each-both (λ x. tillToWords nv nb (tillIn 64 nv nb x) ≡ x) (λ x. isTill (shapeFor caps) shelf (tillIn 64 nv nb x) ≡ true) (chunks tw tills) tilled
-        (every-each (λ x. isTill (shapeFor caps) shelf (tillIn 64 nv nb x)) (λ x. isTill (shapeFor caps) shelf (tillIn 64 nv nb x) ≡ true) (λ x e. e) (chunks tw tills)
-        (sym (every-map (isTill (shapeFor caps) shelf) (tillIn 64 nv nb) (chunks tw tills)) ∙ every-till))))
+        with-long (TillFine s shelf) (TillSays bytes shelf nv nb) tw (λ x e f. fine-till s some-bytes shelf x e f) (chunks tw tills) long-tills
+        (each-weaken (λ x. (tillToWords nv nb (tillIn bytes nv nb x) ≡ x) × (isTill s shelf (tillIn bytes nv nb x) ≡ true)) (TillFine s shelf) (λ x p. record { words = p .0; sound = p .1 }) (chunks tw tills)
+        (each-both (λ x. tillToWords nv nb (tillIn bytes nv nb x) ≡ x) (λ x. isTill s shelf (tillIn bytes nv nb x) ≡ true) (chunks tw tills) tilled
+        (every-each (λ x. isTill s shelf (tillIn bytes nv nb x)) (λ x. isTill s shelf (tillIn bytes nv nb x) ≡ true) (λ x e. e) (chunks tw tills)
+        (sym (every-map (isTill s shelf) (tillIn bytes nv nb) (chunks tw tills)) ∙ every-till))))
 
-    forms-at : Each RecordForm (chunks 19 records)
+    forms-at : Each (RecordForm n) (chunks sw records)
     unfolding Recorded
     forms-at =
-        with-long RecordSays RecordForm 19 says-record (chunks 19 records) long-records
-        (each-weaken (λ x. (recordToWords (segmentIn 8 x) ≡ x) × (isUsed (segmentIn 8 x) ≡ true)) RecordSays (λ x p. record { words = p .0; used = p .1 }) (chunks 19 records)
-        (each-both (λ x. recordToWords (segmentIn 8 x) ≡ x) (λ x. isUsed (segmentIn 8 x) ≡ true) (chunks 19 records) recorded
-        (every-each (λ x. isUsed (segmentIn 8 x)) (λ x. isUsed (segmentIn 8 x) ≡ true) (λ x e. e) (chunks 19 records) (sym (every-map isUsed (segmentIn 8) (chunks 19 records)) ∙ used-at))))
+        with-long (RecordSays n) (RecordForm n) sw (says-record n) (chunks sw records) long-records
+        (each-weaken (λ x. (recordToWords (segmentIn n x) ≡ x) × (isUsed (segmentIn n x) ≡ true)) (RecordSays n) (λ x p. record { words = p .0; used = p .1 }) (chunks sw records)
+        (each-both (λ x. recordToWords (segmentIn n x) ≡ x) (λ x. isUsed (segmentIn n x) ≡ true) (chunks sw records) recorded
+        (every-each (λ x. isUsed (segmentIn n x)) (λ x. isUsed (segmentIn n x) ≡ true) (λ x e. e) (chunks sw records) (sym (every-map isUsed (segmentIn n) (chunks sw records)) ∙ used-at))))
 
-    sound-body : Body pool tills records nt nv nb
+    sound-body : Body (s .measures) pool tills records nt nv nb
     sound-body = record {
       forms = forms-at;
       cells = cells-at;
       tillsSay = each-tills says-at;
-      counts = sound-counts (allPointers (map (tillIn 64 nv nb) (chunks tw tills))) tills records (counted says-at tilled) right-at;
+      counts = sound-counts n (allPointers (map (tillIn bytes nv nb) (chunks tw tills))) tills records (counted says-at tilled) right-at;
     }
 
--- ---- the store
+  -- ---- the store
 
-pub record Good (pool ws : List ℕ) : Type 0 where
-  pub header : Header pool ws
-  pub body : Body pool (tillsPart (shapeOf ws .capacities) ws) (recordsPart (shapeOf ws .capacities) ws) (getD ws 0 0) (getD ws 1 0) (getD ws 2 0)
+  pub body-store : headerToWords s ≡ take 8 ws → Body (s .measures) pool tills records nt nv nb → isSome (storeAs s pool ws) ≡ true
+  unfolding storeAs ifSound
+  body-store z b =
+      let e : stateToWords s state ≡ ws = words-of z (tilled b) (recorded b) in
+      some-of (hasLengths s pool ws) _ _ h
+      (all-true (sameNumbers (stateToWords s state) ws ∷ isSound s state ∷ []) (ap (λ (x : List ℕ). sameNumbers x ws) e ∙ same-refl ws, (body-sound b, tt)))
 
-abbrev Whole : List ℕ → List ℕ → Type 0
-Whole pool ws = Body pool (take (getD ws 0 0 * tillWords (getD ws 1 0) (getD ws 2 0)) (drop 8 ws)) (drop (recordsAt (getD ws 0 0) (getD ws 1 0) (getD ws 2 0)) ws) (getD ws 0 0) (getD ws 1 0) (getD ws 2 0)
+  pub store-body : isSome (storeAs s pool ws) ≡ true → (headerToWords s ≡ take 8 ws) × Body (s .measures) pool tills records nt nv nb
+  unfolding storeAs ifSound
+  store-body g =
+      let q = of-some (hasLengths s pool ws) _ _ g .1 in
+      let e : stateToWords s state ≡ ws = same-eq _ _ (clause _ 0 q) in
+      (header-at e, sound-body (tilled-all e) (recorded-all e) (clause _ 1 q))
 
-good-body : (pool ws : List ℕ) → Good pool ws → Whole pool ws
-unfolding shapeOf
-good-body pool ws g = g .body
-
-body-good : (pool ws : List ℕ) → Header pool ws → Whole pool ws → Good pool ws
-unfolding shapeOf
-body-good pool ws h b = record { header = h; body = b }
-
-pub good-store : (pool ws : List ℕ) → Good pool ws → isSome (storeOf pool ws) ≡ true
-unfolding storeOf storeAs ifSound
-good-store pool ws g =
-    let r = g .header .ranges in
-    let l = g .header .lengths in
-    let b : Whole pool ws = good-body pool ws g in
-    let e : stateToWords (shapeOf ws) (stateIn (shapeOf ws) pool ws) ≡ ws = words-of pool ws r l (g .header .zeros) (tilled pool ws r l b) (recorded pool ws r l b) in
-    some-of (hasLengths (shapeOf ws) pool ws) _ _ (lengths-of pool ws r l)
-    (all-true (sameNumbers (stateToWords (shapeOf ws) (stateIn (shapeOf ws) pool ws)) ws ∷ isSound (shapeOf ws) (stateIn (shapeOf ws) pool ws) ∷ [])
-    (ap (λ (x : List ℕ). sameNumbers x ws) e ∙ same-refl ws, (body-sound pool ws r l b, tt)))
-
-pub store-good : (pool ws : List ℕ) → isSome (storeOf pool ws) ≡ true → Good pool ws
-unfolding storeOf storeAs ifSound
-store-good pool ws h =
-    let p = of-some (hasLengths (shapeOf ws) pool ws) _ _ h in
-    let q = lengths-at pool ws (p .0) in
-    let r = q .0 in
-    let l = q .1 in
-    let e : stateToWords (shapeOf ws) (stateIn (shapeOf ws) pool ws) ≡ ws = same-eq _ _ (clause _ 0 (p .1)) in
-    let b : Whole pool ws = sound-body pool ws r l (tilled-all pool ws r l e) (recorded-all pool ws r l e) (clause _ 1 (p .1)) in
-    body-good pool ws (record { ranges = r; lengths = l; zeros = zeros-at pool ws r l e }) b
-
-same-test : (r b : Bool) (P : Type 0) → Tells r P → (P → b ≡ true) → (b ≡ true → P) → r ≡ b
-same-test true b P t f g = sym (f (t .holds refl))
-same-test false true P t f g = t .seen (g refl)
-same-test false false P t f g = refl
-
--- the answers of the two checks, one after the other
-module _ {r : Bool} (pool ws : List ℕ) where
-  pub no-header : Tells r (Header pool ws) → r ≡ false → false ≡ isSome (storeOf pool ws)
-  no-header h e = same-test false _ (Good pool ws) (is-not (λ g. denies h e (g .header))) (good-store pool ws) (store-good pool ws)
-
-  pub with-header : {t : Bool} → Tells r (Header pool ws) → r ≡ true
-      → Tells t (Body pool (tillsPart (shapeOf ws .capacities) ws) (recordsPart (shapeOf ws .capacities) ws) (getD ws 0 0) (getD ws 1 0) (getD ws 2 0)) → t ≡ isSome (storeOf pool ws)
-  with-header {t} h e b =
-      same-test t _ (Good pool ws) (same-as (λ x. record { header = h .holds e; body = x }) (λ g. g .body) b) (good-store pool ws) (store-good pool ws)
+-- a store has its lengths
+pub store-long : (s : Shape) (pool ws : List ℕ) → isSome (storeAs s pool ws) ≡ true → hasLengths s pool ws ≡ true
+unfolding storeAs
+store-long s pool ws g = first-of (hasLengths s pool ws) (ifSound s ws (stateIn s pool ws)) g

@@ -2,16 +2,18 @@
 ghost use mathlib.Core.Bool.{false};
 ghost use mathlib.Core.Path.{_≡_};
 ghost use Prim.Native.Nat.{ℕ, _+_, _*_, _≤_, _<_};
-ghost use lib.ListN.{length, getD, take, drop};
+ghost use lib.ListN.{length, take, drop};
 ghost use Rattle.lists.specs.Lists.{isSome};
 ghost use Rattle.lists.specs.Tells.{Tells};
-ghost use Rattle.model.specs.Measures.{baseMeasures, tillWords, recordsAt};
-ghost use Rattle.model.specs.Table.{shelfIn, shapeOf, tillsPart, recordsPart};
+ghost use Rattle.model.specs.Measures.{tillWords, recordWords, recordsAt};
+ghost use Rattle.model.specs.Table.{shelfIn};
 ghost use Rattle.model.specs.Sound.{storeOf};
+ghost use Rattle.laws.specs.Ranges.{Measured};
+ghost use Rattle.numbers.specs.Measures.{measuresOf};
 ghost use Rattle.audit_counts.specs.Counters.{CountsSay};
-ghost use Rattle.audit_header.specs.Header.{Header};
 ghost use Rattle.audit_tills.specs.Says.{TillSays};
-ghost use Rattle.audit.specs.Good.{Body};
+ghost use Rattle.audit.specs.Good.{Sized, Body, TableBody};
+use numbers::Measures;
 
 // Whether the tills' words are in order, and the records' counts those of their direct pointers.
 fn counted_good(
@@ -21,15 +23,25 @@ fn counted_good(
     count: usize,
     versions: usize,
     blocks: usize,
+    m: Measures,
 ) -> bool
-    requires { ⌜ (count ≤ 16) × (versions ≤ 64) × (blocks ≤ 1024) × (length (now tills) ≡ count * tillWords versions blocks) × (length (now tills) ≤ 2000000) × (length (now records) ≤ 77824) ⌝ }
-    ensures { λ r. ⌜ Tells r (((t : ℕ) → t < count → TillSays (shelfIn baseMeasures (now (pool .entry)) (now (records .entry))) versions blocks (take (tillWords versions blocks) (drop (t * tillWords versions blocks) (now (tills .entry))))) × CountsSay (now (tills .entry)) (now (records .entry))) ⌝ }
+    requires { ⌜ Measured (measuresOf m) × (count ≤ 16) × (versions ≤ 64) × (blocks ≤ 1024) × (length (now tills) ≡ count * tillWords versions blocks) × (length (now tills) ≤ 2000000) × (length (now records) ≤ 4096 * recordWords (m .blocks)) ⌝ }
+    ensures { λ r. ⌜ Tells r (((t : ℕ) → t < count → TillSays (m .bytes) (shelfIn (measuresOf m) (now (pool .entry)) (now (records .entry))) versions blocks (take (tillWords versions blocks) (drop (t * tillWords versions blocks) (now (tills .entry))))) × CountsSay (m .blocks) (now (tills .entry)) (now (records .entry))) ⌝ }
 {
     let mut counts = [0u32; 65536];
-    if !audit_tills::tills_say(pool, records, tills, count, versions, blocks, &mut counts) {
+    if !audit_tills::tills_say(
+        pool,
+        records,
+        tills,
+        count,
+        versions,
+        blocks,
+        &mut counts,
+        m,
+    ) {
         return false;
     }
-    audit_counts::records_counts(records, &counts)
+    audit_counts::records_counts(records, &counts, m.blocks)
 }
 
 // Whether the tills' and the records' words and the pool's bytes are those of a sound store.
@@ -40,17 +52,18 @@ fn parts_good(
     count: usize,
     versions: usize,
     blocks: usize,
+    m: Measures,
 ) -> bool
-    requires { ⌜ (count ≤ 16) × (versions ≤ 64) × (blocks ≤ 1024) × (length (now tills) ≡ count * tillWords versions blocks) × (length (now tills) ≤ 2000000) × (length (now records) ≤ 77824) × (length (now pool) ≤ 2097152) ⌝ }
-    ensures { λ r. ⌜ Tells r (Body (now (pool .entry)) (now (tills .entry)) (now (records .entry)) count versions blocks) ⌝ }
+    requires { ⌜ Measured (measuresOf m) × (count ≤ 16) × (versions ≤ 64) × (blocks ≤ 1024) × (length (now tills) ≡ count * tillWords versions blocks) × (length (now tills) ≤ 2000000) × (length (now records) ≤ 4096 * recordWords (m .blocks)) × (length (now pool) ≤ 32768 * m .bytes) ⌝ }
+    ensures { λ r. ⌜ Tells r (Body (measuresOf m) (now (pool .entry)) (now (tills .entry)) (now (records .entry)) count versions blocks) ⌝ }
 {
-    if !audit_words::records_form(records) {
+    if !audit_words::records_form(records, m.blocks) {
         return false;
     }
-    if !audit_cells::cells_say(pool, records) {
+    if !audit_cells::cells_say(pool, records, m) {
         return false;
     }
-    counted_good(pool, tills, records, count, versions, blocks)
+    counted_good(pool, tills, records, count, versions, blocks, m)
 }
 
 // Where the records begin.
@@ -62,10 +75,10 @@ fn records_at(tills: usize, versions: usize, blocks: usize) -> usize
     8 + tills * width
 }
 
-// The same, from a header in order.
-fn body_good(pool: &[u8], table: &[u32]) -> bool
-    requires { ⌜ Header (now pool) (now table) ⌝ }
-    ensures { λ r. ⌜ Tells r (Body (now (pool .entry)) (tillsPart (shapeOf (now (table .entry)) .capacities) (now (table .entry))) (recordsPart (shapeOf (now (table .entry)) .capacities) (now (table .entry))) (getD (now (table .entry)) 0 0) (getD (now (table .entry)) 1 0) (getD (now (table .entry)) 2 0)) ⌝ }
+// The same, of a table whose capacities are in range, and of buffers of their lengths.
+fn body_good(pool: &[u8], table: &[u32], m: Measures) -> bool
+    requires { ⌜ Measured (measuresOf m) × Sized (measuresOf m) (now pool) (now table) ⌝ }
+    ensures { λ r. ⌜ Tells r (TableBody (measuresOf m) (now (pool .entry)) (now (table .entry))) ⌝ }
 {
     let tills = table[0] as usize;
     let versions = table[1] as usize;
@@ -78,6 +91,7 @@ fn body_good(pool: &[u8], table: &[u32]) -> bool
         tills,
         versions,
         blocks,
+        m,
     )
 }
 
@@ -88,5 +102,6 @@ pub fn sound(pool: &[u8], table: &[u32]) -> bool
     if !audit_header::header(pool, table) {
         return false;
     }
-    body_good(pool, table)
+    let m = layout::measures_in(table);
+    body_good(pool, table, m)
 }

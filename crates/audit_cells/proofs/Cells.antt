@@ -13,7 +13,7 @@ use Rattle.lists.proofs.Checkers.{clash}
 use Rattle.lists.proofs.Tests.{clause, all-true}
 use Rattle.lists.proofs.Cuts.{length-chunks, chunk-at, length-read}
 use Rattle.model.specs.State.{Block, nullPosition, held, removed, Segment}
-use Rattle.model.specs.Measures.{baseMeasures}
+use Rattle.model.specs.Measures.{Measures, recordWords}
 use Rattle.model.specs.Records.{cellsOf, namedCells}
 use Rattle.model.specs.Table.{segmentIn, recordsIn, cellsIn, shelfIn}
 use Rattle.model.specs.Sound.{hasCells, areFilled}
@@ -32,30 +32,30 @@ cells-of (held c n ∷ seg) = ap {B = List ℕ} (λ l. c ∷ l) (cells-of seg)
 cells-of (removed ∷ seg) = cells-of seg
 
 -- of position i
-abbrev pub cells-at : List ℕ → ℕ → List ℕ
-cells-at row i = cellsOf (getD (segmentIn 8 row) i nullPosition ∷ [])
+abbrev pub cells-at : ℕ → List ℕ → ℕ → List ℕ
+cells-at n row i = cellsOf (getD (segmentIn n row) i nullPosition ∷ [])
 
 -- of record k
-abbrev pub cells-in : List ℕ → ℕ → List ℕ
-cells-in ws k = cellsOf (segmentIn 8 (take 19 (drop (k * 19) ws)))
+abbrev pub cells-in : ℕ → List ℕ → ℕ → List ℕ
+cells-in n ws k = cellsOf (segmentIn n (take (recordWords n) (drop (k * recordWords n) ws)))
 
 -- by position
-pub record-cells : (seg : Segment) → length seg ≡ 8 → collect (λ i. cellsOf (getD seg i nullPosition ∷ [])) 0 8 ≡ cellsOf seg
+pub record-cells : (n : ℕ) (seg : Segment) → length seg ≡ n → collect (λ i. cellsOf (getD seg i nullPosition ∷ [])) 0 n ≡ cellsOf seg
 unfolding cellsOf
-record-cells seg l =
+record-cells n seg l =
     ap (collect (λ i. cellsOf (getD seg i nullPosition ∷ [])) 0) (sym (length-map seg (λ p. cellsOf (p ∷ [])) ∙ l))
     ∙ collect-at (λ i. cellsOf (getD seg i nullPosition ∷ [])) [] (map (λ p. cellsOf (p ∷ [])) seg) (λ j h. sym (List·getD-map (λ p. cellsOf (p ∷ [])) seg j nullPosition))
     ∙ cells-of seg
 
 -- by record
-pub all-cells : (ws : List ℕ) (n : ℕ) → n ≡ length ws / 19 → collect (cells-in ws) 0 n ≡ namedCells (recordsIn 8 ws)
+pub all-cells : (n : ℕ) (ws : List ℕ) (c : ℕ) → c ≡ length ws / recordWords n → collect (cells-in n ws) 0 c ≡ namedCells (recordsIn n ws)
 unfolding namedCells recordsIn
-all-cells ws n e =
-    let l : length (map cellsOf (map (segmentIn 8) (chunks 19 ws))) ≡ length ws / 19 = length-map (map (segmentIn 8) (chunks 19 ws)) cellsOf ∙ length-read (segmentIn 8) 19 ws in
-    ap (collect (cells-in ws) 0) (e ∙ sym l)
-    ∙ collect-at (cells-in ws) (cellsOf (segmentIn 8 [])) (map cellsOf (map (segmentIn 8) (chunks 19 ws)))
-    (λ j h. sym (List·getD-map cellsOf (map (segmentIn 8) (chunks 19 ws)) j (segmentIn 8 []) ∙ ap cellsOf (List·getD-map (segmentIn 8) (chunks 19 ws) j [])
-    ∙ ap (λ (r : List ℕ). cellsOf (segmentIn 8 r)) (chunk-at 19 ws j (rw l at h))))
+all-cells n ws c e =
+    let l : length (map cellsOf (map (segmentIn n) (chunks (recordWords n) ws))) ≡ length ws / recordWords n = length-map (map (segmentIn n) (chunks (recordWords n) ws)) cellsOf ∙ length-read (segmentIn n) (recordWords n) ws in
+    ap (collect (cells-in n ws) 0) (e ∙ sym l)
+    ∙ collect-at (cells-in n ws) (cellsOf (segmentIn n [])) (map cellsOf (map (segmentIn n) (chunks (recordWords n) ws)))
+    (λ j h. sym (List·getD-map cellsOf (map (segmentIn n) (chunks (recordWords n) ws)) j (segmentIn n []) ∙ ap cellsOf (List·getD-map (segmentIn n) (chunks (recordWords n) ws) j [])
+    ∙ ap (λ (r : List ℕ). cellsOf (segmentIn n r)) (chunk-at (recordWords n) ws j (rw l at h))))
 
 -- ---- areFilled
 
@@ -90,52 +90,52 @@ filled-at named i (b ∷ bs) h (suc k) g =
 -- ---- CellsSay
 
 -- by the marks that are made from none, and by the bytes
-pub record Marked (m : ℕ) (pool ws : List ℕ) : Type 0 where
-  pub named : fits (length pool / 64) (namedCells (recordsIn 8 ws)) (replicate m false) ≡ true
-  pub filled : (c : ℕ) → c < length pool / 64
-      → getD (marked (namedCells (recordsIn 8 ws)) (replicate m false)) c false ≡ not (allZero (take 64 (drop (c * 64) pool)))
+pub record Marked (sz : Measures) (m : ℕ) (pool ws : List ℕ) : Type 0 where
+  pub named : fits (length pool / sz .blockBytes) (namedCells (recordsIn (sz .segmentBlocks) ws)) (replicate m false) ≡ true
+  pub filled : (c : ℕ) → c < length pool / sz .blockBytes
+      → getD (marked (namedCells (recordsIn (sz .segmentBlocks) ws)) (replicate m false)) c false ≡ not (allZero (take (sz .blockBytes) (drop (c * sz .blockBytes) pool)))
 
-module _ (m : ℕ) (pool ws : List ℕ) (most : length pool / 64 ≤ m) where
+module _ (sz : Measures) (m : ℕ) (pool ws : List ℕ) (most : length pool / sz .blockBytes ≤ m) where
   abbrev named : List ℕ
-  named = namedCells (recordsIn 8 ws)
+  named = namedCells (recordsIn (sz .segmentBlocks) ws)
 
-  cells-long : length (cellsIn 64 pool) ≡ length pool / 64
+  cells-long : length (cellsIn (sz .blockBytes) pool) ≡ length pool / sz .blockBytes
   unfolding cellsIn
-  cells-long = length-chunks 64 pool
+  cells-long = length-chunks (sz .blockBytes) pool
 
-  cell-is : (k : ℕ) → k < length pool / 64 → getD (cellsIn 64 pool) k [] ≡ take 64 (drop (k * 64) pool)
+  cell-is : (k : ℕ) → k < length pool / sz .blockBytes → getD (cellsIn (sz .blockBytes) pool) k [] ≡ take (sz .blockBytes) (drop (k * sz .blockBytes) pool)
   unfolding cellsIn
-  cell-is k h = chunk-at 64 pool k h
+  cell-is k h = chunk-at (sz .blockBytes) pool k h
 
-  pub marked-say : Marked m pool ws → CellsSay (shelfIn baseMeasures pool ws)
+  pub marked-say : Marked sz m pool ws → CellsSay (shelfIn sz pool ws)
   unfolding shelfIn hasCells
   marked-say s =
-      let p : Apart (length pool / 64) named (replicate m false) = fits-apart (length pool / 64) named (replicate m false) (rw (length-replicate m false) most) (s .named) in
+      let p : Apart (length pool / sz .blockBytes) named (replicate m false) = fits-apart (length pool / sz .blockBytes) named (replicate m false) (rw (length-replicate m false) most) (s .named) in
       record {
         named = all-true _ (rw cells-long (p .below), (p .apart, tt));
-        filled = filled-of named 0 (cellsIn 64 pool) (λ k h.
-            let g : k < length pool / 64 = rw cells-long at h in
+        filled = filled-of named 0 (cellsIn (sz .blockBytes) pool) (λ k h.
+            let g : k < length pool / sz .blockBytes = rw cells-long at h in
             ap (λ (x : ℕ). isIn x named) (zero-add k) ∙ sym (marked-all m named k (omega (arith, g, most))) ∙ s .filled k g
             ∙ ap (λ (l : List ℕ). not (allZero l)) (sym (cell-is k g)));
       }
 
-  pub say-marked : CellsSay (shelfIn baseMeasures pool ws) → Marked m pool ws
+  pub say-marked : CellsSay (shelfIn sz pool ws) → Marked sz m pool ws
   unfolding shelfIn hasCells
   say-marked s =
       record {
-        named = apart-fits (length pool / 64) named (replicate m false)
+        named = apart-fits (length pool / sz .blockBytes) named (replicate m false)
             (record { below = rw cells-long at (clause _ 0 (s .named)); apart = clause _ 1 (s .named); free = λ x e. none-marked m x });
         filled = λ k g.
             marked-all m named k (omega (arith, g, most)) ∙ ap (λ (x : ℕ). isIn x named) (sym (zero-add k))
-            ∙ filled-at named 0 (cellsIn 64 pool) (s .filled) k (rw cells-long g) ∙ ap (λ (l : List ℕ). not (allZero l)) (cell-is k g);
+            ∙ filled-at named 0 (cellsIn (sz .blockBytes) pool) (s .filled) k (rw cells-long g) ∙ ap (λ (l : List ℕ). not (allZero l)) (cell-is k g);
       }
 
 -- ---- a position's cell
 
-module _ (row : List ℕ) (l : length row ≡ 19) (i : ℕ) (h : i < 8) where
-  pub cell-held : bitOf (getD row 0 0) i ≡ 1 → cellsOf (getD (segmentIn 8 row) i nullPosition ∷ []) ≡ getD row (3 + i) 0 ∷ []
+module _ (n : ℕ) (row : List ℕ) (l : length row ≡ recordWords n) (i : ℕ) (h : i < n) where
+  pub cell-held : bitOf (getD row 0 0) i ≡ 1 → cellsOf (getD (segmentIn n row) i nullPosition ∷ []) ≡ getD row (3 + i) 0 ∷ []
   unfolding cellsOf
-  cell-held e = rw (segment-at row l i h, position-held (bitOf (getD row 0 0) i) (bitOf (getD row 1 0) i) (getD row (3 + i) 0) (getD row (11 + i) 0) e)
+  cell-held e = rw (segment-at n row l i h, position-held (bitOf (getD row 0 0) i) (bitOf (getD row 1 0) i) (getD row (3 + i) 0) (getD row (3 + n + i) 0) e)
 
-  pub cell-none : (bitOf (getD row 0 0) i ≡ 1 → ⊥) → cellsOf (getD (segmentIn 8 row) i nullPosition ∷ []) ≡ []
-  cell-none e = rw (segment-at row l i h) (other-cells _ _ _ _ (bit-off (getD row 0 0) i e))
+  pub cell-none : (bitOf (getD row 0 0) i ≡ 1 → ⊥) → cellsOf (getD (segmentIn n row) i nullPosition ∷ []) ≡ []
+  cell-none e = rw (segment-at n row l i h) (other-cells _ _ _ _ (bit-off (getD row 0 0) i e))

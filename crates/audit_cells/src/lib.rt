@@ -2,23 +2,25 @@
 ghost use mathlib.Core.Bool.{true, false, not};
 ghost use mathlib.Core.Path.{_≡_};
 ghost use mathlib.Core.List.{[], _∷_};
-ghost use Prim.Native.Nat.{ℕ, _+_, _*_, _/_, _≤_, _<_};
+ghost use Prim.Native.Nat.{ℕ, _+_, _*_, _/_, _%_, _≤_, _<_};
 ghost use lib.ListN.{length, getD, take, drop};
 ghost use Rattle.lists.specs.Tells.{Tells};
 ghost use Rattle.lists.specs.Lists.{allZero};
 ghost use Rattle.lists.specs.Marks.{Marks};
 ghost use Rattle.model.specs.State.{nullPosition};
-ghost use Rattle.model.specs.Measures.{baseMeasures};
+ghost use Rattle.model.specs.Measures.{recordWords};
 ghost use Rattle.model.specs.Records.{cellsOf, namedCells};
 ghost use Rattle.model.specs.Table.{segmentIn, recordsIn, shelfIn};
+ghost use Rattle.laws.specs.Ranges.{Measured};
+ghost use Rattle.numbers.specs.Measures.{measuresOf};
 ghost use Rattle.audit_cells.specs.Cells.{CellsSay};
-use numbers::Block;
 use numbers::Cell;
+use numbers::Measures;
 
 // The cell of a position, if it is held, is marked; false if it is no cell or marked already.
-fn mark_position(row: &[u32], i: usize, cells: usize, occupied: &mut [bool]) -> bool
-    requires { ⌜ (i < 8) × (length (now row) ≡ 19) × (cells ≤ length (now occupied)) ⌝ }
-    ensures { λ r. ⌜ Marks r cells (cellsOf (getD (segmentIn 8 (now (row .entry))) i nullPosition ∷ [])) (now (occupied .entry)) (now (occupied .exit)) ⌝ }
+fn mark_position(row: &[u32], i: usize, n: usize, cells: usize, occupied: &mut [bool]) -> bool
+    requires { ⌜ (i < n) × (n ≤ 16) × (length (now row) ≡ recordWords n) × (cells ≤ length (now occupied)) ⌝ }
+    ensures { λ r. ⌜ Marks r cells (cellsOf (getD (segmentIn n (now (row .entry))) i nullPosition ∷ [])) (now (occupied .entry)) (now (occupied .exit)) ⌝ }
 {
     if audit_words::bit(row[0], i) != 1 {
         return true;
@@ -35,13 +37,13 @@ fn mark_position(row: &[u32], i: usize, cells: usize, occupied: &mut [bool]) -> 
 }
 
 // The cells of a record.
-fn mark_record(row: &[u32], cells: usize, occupied: &mut [bool]) -> bool
-    requires { ⌜ (length (now row) ≡ 19) × (cells ≤ length (now occupied)) ⌝ }
-    ensures { λ r. ⌜ Marks r cells (cellsOf (segmentIn 8 (now (row .entry)))) (now (occupied .entry)) (now (occupied .exit)) ⌝ }
+fn mark_record(row: &[u32], n: usize, cells: usize, occupied: &mut [bool]) -> bool
+    requires { ⌜ (n ≤ 16) × (length (now row) ≡ recordWords n) × (cells ≤ length (now occupied)) ⌝ }
+    ensures { λ r. ⌜ Marks r cells (cellsOf (segmentIn n (now (row .entry)))) (now (occupied .entry)) (now (occupied .exit)) ⌝ }
 {
     let mut i: usize = 0;
-    while i < 8 {
-        if !mark_position(row, i, cells, occupied) {
+    while i < n {
+        if !mark_position(row, i, n, cells, occupied) {
             return false;
         }
         i += 1;
@@ -50,16 +52,17 @@ fn mark_record(row: &[u32], cells: usize, occupied: &mut [bool]) -> bool
 }
 
 // The cells of all records.
-fn mark_all(records: &[u32], cells: usize, occupied: &mut [bool]) -> bool
-    requires { ⌜ cells ≤ length (now occupied) ⌝ }
-    ensures { λ r. ⌜ Marks r cells (namedCells (recordsIn 8 (now (records .entry)))) (now (occupied .entry)) (now (occupied .exit)) ⌝ }
+fn mark_all(records: &[u32], n: usize, cells: usize, occupied: &mut [bool]) -> bool
+    requires { ⌜ (n ≤ 16) × (cells ≤ length (now occupied)) ⌝ }
+    ensures { λ r. ⌜ Marks r cells (namedCells (recordsIn n (now (records .entry)))) (now (occupied .entry)) (now (occupied .exit)) ⌝ }
 {
-    let n = records.len() / 19;
+    let width = numbers::row_words(n);
+    let count = numbers::parts(records.len(), width);
     let mut k: usize = 0;
-    while k < n {
-        let at = k * 19;
-        let end = at + 19;
-        if !mark_record(&records[at..end], cells, occupied) {
+    while k < count {
+        let at = k * width;
+        let end = at + width;
+        if !mark_record(&records[at..end], n, cells, occupied) {
             return false;
         }
         k += 1;
@@ -68,27 +71,27 @@ fn mark_all(records: &[u32], cells: usize, occupied: &mut [bool]) -> bool
 }
 
 // Whether a cell has a byte other than zero if and only if it is occupied.
-fn cell_says(pool: &[u8], c: Cell, occupied: bool) -> bool
-    requires { ⌜ (c .0 < 32768) × (c .0 * 64 + 64 ≤ length (now pool)) ⌝ }
-    ensures { λ r. ⌜ Tells r (occupied ≡ not (allZero (take 64 (drop (c .0 * 64) (now (pool .entry)))))) ⌝ }
+fn cell_says(pool: &[u8], c: Cell, occupied: bool, bytes: usize) -> bool
+    requires { ⌜ (bytes ≤ 512) × (c .0 * bytes + bytes ≤ length (now pool)) × (64 ≤ bytes) × (bytes % 64 ≡ 0) ⌝ }
+    ensures { λ r. ⌜ Tells r (occupied ≡ not (allZero (take bytes (drop (c .0 * bytes) (now (pool .entry)))))) ⌝ }
 {
-    let at = c.byte();
-    let end = at + Block::BYTES;
-    if blocks::all_zero(&pool[at..end]) {
+    let at = c.byte(bytes);
+    let end = at + bytes;
+    if blocks::pieces_zero(&pool[at..end]) {
         return !occupied;
     }
     occupied
 }
 
 // Whether all cells have.
-fn cells_filled(pool: &[u8], occupied: &[bool]) -> bool
-    requires { ⌜ (length (now pool) ≤ 2097152) × (length (now pool) / 64 ≤ length (now occupied)) ⌝ }
-    ensures { λ r. ⌜ Tells r ((c : ℕ) → c < length (now (pool .entry)) / 64 → getD (now (occupied .entry)) c false ≡ not (allZero (take 64 (drop (c * 64) (now (pool .entry)))))) ⌝ }
+fn cells_filled(pool: &[u8], occupied: &[bool], bytes: usize) -> bool
+    requires { ⌜ (0 < bytes) × (bytes ≤ 512) × (length (now pool) / bytes ≤ length (now occupied)) × (length (now occupied) ≤ 32768) × (64 ≤ bytes) × (bytes % 64 ≡ 0) ⌝ }
+    ensures { λ r. ⌜ Tells r ((c : ℕ) → c < length (now (pool .entry)) / bytes → getD (now (occupied .entry)) c false ≡ not (allZero (take bytes (drop (c * bytes) (now (pool .entry)))))) ⌝ }
 {
-    let n = pool.len() / Block::BYTES;
+    let n = numbers::parts(pool.len(), bytes);
     let mut c: usize = 0;
     while c < n {
-        if !cell_says(pool, Cell(c as u32), occupied[c]) {
+        if !cell_says(pool, Cell(c as u32), occupied[c], bytes) {
             return false;
         }
         c += 1;
@@ -97,14 +100,14 @@ fn cells_filled(pool: &[u8], occupied: &[bool]) -> bool
 }
 
 // Whether no two positions name one cell, and the cells named are those that are not zero.
-pub fn cells_say(pool: &[u8], records: &[u32]) -> bool
-    requires { ⌜ length (now pool) ≤ 2097152 ⌝ }
-    ensures { λ r. ⌜ Tells r (CellsSay (shelfIn baseMeasures (now (pool .entry)) (now (records .entry)))) ⌝ }
+pub fn cells_say(pool: &[u8], records: &[u32], m: Measures) -> bool
+    requires { ⌜ Measured (measuresOf m) × (length (now pool) ≤ 32768 * m .bytes) ⌝ }
+    ensures { λ r. ⌜ Tells r (CellsSay (shelfIn (measuresOf m) (now (pool .entry)) (now (records .entry)))) ⌝ }
 {
-    let cells = pool.len() / Block::BYTES;
+    let cells = numbers::parts(pool.len(), m.bytes);
     let mut occupied = [false; 32768];
-    if !mark_all(records, cells, &mut occupied) {
+    if !mark_all(records, m.blocks, cells, &mut occupied) {
         return false;
     }
-    cells_filled(pool, &occupied)
+    cells_filled(pool, &occupied, m.bytes)
 }

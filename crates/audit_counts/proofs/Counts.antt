@@ -14,6 +14,8 @@ use Rattle.lists.specs.Tells.{Tells}
 use Rattle.lists.proofs.Checkers.{same-as}
 use Rattle.lists.proofs.Tests.{clause, all-true}
 use Rattle.lists.proofs.Cuts.{length-read, read-at}
+use Rattle.lists.proofs.Places.{row-in, rows-few}
+use Rattle.model.specs.Measures.{recordWords}
 use Rattle.model.specs.State.{Pointer, nullPosition, Segment}
 use Rattle.model.specs.Table.{positionOf, segmentIn, recordsIn}
 use Rattle.model.specs.Sound.{leadsTo, isCounted, areCounted, allCounted}
@@ -74,47 +76,51 @@ module _ (ps : List Pointer) (k i c n : ℕ) where
   says-position zero b h e = absurd (omega arith)
   says-position (suc a) b h e = (ltb-true 0 _ (clause _ 0 h), eqb-true _ _ (clause _ 1 h))
 
--- ---- a record's 19 words
+-- ---- a record's words
 
-module _ (ps : List Pointer) (k : ℕ) (row : List ℕ) (l : length row ≡ 19) where
-  record-says : ((i : ℕ) → i < 8 → CountSays row i (count (leadsTo k i) ps)) → areCounted ps k 0 (segmentIn 8 row) ≡ true
+module _ (n : ℕ) (ps : List Pointer) (k : ℕ) (row : List ℕ) (l : length row ≡ recordWords n) where
+  record-says : ((i : ℕ) → i < n → CountSays n row i (count (leadsTo k i) ps)) → areCounted ps k 0 (segmentIn n row) ≡ true
   record-says h =
-      counted-of ps k 0 (segmentIn 8 row) (λ j b.
-      let g : j < 8 = rw (segment-long row l) at b in
-      rw (zero-add j, segment-at row l j g) (position-says ps k j _ _ (bitOf (getD row 0 0) j) (bitOf (getD row 1 0) j) (omega arith) (h j g)))
+      counted-of ps k 0 (segmentIn n row) (λ j b.
+      let g : j < n = rw (segment-long n row l) at b in
+      rw (zero-add j, segment-at n row l j g) (position-says ps k j _ _ (bitOf (getD row 0 0) j) (bitOf (getD row 1 0) j) (omega arith) (h j g)))
 
-  says-record : areCounted ps k 0 (segmentIn 8 row) ≡ true → (i : ℕ) → i < 8 → CountSays row i (count (leadsTo k i) ps)
+  says-record : areCounted ps k 0 (segmentIn n row) ≡ true → (i : ℕ) → i < n → CountSays n row i (count (leadsTo k i) ps)
   says-record h i b =
       says-position ps k i _ _ (bitOf (getD row 0 0) i) (bitOf (getD row 1 0) i)
-      (rw (zero-add i, segment-at row l i b) at (counted-at ps k 0 (segmentIn 8 row) h i (rw (segment-long row l) b)))
+      (rw (zero-add i, segment-at n row l i b) at (counted-at ps k 0 (segmentIn n row) h i (rw (segment-long n row l) b)))
 
 -- ---- counters that were made from zeros
 
-pub counts-are : {r : Bool} (tills ws : List ℕ) (m : ℕ) (cs : List ℕ) → length ws ≤ 77824 → m ≡ 65536 → cs ≡ tallied tills (replicate m 0)
-    → Tells r (RecordCounts (λ p. getD cs p 0) ws) → Tells r (CountsSay tills ws)
-counts-are tills ws m cs l e h t =
+pub counts-are : {r : Bool} (n : ℕ) (tills ws : List ℕ) (m : ℕ) (cs : List ℕ) → n ≤ 16 → length ws ≤ 4096 * recordWords n → m ≡ 65536 → cs ≡ tallied tills (replicate m 0)
+    → Tells r (RecordCounts n (λ p. getD cs p 0) ws) → Tells r (CountsSay n tills ws)
+counts-are n tills ws m cs few l e h t =
     same-as (λ f k a i b. rw (is k i a b) at (f k a i b)) (λ f k a i b. rw (is k i a b) (f k a i b)) t
   where
-    is : (k i : ℕ) → k < length ws / 19 → i < 8 → getD cs (k * 16 + i) 0 ≡ pointersTo (k * 16 + i) tills
-    is k i a b = ap (λ (x : List ℕ). getD x (k * 16 + i) 0) h ∙ tallied-zeros m tills (k * 16 + i) (omega (arith, l, e)) (omega (arith, e))
+    is : (k i : ℕ) → k < length ws / recordWords n → i < n → getD cs (k * 16 + i) 0 ≡ pointersTo (k * 16 + i) tills
+    is k i a b =
+        ap (λ (x : List ℕ). getD x (k * 16 + i) 0) h
+        ∙ tallied-zeros m tills (k * 16 + i) (omega (arith, few, e, a, b, rows-few (length ws) (recordWords n) (omega arith) 4096 l)) (omega (arith, e))
 
 -- ---- all records
 
-module _ (ps : List Pointer) (tills ws : List ℕ)
-    (same : (k i : ℕ) → k < length ws / 19 → i < 8 → pointersTo (k * 16 + i) tills ≡ count (leadsTo k i) ps) where
-  row-long : (k : ℕ) → k < length ws / 19 → length (take 19 (drop (k * 19) ws)) ≡ 19
-  row-long k h = length-take-le 19 (drop (k * 19) ws) (omega (arith, length-drop (k * 19) ws))
+module _ (n : ℕ) (ps : List Pointer) (tills ws : List ℕ)
+    (same : (k i : ℕ) → k < length ws / recordWords n → i < n → pointersTo (k * 16 + i) tills ≡ count (leadsTo k i) ps) where
+  row-long : (k : ℕ) → k < length ws / recordWords n → length (take (recordWords n) (drop (k * recordWords n) ws)) ≡ recordWords n
+  row-long k h =
+      length-take-le (recordWords n) (drop (k * recordWords n) ws)
+      (omega (arith, length-drop (k * recordWords n) ws, row-in (length ws) (recordWords n) (omega arith) k h))
 
-  pub counts-sound : CountsSay tills ws → allCounted ps 0 (recordsIn 8 ws) ≡ true
+  pub counts-sound : CountsSay n tills ws → allCounted ps 0 (recordsIn n ws) ≡ true
   unfolding recordsIn
   counts-sound s =
-      all-of ps 0 (map (segmentIn 8) (chunks 19 ws)) (segmentIn 8 []) (λ k b.
-      let h : k < length ws / 19 = rw (length-read (segmentIn 8) 19 ws) at b in
-      rw (zero-add k, read-at (segmentIn 8) 19 ws k h)
-      (record-says ps k (take 19 (drop (k * 19) ws)) (row-long k h) (λ i g. rw (same k i h g) at (s k h i g))))
+      all-of ps 0 (map (segmentIn n) (chunks (recordWords n) ws)) (segmentIn n []) (λ k b.
+      let h : k < length ws / recordWords n = rw (length-read (segmentIn n) (recordWords n) ws) at b in
+      rw (zero-add k, read-at (segmentIn n) (recordWords n) ws k h)
+      (record-says n ps k (take (recordWords n) (drop (k * recordWords n) ws)) (row-long k h) (λ i g. rw (same k i h g) at (s k h i g))))
 
-  pub sound-counts : allCounted ps 0 (recordsIn 8 ws) ≡ true → CountsSay tills ws
+  pub sound-counts : allCounted ps 0 (recordsIn n ws) ≡ true → CountsSay n tills ws
   unfolding recordsIn
   sound-counts e k h i g =
-      rw (same k i h g) (says-record ps k (take 19 (drop (k * 19) ws)) (row-long k h)
-      (rw (zero-add k, read-at (segmentIn 8) 19 ws k h) at (all-at ps 0 (map (segmentIn 8) (chunks 19 ws)) (segmentIn 8 []) e k (rw (length-read (segmentIn 8) 19 ws) h))) i g)
+      rw (same k i h g) (says-record n ps k (take (recordWords n) (drop (k * recordWords n) ws)) (row-long k h)
+      (rw (zero-add k, read-at (segmentIn n) (recordWords n) ws k h) at (all-at ps 0 (map (segmentIn n) (chunks (recordWords n) ws)) (segmentIn n []) e k (rw (length-read (segmentIn n) (recordWords n) ws) h))) i g)

@@ -6,6 +6,7 @@ use Prim.Native.Nat.{ℕ, _+_, _*_, _/_, _%_, _≤_, _<_}
 use lib.Dec.{eqb}
 use lib.ListN.{length, getD, set, take, drop}
 use Rattle.lists.specs.Lists.{count}
+use Rattle.model.specs.Measures.{recordWords}
 use Rattle.model.specs.Table.{kindUnit}
 use Rattle.audit_words.specs.Words.{bitOf}
 
@@ -21,14 +22,15 @@ tallied (w ∷ ws) cs = tallied ws (bumped w cs)
 unfoldable pub pointersTo : ℕ → List ℕ → ℕ
 pointersTo p ws = count (λ w. eqb w (kindUnit + p)) ws
 
--- the count word of position `i` in a record's 19 words, if it is held, is `n` and at least 1
-abbrev pub CountSays : List ℕ → ℕ → ℕ → Type 0
-CountSays row i n = bitOf (getD row 0 0) i ≡ 1 → (1 ≤ getD row (11 + i) 0) × (getD row (11 + i) 0 ≡ n)
+-- the count word of position `i` in the words of a record of `n` positions, if it is held, is `c` and at least 1
+abbrev pub CountSays : ℕ → List ℕ → ℕ → ℕ → Type 0
+CountSays n row i c = bitOf (getD row 0 0) i ≡ 1 → (1 ≤ getD row (3 + n + i) 0) × (getD row (3 + n + i) 0 ≡ c)
 
 -- of all records, by the count of each position
-abbrev pub RecordCounts : (ℕ → ℕ) → List ℕ → Type 0
-RecordCounts counts ws = (k : ℕ) → k < length ws / 19 → (i : ℕ) → i < 8 → CountSays (take 19 (drop (k * 19) ws)) i (counts (k * 16 + i))
+abbrev pub RecordCounts : ℕ → (ℕ → ℕ) → List ℕ → Type 0
+RecordCounts n counts ws =
+    (k : ℕ) → k < length ws / recordWords n → (i : ℕ) → i < n → CountSays n (take (recordWords n) (drop (k * recordWords n) ws)) i (counts (k * 16 + i))
 
 -- the counts in the records' words are the numbers of direct pointers among the tills' words
-abbrev pub CountsSay : List ℕ → List ℕ → Type 0
-CountsSay tills ws = RecordCounts (λ p. pointersTo p tills) ws
+abbrev pub CountsSay : ℕ → List ℕ → List ℕ → Type 0
+CountsSay n tills ws = RecordCounts n (λ p. pointersTo p tills) ws

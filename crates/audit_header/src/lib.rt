@@ -1,41 +1,25 @@
 // Whether the header's words and the lengths of the two buffers are in order.
 ghost use mathlib.Core.Bool.{true, false};
 ghost use mathlib.Core.Path.{_≡_};
-ghost use Prim.Native.Nat.{ℕ, _+_, _*_, _≤_, _<_};
+ghost use Prim.Native.Nat.{ℕ, _≤_};
 ghost use lib.ListN.{length};
 ghost use Rattle.lists.specs.Tells.{Tells};
-ghost use Rattle.audit_header.specs.Header.{Ranges, Lengths, Header};
-use layout::Capacities;
+ghost use Rattle.numbers.specs.Measures.{measuresOf};
+ghost use Rattle.audit_header.specs.Header.{Written, Header};
+use numbers::Measures;
 
-// Whether the capacities are in range.
-fn ranges(table: &[u32]) -> bool
+// Whether the words of the measures are those that a lay out writes: 64, 8 and 20 are not written out.
+fn measures_written(table: &[u32], m: Measures) -> bool
     requires { ⌜ 8 ≤ length (now table) ⌝ }
-    ensures { λ r. ⌜ Tells r (Ranges (now (table .entry))) ⌝ }
+    ensures { λ r. ⌜ Tells r (Written (now (table .entry)) (measuresOf m)) ⌝ }
 {
-    layout::in_range(Capacities {
-        tills: table[0],
-        versions: table[1],
-        blocks: table[2],
-        records: table[3],
-        cells: table[4],
-    })
-}
-
-// Whether the lengths are those of the capacities.
-fn lengths(pool: &[u8], table: &[u32]) -> bool
-    requires { ⌜ (8 ≤ length (now table)) × Ranges (now table) ⌝ }
-    ensures { λ r. ⌜ Tells r (Lengths (now (pool .entry)) (now (table .entry))) ⌝ }
-{
-    let tills = table[0] as usize;
-    let versions = table[1] as usize;
-    let blocks = table[2] as usize;
-    let records = table[3] as usize;
-    let cells = table[4] as usize;
-    if pool.len() != cells * 64 {
+    if table[5] != m.word(table[5]) {
         return false;
     }
-    let width = 4 + versions * (3 + blocks);
-    table.len() == 8 + tills * width + records * 19
+    if table[6] != m.word(table[6]) {
+        return false;
+    }
+    table[7] == m.word(table[7])
 }
 
 // Whether header and lengths are those of a store.
@@ -45,11 +29,13 @@ pub fn header(pool: &[u8], table: &[u32]) -> bool
     if table.len() < 8 {
         return false;
     }
-    if !ranges(table) {
+    let c = layout::capacities_in(table);
+    let m = c.measures;
+    if !layout::in_range(c) {
         return false;
     }
-    if !audit_words::zeros(&table[5..8]) {
+    if !measures_written(table, m) {
         return false;
     }
-    lengths(pool, table)
+    layout::lengths_fit(pool, table, c)
 }

@@ -1,65 +1,72 @@
 -- Positions of records' words, and pointers of pointer words.
-use mathlib.Core.Path.{_≡_, refl, sym, ap, _∙_}
+use mathlib.Core.Path.{_≡_, refl, sym, ap, ap₂, _∙_}
 use mathlib.Core.Bool.{Bool, true, false, not}
 use mathlib.Core.List.{List, [], map}
 use Prim.Native.Nat.{ℕ, _+_, _*_, _/_, _≤_, _<_}
-use native.Mathlib.Nat.{add-zero}
+use native.Mathlib.Nat.{add-zero, mul-le-mul}
 use native.Mathlib.Omega.{arith}
 use borrow.Author.Tests.{eqb-true, eqb-false}
 use lib.Dec.{eqb}
 use lib.ListN.{length, getD, take, drop, length-drop, length-map, List·getD-map, List·getD-eq-default}
-use lib.Seq.{length-take-le}
+use lib.Seq.{length-take-le, drop-nil, take-nil}
 use Rattle.lists.specs.Rows.{chunks}
 use Rattle.lists.proofs.Cuts.{part-word, length-read, read-at}
-use Rattle.model.specs.State.{nullPointer, nullPosition, Segment}
-use Rattle.model.specs.Measures.{baseMeasures}
-use Rattle.model.specs.Records.{positionAt}
-use Rattle.model.specs.Table.{kindUnit, wordToPointer, pointerOf, positionOf, positionsIn, segmentIn, recordsIn, shelfIn}
+use Rattle.lists.proofs.Places.{in-row, rows-short}
+use Rattle.model.specs.Measures.{recordWords}
+use Rattle.model.specs.State.{nullPointer, Position, nullPosition, Segment}
+use Rattle.model.specs.Table.{kindUnit, wordToPointer, pointerOf, positionOf, positionsIn, segmentIn, recordsIn}
 use Rattle.model.specs.Sound.{isNull}
 use Rattle.audit_words.specs.Words.{bitOf}
 use Rattle.audit_words.proofs.Pointers.{read-direct, read-indirect, read-other}
 use Rattle.audit_words.proofs.Positions.{segment-at, segment-past}
 
--- ---- positionAt
+-- ---- positions
 
-no-words : segmentIn 8 [] ≡ []
-unfolding segmentIn positionsIn
-no-words = refl
+-- the end of a record's words is a number of the machine
+pub row-fits : (k n : ℕ) → k < 4294967296 → n ≤ 16 → k * recordWords n ≤ 150323855325
+row-fits k n h l = let a : k ≤ 4294967295 = omega arith in let w : recordWords n ≤ 35 = omega arith in mul-le-mul a w
 
-module _ (pool ws : List ℕ) (k i : ℕ) where
-  abbrev row : List ℕ
-  row = take 19 (drop (k * 19) ws)
+module _ (n : ℕ) where
+  no-words : segmentIn n [] ≡ []
+  unfolding segmentIn
+  no-words = rw (drop-nil {A = ℕ} 3, take-nil {A = ℕ} n) (unfold positionsIn in refl)
 
-  row-long : k * 19 + 19 ≤ length ws → length row ≡ 19
-  row-long h = length-take-le 19 (drop (k * 19) ws) (omega (arith, length-drop (k * 19) ws))
+  module _ (ws : List ℕ) (k i : ℕ) where
+    abbrev row : List ℕ
+    row = take (recordWords n) (drop (k * recordWords n) ws)
 
-  record-is : k * 19 + 19 ≤ length ws → getD (recordsIn 8 ws) k [] ≡ segmentIn 8 row
-  unfolding recordsIn
-  record-is h = ap (getD (map (segmentIn 8) (chunks 19 ws)) k) (sym no-words) ∙ read-at (segmentIn 8) 19 ws k (omega (arith, h))
+    abbrev position : Position
+    position = getD (getD (recordsIn n ws) k []) i nullPosition
 
-  pub position-in : k * 19 + 19 ≤ length ws → i < 8
-      → positionAt (shelfIn baseMeasures pool ws) k i
-      ≡ positionOf (bitOf (getD ws (k * 19) 0) i) (bitOf (getD ws (k * 19 + 1) 0) i) (getD ws (k * 19 + (3 + i)) 0) (getD ws (k * 19 + (11 + i)) 0)
-  unfolding positionAt shelfIn
-  position-in h g =
-      ap (λ (seg : Segment). getD seg i nullPosition) (record-is h) ∙ segment-at row (row-long h) i g
-      ∙ ap (λ (x : ℕ). positionOf (bitOf x i) (bitOf (getD row 1 0) i) (getD row (3 + i) 0) (getD row (11 + i) 0)) (word 0 (omega arith) ∙ ap (λ (n : ℕ). getD ws n 0) (add-zero (k * 19)))
-      ∙ ap (λ (x : ℕ). positionOf (bitOf (getD ws (k * 19) 0) i) (bitOf x i) (getD row (3 + i) 0) (getD row (11 + i) 0)) (word 1 (omega arith))
-      ∙ ap (λ (x : ℕ). positionOf (bitOf (getD ws (k * 19) 0) i) (bitOf (getD ws (k * 19 + 1) 0) i) x (getD row (11 + i) 0)) (word (3 + i) (omega (arith, g)))
-      ∙ ap (positionOf (bitOf (getD ws (k * 19) 0) i) (bitOf (getD ws (k * 19 + 1) 0) i) (getD ws (k * 19 + (3 + i)) 0)) (word (11 + i) (omega (arith, g)))
-    where
-      word : (j : ℕ) → j < 19 → getD row j 0 ≡ getD ws (k * 19 + j) 0
-      word j h = part-word 19 ws k j 0 h
+    row-long : k * recordWords n + recordWords n ≤ length ws → length row ≡ recordWords n
+    row-long h = length-take-le (recordWords n) (drop (k * recordWords n) ws) (omega (arith, length-drop (k * recordWords n) ws))
 
-  pub position-past : length ws < k * 19 + 19 → positionAt (shelfIn baseMeasures pool ws) k i ≡ nullPosition
-  unfolding positionAt shelfIn recordsIn
-  position-past h =
-      ap (λ (seg : Segment). getD seg i nullPosition)
-      (List·getD-eq-default (map (segmentIn 8) (chunks 19 ws)) [] {n = k} (omega (arith, length-read (segmentIn 8) 19 ws, h)))
+    record-is : k * recordWords n + recordWords n ≤ length ws → getD (recordsIn n ws) k [] ≡ segmentIn n row
+    unfolding recordsIn
+    record-is h =
+        ap (getD (map (segmentIn n) (chunks (recordWords n) ws)) k) (sym no-words)
+        ∙ read-at (segmentIn n) (recordWords n) ws k (in-row (length ws) (recordWords n) (omega arith) k h)
 
-  pub position-beside : k * 19 + 19 ≤ length ws → 8 ≤ i → positionAt (shelfIn baseMeasures pool ws) k i ≡ nullPosition
-  unfolding positionAt shelfIn
-  position-beside h g = ap (λ (seg : Segment). getD seg i nullPosition) (record-is h) ∙ segment-past row (row-long h) i g
+    pub position-in : k * recordWords n + recordWords n ≤ length ws → i < n
+        → position
+        ≡ positionOf (bitOf (getD ws (k * recordWords n) 0) i) (bitOf (getD ws (k * recordWords n + 1) 0) i) (getD ws (k * recordWords n + (3 + i)) 0) (getD ws (k * recordWords n + (3 + n + i)) 0)
+    position-in h g =
+        ap (λ (seg : Segment). getD seg i nullPosition) (record-is h) ∙ segment-at n row (row-long h) i g
+        ∙ ap₂ (λ (x y : ℕ). positionOf (bitOf x i) (bitOf y i) (getD row (3 + i) 0) (getD row (3 + n + i) 0)) (word 0 (omega arith) ∙ ap (λ (j : ℕ). getD ws j 0) (add-zero (k * recordWords n))) (word 1 (omega arith))
+        ∙ ap₂ (positionOf (bitOf (getD ws (k * recordWords n) 0) i) (bitOf (getD ws (k * recordWords n + 1) 0) i)) (word (3 + i) (omega (arith, g))) (word (3 + n + i) (omega (arith, g)))
+      where
+        word : (j : ℕ) → j < recordWords n → getD row j 0 ≡ getD ws (k * recordWords n + j) 0
+        word j h = part-word (recordWords n) ws k j 0 h
+
+    pub position-past : length ws < k * recordWords n + recordWords n → position ≡ nullPosition
+    unfolding recordsIn
+    position-past h =
+        ap (λ (seg : Segment). getD seg i nullPosition)
+        (List·getD-eq-default (map (segmentIn n) (chunks (recordWords n) ws)) [] {n = k}
+        (omega (arith, length-read (segmentIn n) (recordWords n) ws, rows-short (length ws) (recordWords n) (omega arith) k h)))
+
+    pub position-beside : k * recordWords n + recordWords n ≤ length ws → n ≤ i → position ≡ nullPosition
+    position-beside h g = ap (λ (seg : Segment). getD seg i nullPosition) (record-is h) ∙ segment-past n row (row-long h) i g
 
 -- ---- pointers
 

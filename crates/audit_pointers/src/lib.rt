@@ -1,47 +1,46 @@
 // Pointers: where each leads, and where the tracing of a block ends.
 ghost use mathlib.Core.Bool.{true, false, not};
 ghost use mathlib.Core.Path.{_≡_};
-ghost use mathlib.Core.List.{List, map};
+ghost use mathlib.Core.List.{[], map};
 ghost use Prim.Native.Nat.{ℕ, _+_, _*_, _^_, _≤_, _<_};
 ghost use lib.ListN.{length, getD};
 ghost use Rattle.lists.specs.Tells.{Tells};
-ghost use Rattle.model.specs.State.{nullPointer};
-ghost use Rattle.model.specs.Measures.{baseMeasures};
-ghost use Rattle.model.specs.Records.{isHeld, cellOf, positionAt};
-ghost use Rattle.model.specs.Table.{wordToPointer, shelfIn, versionIn, versionsIn};
+ghost use Rattle.model.specs.State.{nullPointer, nullPosition, Shelf};
+ghost use Rattle.model.specs.Records.{isHeld, cellOf};
+ghost use Rattle.model.specs.Table.{wordToPointer, recordsIn, versionIn, versionsIn};
 ghost use Rattle.model.specs.Trace.{endOf};
-ghost use Rattle.model.specs.Sound.{isNull, leads};
+ghost use Rattle.model.specs.Sound.{isNull};
 ghost use Rattle.audit_counts.specs.Counters.{bumped, tallied};
 ghost use Rattle.audit_pointers.specs.Good.{PointerGood, PointersGood};
 use numbers::Block;
 use numbers::Cell;
 use numbers::RecordNumber;
 
-// Whether a position is held, whatever the pool.
-fn held_at(records: &[u32], k: RecordNumber, i: usize) -> bool
-    ensures { λ r. ⌜ ((pool : List ℕ) → r ≡ isHeld (positionAt (shelfIn baseMeasures pool (now (records .entry))) (k .0) i)) ⌝ }
+// Whether a position of a record, of n, is held.
+fn held_at(records: &[u32], k: RecordNumber, i: usize, n: usize) -> bool
+    requires { ⌜ n ≤ 16 ⌝ }
+    ensures { λ r. ⌜ r ≡ isHeld (getD (getD (recordsIn n (now (records .entry))) (k .0) []) i nullPosition) ⌝ }
 {
-    let n = k.0;
-    let at = n as usize * 19;
-    if records.len() < at + 19 {
+    let at = k.word(n);
+    if records.len() < at + numbers::row_words(n) {
         return false;
     }
-    if 8 <= i {
+    if n <= i {
         return false;
     }
     audit_words::bit(records[at], i) == 1
 }
 
-// The cell of a position; 0 if it is not held.
-pub fn cell_at(records: &[u32], k: RecordNumber, i: usize) -> Cell
-    ensures { λ r. ⌜ ((pool : List ℕ) → r .0 ≡ cellOf (positionAt (shelfIn baseMeasures pool (now (records .entry))) (k .0) i)) ⌝ }
+// The cell of a position of a record, of n; 0 if it is not held.
+pub fn cell_at(records: &[u32], k: RecordNumber, i: usize, n: usize) -> Cell
+    requires { ⌜ n ≤ 16 ⌝ }
+    ensures { λ r. ⌜ r .0 ≡ cellOf (getD (getD (recordsIn n (now (records .entry))) (k .0) []) i nullPosition) ⌝ }
 {
-    let n = k.0;
-    let at = n as usize * 19;
-    if records.len() < at + 19 {
+    let at = k.word(n);
+    if records.len() < at + numbers::row_words(n) {
         return Cell(0);
     }
-    if 8 <= i {
+    if n <= i {
         return Cell(0);
     }
     if audit_words::bit(records[at], i) != 1 {
@@ -67,10 +66,11 @@ fn not_null(words: &[u32], b: Block) -> bool
     kind == 2
 }
 
-// Whether a word says a pointer that leads to a held position, or to a block of the next newer version that is not null. It is counted.
-fn pointer_good(records: &[u32], newer: &[u32], w: u32, counts: &mut [u32]) -> bool
-    requires { ⌜ ((k : ℕ) → getD (now counts) k 0 + 1 < 2 ^ 32) ⌝ }
-    ensures { λ r. ⌜ ((pool : List ℕ) → Tells r (PointerGood (shelfIn baseMeasures pool (now (records .entry))) (now (newer .entry)) w)) × (r ≡ true → now (counts .exit) ≡ bumped w (now (counts .entry))) ⌝ }
+// Whether a word says a pointer that leads to a held position, or to a block of the next newer version that is not null; whatever the cells.
+// It is counted.
+fn pointer_good(records: &[u32], newer: &[u32], w: u32, counts: &mut [u32], n: usize) -> bool
+    requires { ⌜ (n ≤ 16) × ((k : ℕ) → getD (now counts) k 0 + 1 < 2 ^ 32) ⌝ }
+    ensures { λ r. ⌜ ((shelf : Shelf) → shelf .records ≡ recordsIn n (now (records .entry)) → Tells r (PointerGood shelf (now (newer .entry)) w)) × (r ≡ true → now (counts .exit) ≡ bumped w (now (counts .entry))) ⌝ }
 {
     let kind = w / 0x100_0000;
     let low = w % 0x100_0000;
@@ -79,19 +79,25 @@ fn pointer_good(records: &[u32], newer: &[u32], w: u32, counts: &mut [u32]) -> b
     }
     if kind == 1 {
         audit_counts::bump(counts, w);
-        return held_at(records, RecordNumber(low / 16), (low % 16) as usize);
+        return held_at(records, RecordNumber(low / 16), (low % 16) as usize, n);
     }
     w == 0
 }
 
 // Whether each of some words says a pointer, which does. They are counted on the way, so that one pass serves for all.
-pub fn pointers_good(records: &[u32], newer: &[u32], words: &[u32], counts: &mut [u32]) -> bool
-    requires { ⌜ ((k : ℕ) → getD (now counts) k 0 + length (now words) < 2 ^ 32) ⌝ }
-    ensures { λ r. ⌜ ((pool : List ℕ) → Tells r (PointersGood (shelfIn baseMeasures pool (now (records .entry))) (now (newer .entry)) (now (words .entry)))) × (r ≡ true → now (counts .exit) ≡ tallied (now (words .entry)) (now (counts .entry))) ⌝ }
+pub fn pointers_good(
+    records: &[u32],
+    newer: &[u32],
+    words: &[u32],
+    counts: &mut [u32],
+    n: usize,
+) -> bool
+    requires { ⌜ (n ≤ 16) × ((k : ℕ) → getD (now counts) k 0 + length (now words) < 2 ^ 32) ⌝ }
+    ensures { λ r. ⌜ ((shelf : Shelf) → shelf .records ≡ recordsIn n (now (records .entry)) → Tells r (PointersGood shelf (now (newer .entry)) (now (words .entry)))) × (r ≡ true → now (counts .exit) ≡ tallied (now (words .entry)) (now (counts .entry))) ⌝ }
 {
     let mut i: usize = 0;
     while i < words.len() {
-        if !pointer_good(records, newer, words[i], counts) {
+        if !pointer_good(records, newer, words[i], counts, n) {
             return false;
         }
         i += 1;
@@ -100,42 +106,45 @@ pub fn pointers_good(records: &[u32], newer: &[u32], words: &[u32], counts: &mut
 }
 
 // How many pointers a slot has.
-pub fn pointer_count(slot: &[u32], blocks: usize) -> usize
-    requires { ⌜ (blocks ≤ 1024) × (length (now slot) ≡ 3 + blocks) ⌝ }
-    ensures { λ r. ⌜ (r ≡ length (versionIn 64 (now (slot .entry)) .pointers)) × (r ≤ blocks) ⌝ }
+pub fn pointer_count(slot: &[u32], blocks: usize, bytes: usize) -> usize
+    requires { ⌜ (blocks ≤ 1024) × (length (now slot) ≡ 3 + blocks) × (0 < bytes) × (bytes ≤ 512) ⌝ }
+    ensures { λ r. ⌜ (r ≡ length (versionIn bytes (now (slot .entry)) .pointers)) × (r ≤ blocks) ⌝ }
 {
-    let bytes = slot[1] as usize;
-    let n = (bytes + 63) / 64;
+    let length = slot[1] as usize;
+    let n = numbers::parts_for(bytes, length);
     if n < blocks {
         return n;
     }
     blocks
 }
 
-// The word of a slot's pointer; 0 past the last.
-fn word_at(slot: &[u32], blocks: usize, b: Block) -> u32
-    requires { ⌜ (blocks ≤ 1024) × (length (now slot) ≡ 3 + blocks) ⌝ }
-    ensures { λ r. ⌜ wordToPointer r ≡ getD (versionIn 64 (now (slot .entry)) .pointers) (b .0) nullPointer ⌝ }
+// The word of a slot's pointer; 0 past the last. A block is there if it begins within the length, which takes no division.
+fn word_at(slot: &[u32], blocks: usize, b: Block, bytes: usize) -> u32
+    requires { ⌜ (blocks ≤ 1024) × (length (now slot) ≡ 3 + blocks) × (0 < bytes) × (bytes ≤ 512) ⌝ }
+    ensures { λ r. ⌜ wordToPointer r ≡ getD (versionIn bytes (now (slot .entry)) .pointers) (b .0) nullPointer ⌝ }
 {
     let n = b.0;
     let at = n as usize;
-    if pointer_count(slot, blocks) <= at {
+    if blocks <= at {
+        return 0;
+    }
+    if slot[1] as usize <= b.byte(bytes) {
         return 0;
     }
     slot[3 + at]
 }
 
 // The pointer word at which the tracing of a block ends: a block of the first of some slots, of which the others are newer.
-pub fn end_of(slots: &[u32], blocks: usize, count: usize, block: Block) -> u32
-    requires { ⌜ (blocks ≤ 1024) × (count ≤ 64) × (count * (3 + blocks) ≤ length (now slots)) ⌝ }
-    ensures { λ r. ⌜ wordToPointer r ≡ endOf (versionsIn 64 blocks count (now (slots .entry))) (block .0) ⌝ }
+pub fn end_of(slots: &[u32], blocks: usize, count: usize, block: Block, bytes: usize) -> u32
+    requires { ⌜ (blocks ≤ 1024) × (count ≤ 64) × (count * (3 + blocks) ≤ length (now slots)) × (0 < bytes) × (bytes ≤ 512) ⌝ }
+    ensures { λ r. ⌜ wordToPointer r ≡ endOf (versionsIn bytes blocks count (now (slots .entry))) (block .0) ⌝ }
 {
     let mut b = block.0;
     let mut i: usize = 0;
     while i < count {
         let at = i * (3 + blocks);
         let end = at + (3 + blocks);
-        let w = word_at(&slots[at..end], blocks, Block(b));
+        let w = word_at(&slots[at..end], blocks, Block(b), bytes);
         if w / 0x100_0000 != 2 {
             return w;
         }

@@ -1,9 +1,9 @@
 -- Slots of a till, as the code lends them.
-use mathlib.Core.Path.{_≡_, sym, ap, ap₂, _∙_}
+use mathlib.Core.Path.{_≡_, refl, sym, ap, ap₂, _∙_}
 use mathlib.Core.Bool.{Bool, true}
 use mathlib.Core.List.{List, [], _∷_, map}
 use Prim.Native.Nat.{ℕ, _+_, _-_, _*_, _^_, _≤_, _<_}
-use native.Mathlib.Nat.{mul-le-mul-right, add-mul, suc-mul, zero-mul}
+use native.Mathlib.Nat.{mul-le-mul, mul-le-mul-right, add-mul, suc-mul, zero-mul}
 use native.Mathlib.Omega.{arith}
 use lib.Arith.{digits-lt}
 use lib.ListN.{length, getD, take, drop, length-drop, length-take, take-append-drop}
@@ -13,9 +13,9 @@ use Rattle.lists.specs.Tells.{Tells}
 use Rattle.lists.proofs.Answers.{part-is}
 use Rattle.lists.proofs.Checkers.{same-as}
 use Rattle.lists.proofs.Slices.{tail-all, drop-take, drop-next}
-use Rattle.model.specs.Measures.{partsFor}
+use Rattle.model.specs.Measures.{Measures, partsFor}
 use Rattle.model.specs.State.{Shelf}
-use Rattle.model.specs.Table.{wordToPointer, versionIn, versionsIn}
+use Rattle.model.specs.Table.{wordToPointer, recordsIn, shelfIn, versionIn, versionsIn}
 use Rattle.model.specs.Sound.{nextPointers}
 use Rattle.lists.specs.Each.{Each}
 use Rattle.audit_words.specs.Words.{PointerSays, SlotForm, SlotFrame}
@@ -41,45 +41,49 @@ till-fits t n w h = omega (arith, digits-lt {r = 3 + w} {c = 4 + w} h (omega ari
 
 -- ---- pointers
 
+pub shelf-records : (m : Measures) (pool ws : List ℕ) → shelfIn m pool ws .records ≡ recordsIn (m .segmentBlocks) ws
+unfolding shelfIn
+shelf-records m pool ws = refl
+
 take-drop : (b : ℕ) (ws : List ℕ) → drop 3 (take (3 + b) ws) ≡ take b (drop 3 ws)
 take-drop b ws = drop-take 3 (3 + b) ws ∙ ap (λ (m : ℕ). take m (drop 3 ws)) (let e : 3 + b - 3 ≡ b = omega arith in e)
 
 -- the words of a slot's pointers, cut out of all slots
-pub slot-words : (b : ℕ) (ws : List ℕ) (n : ℕ) → n ≡ length (versionIn 64 (take (3 + b) ws) .pointers) → n ≤ b → take n (drop 3 ws) ≡ pointerWords (take (3 + b) ws)
-slot-words b ws n e h = sym (ap (take n) (take-drop b ws) ∙ take-take n b (drop 3 ws) h) ∙ words-are (take (3 + b) ws) n e
+pub slot-words : (bytes b : ℕ) (ws : List ℕ) (n : ℕ) → n ≡ length (versionIn bytes (take (3 + b) ws) .pointers) → n ≤ b → take n (drop 3 ws) ≡ pointerWords bytes (take (3 + b) ws)
+slot-words bytes b ws n e h = sym (ap (take n) (take-drop b ws) ∙ take-take n b (drop 3 ws) h) ∙ words-are bytes (take (3 + b) ws) n e
 
-pub next-none : (b count : ℕ) (ws : List ℕ) → count < 2 → nextPointers (versionsIn 64 b (count - 1) ws) ≡ []
+pub next-none : (bytes b count : ℕ) (ws : List ℕ) → count < 2 → nextPointers (versionsIn bytes b (count - 1) ws) ≡ []
 unfolding nextPointers
-next-none b count ws h = rw (versions-end b count 1 ws (omega arith))
+next-none bytes b count ws h = rw (versions-end bytes b count 1 ws (omega arith))
 
-pub next-some : (b count : ℕ) (ws : List ℕ) → 2 ≤ count → nextPointers (versionsIn 64 b (count - 1) ws) ≡ versionIn 64 (take (3 + b) ws) .pointers
+pub next-some : (bytes b count : ℕ) (ws : List ℕ) → 2 ≤ count → nextPointers (versionsIn bytes b (count - 1) ws) ≡ versionIn bytes (take (3 + b) ws) .pointers
 unfolding nextPointers
-next-some b count ws h = rw (versions-cons b (count - 1) ws (omega arith))
+next-some bytes b count ws h = rw (versions-cons bytes b (count - 1) ws (omega arith))
 
 pub two-fit : (b n l : ℕ) → 2 ≤ n → n * (3 + b) ≤ l → 3 + b + (3 + b) ≤ l
 two-fit b n l h g = let m : 2 * (3 + b) ≤ n * (3 + b) = mul-le-mul-right (3 + b) h in omega arith
 
 -- the test of the pointers, as the code lends their words
-module _ (b count : ℕ) (ws : List ℕ) where
-  pub mine-words : (n : ℕ) → n ≡ length (versionIn 64 (take (3 + b - 0) (drop 0 ws)) .pointers) → n ≤ b → take (3 + n - 3) (drop 3 ws) ≡ pointerWords (take (3 + b) ws)
-  mine-words n e h = part-is ws 3 n ∙ slot-words b ws n (rw (first-slot b ws) at e) h
+module _ (bytes b count : ℕ) (ws : List ℕ) where
+  pub mine-words : (n : ℕ) → n ≡ length (versionIn bytes (take (3 + b - 0) (drop 0 ws)) .pointers) → n ≤ b → take (3 + n - 3) (drop 3 ws) ≡ pointerWords bytes (take (3 + b) ws)
+  mine-words n e h = part-is ws 3 n ∙ slot-words bytes b ws n (rw (first-slot b ws) at e) h
 
-  pub newer-none : count < 2 → map wordToPointer (take (0 - 0) (drop 0 ws)) ≡ nextPointers (versionsIn 64 b (count - 1) (drop (3 + b) ws))
-  newer-none g = sym (next-none b count (drop (3 + b) ws) g)
+  pub newer-none : count < 2 → map wordToPointer (take (0 - 0) (drop 0 ws)) ≡ nextPointers (versionsIn bytes b (count - 1) (drop (3 + b) ws))
+  newer-none g = sym (next-none bytes b count (drop (3 + b) ws) g)
 
-  pub newer-some : (m : ℕ) → 2 ≤ count → m ≡ length (versionIn 64 (take (3 + b + (3 + b) - (3 + b)) (drop (3 + b) ws)) .pointers) → m ≤ b
-      → map wordToPointer (take (3 + b + 3 + m - (3 + b + 3)) (drop (3 + b + 3) ws)) ≡ nextPointers (versionsIn 64 b (count - 1) (drop (3 + b) ws))
+  pub newer-some : (m : ℕ) → 2 ≤ count → m ≡ length (versionIn bytes (take (3 + b + (3 + b) - (3 + b)) (drop (3 + b) ws)) .pointers) → m ≤ b
+      → map wordToPointer (take (3 + b + 3 + m - (3 + b + 3)) (drop (3 + b + 3) ws)) ≡ nextPointers (versionsIn bytes b (count - 1) (drop (3 + b) ws))
   newer-some m g f l =
       ap (map wordToPointer)
-      (part-is ws (3 + b + 3) m ∙ ap (take m) (sym (drop-drop 3 (3 + b) ws)) ∙ slot-words b (drop (3 + b) ws) m (rw (part-is ws (3 + b) (3 + b)) at f) l)
-      ∙ sym (pointers-of (take (3 + b) (drop (3 + b) ws))) ∙ sym (next-some b count (drop (3 + b) ws) g)
+      (part-is ws (3 + b + 3) m ∙ ap (take m) (sym (drop-drop 3 (3 + b) ws)) ∙ slot-words bytes b (drop (3 + b) ws) m (rw (part-is ws (3 + b) (3 + b)) at f) l)
+      ∙ sym (pointers-of bytes (take (3 + b) (drop (3 + b) ws))) ∙ sym (next-some bytes b count (drop (3 + b) ws) g)
 
-  pub points-of : {r : Bool} (shelf : Shelf) (newer words : List ℕ) → map wordToPointer newer ≡ nextPointers (versionsIn 64 b (count - 1) (drop (3 + b) ws))
-      → words ≡ pointerWords (take (3 + b) ws) → Tells r (PointersGood shelf newer words) → Tells r (SlotPoints shelf b count ws)
+  pub points-of : {r : Bool} (shelf : Shelf) (newer words : List ℕ) → map wordToPointer newer ≡ nextPointers (versionsIn bytes b (count - 1) (drop (3 + b) ws))
+      → words ≡ pointerWords bytes (take (3 + b) ws) → Tells r (PointersGood shelf newer words) → Tells r (SlotPoints bytes shelf b count ws)
   points-of shelf newer words e f t =
       same-as
-      (λ g. record { say = rw f at (g .say); lead = rw (pointers-of (take (3 + b) ws)) (rw (e, f) at (g .lead)) })
-      (λ g. record { say = rw f (g .say); lead = rw (e, f) (rw (pointers-of (take (3 + b) ws)) at (g .lead)) })
+      (λ g. record { say = rw f at (g .say); lead = rw (pointers-of bytes (take (3 + b) ws)) (rw (e, f) at (g .lead)) })
+      (λ g. record { say = rw f (g .say); lead = rw (e, f) (rw (pointers-of bytes (take (3 + b) ws)) at (g .lead)) })
       t
 
 -- the slots in use lie within the till
@@ -94,10 +98,10 @@ few-words ws n b h = omega (arith, ap length (part-is ws 3 n), length-take n (dr
 
 -- ---- a slot's words, and its pointers
 
-pub form-frame : {b : ℕ} {row : List ℕ} → SlotForm b row → SlotFrame b row
+pub form-frame : {bytes b : ℕ} {row : List ℕ} → SlotForm bytes b row → SlotFrame bytes b row
 form-frame f = record { some = f .some; most = f .most; third = f .third; rest = f .rest }
 
-pub frame-form : {b : ℕ} {row : List ℕ} → SlotFrame b row → Each PointerSays (pointerWords row) → SlotForm b row
+pub frame-form : {bytes b : ℕ} {row : List ℕ} → SlotFrame bytes b row → Each PointerSays (pointerWords bytes row) → SlotForm bytes b row
 frame-form f p = record { some = f .some; most = f .most; third = f .third; pointers = p; rest = f .rest }
 
 -- ---- what is counted
@@ -108,13 +112,13 @@ three row l =
     ∙ ap (λ (r : List ℕ). getD row 1 0 ∷ r) (drop-next row 2 0 (omega (arith, l))))
 
 -- the pointers alone, of a slot's words
-pub slot-tallied : (b : ℕ) (row cs : List ℕ) → 3 ≤ length row → getD row 0 0 < 16777216 → SlotFrame b row → b ≤ 1024 → tallied row cs ≡ tallied (pointerWords row) cs
-unfolding partsFor
-slot-tallied b row cs l h f g =
-    let n : ℕ = partsFor 64 (getD row 1 0) in
+pub slot-tallied : (bytes b : ℕ) (row cs : List ℕ) → 3 ≤ length row → getD row 0 0 < 16777216 → SlotFrame bytes b row → bytes ≤ 512 → b ≤ 1024 → tallied row cs ≡ tallied (pointerWords bytes row) cs
+slot-tallied bytes b row cs l h f g₁ g₂ =
+    let most : bytes * b ≤ 524288 = mul-le-mul g₁ g₂ in
+    let n : ℕ = partsFor bytes (getD row 1 0) in
     let rest : allZero (drop n (drop 3 row)) ≡ true = ap allZero (drop-drop n 3 row) ∙ f .rest in
     ap (λ (ws : List ℕ). tallied ws cs) (three row l)
-    ∙ tallied-small (getD row 0 0) _ cs h ∙ tallied-small (getD row 1 0) _ cs (omega (arith, f .most, g)) ∙ tallied-small (getD row 2 0) _ cs (omega (arith, f .third))
+    ∙ tallied-small (getD row 0 0) _ cs h ∙ tallied-small (getD row 1 0) _ cs (omega (arith, f .most)) ∙ tallied-small (getD row 2 0) _ cs (omega (arith, f .third))
     ∙ ap (λ (ws : List ℕ). tallied ws cs) (sym (take-append-drop n (drop 3 row)))
     ∙ tallied-append (take n (drop 3 row)) (drop n (drop 3 row)) cs ∙ tallied-blank (drop n (drop 3 row)) _ rest
 

@@ -12,27 +12,27 @@ use Rattle.model.specs.Sound.{leads, nextPointers, endsZero}
 use Rattle.model.specs.Measures.{partsFor}
 use Rattle.audit_words.specs.Words.{PointerSays, SlotForm}
 
--- a slot's pointer words
-abbrev pub pointerWords : List ℕ → List ℕ
-pointerWords row = take (partsFor 64 (getD row 1 0)) (drop 3 row)
+-- a slot's pointer words, for blocks of so many bytes
+abbrev pub pointerWords : ℕ → List ℕ → List ℕ
+pointerWords bytes row = take (partsFor bytes (getD row 1 0)) (drop 3 row)
 
 -- the pointer words of the first of `count` slots, of which the others are newer: each says a pointer, which leads
-pub record SlotPoints (shelf : Shelf) (b count : ℕ) (slots : List ℕ) : Type 0 where
-  pub say : Each PointerSays (pointerWords (take (3 + b) slots))
-  pub lead : every (leads shelf (nextPointers (versionsIn 64 b (count - 1) (drop (3 + b) slots)))) (versionIn 64 (take (3 + b) slots) .pointers) ≡ true
+pub record SlotPoints (bytes : ℕ) (shelf : Shelf) (b count : ℕ) (slots : List ℕ) : Type 0 where
+  pub say : Each PointerSays (pointerWords bytes (take (3 + b) slots))
+  pub lead : every (leads shelf (nextPointers (versionsIn bytes b (count - 1) (drop (3 + b) slots)))) (versionIn bytes (take (3 + b) slots) .pointers) ≡ true
 
 -- the first of `count` slots, of which the others are newer: its number and its words, its pointers lead, and its last block ends in zeros
-pub record SlotSays (shelf : Shelf) (b count number : ℕ) (slots : List ℕ) : Type 0 where
+pub record SlotSays (bytes : ℕ) (shelf : Shelf) (b count number : ℕ) (slots : List ℕ) : Type 0 where
   pub numbered : getD slots 0 0 ≡ number
-  pub form : SlotForm b (take (3 + b) slots)
-  pub leading : every (leads shelf (nextPointers (versionsIn 64 b (count - 1) (drop (3 + b) slots)))) (versionIn 64 (take (3 + b) slots) .pointers) ≡ true
-  pub ends : endsZero 64 shelf (versionIn 64 (take (3 + b) slots)) (versionsIn 64 b (count - 1) (drop (3 + b) slots)) ≡ true
+  pub form : SlotForm bytes b (take (3 + b) slots)
+  pub leading : every (leads shelf (nextPointers (versionsIn bytes b (count - 1) (drop (3 + b) slots)))) (versionIn bytes (take (3 + b) slots) .pointers) ≡ true
+  pub ends : endsZero bytes shelf (versionIn bytes (take (3 + b) slots)) (versionsIn bytes b (count - 1) (drop (3 + b) slots)) ≡ true
 
 -- a till's words, for `v` versions of `b` blocks
-pub record TillSays (shelf : Shelf) (v b : ℕ) (row : List ℕ) : Type 0 where
+pub record TillSays (bytes : ℕ) (shelf : Shelf) (v b : ℕ) (row : List ℕ) : Type 0 where
   pub few : getD row 1 0 ≤ v
   pub upto : getD row 1 0 ≤ getD row 0 0
   pub most : getD row 0 0 ≤ 65535
   pub zeros : allZero (take 2 (drop 2 row)) ≡ true
-  pub slots : (i : ℕ) → i < getD row 1 0 → SlotSays shelf b (getD row 1 0 - i) (1 + getD row 0 0 - getD row 1 0 + i) (drop (i * (3 + b)) (drop 4 row))
+  pub slots : (i : ℕ) → i < getD row 1 0 → SlotSays bytes shelf b (getD row 1 0 - i) (1 + getD row 0 0 - getD row 1 0 + i) (drop (i * (3 + b)) (drop 4 row))
   pub rest : allZero (drop (4 + getD row 1 0 * (3 + b)) row) ≡ true

@@ -1,35 +1,51 @@
 // Tills: their versions' words, pointers and ends. The direct pointers are counted on the way.
 ghost use mathlib.Core.Bool.{true, false};
 ghost use mathlib.Core.Path.{_≡_};
-ghost use mathlib.Core.List.{List};
 ghost use Prim.Native.Nat.{ℕ, _+_, _*_, _-_, _^_, _≤_, _<_};
 ghost use lib.ListN.{length, getD, take, drop};
 ghost use Rattle.lists.specs.Tells.{Tells};
-ghost use Rattle.model.specs.Measures.{baseMeasures, tillWords};
-ghost use Rattle.model.specs.Table.{shelfIn};
+ghost use Rattle.model.specs.Measures.{tillWords};
+ghost use Rattle.model.specs.State.{Shelf};
+ghost use Rattle.model.specs.Table.{recordsIn, shelfIn};
+ghost use Rattle.laws.specs.Ranges.{Measured};
+ghost use Rattle.numbers.specs.Measures.{measuresOf};
 ghost use Rattle.audit_counts.specs.Counters.{tallied};
 ghost use Rattle.audit_tills.specs.Says.{pointerWords, SlotPoints, SlotSays, TillSays};
+use numbers::Measures;
 
-// Whether the pointer words of the first of some slots are good, of which the others are newer; whatever the pool. They are counted.
+// Whether the pointer words of the first of some slots are good, of which the others are newer; whatever the cells. They are counted.
 fn slot_points(
     records: &[u32],
     slots: &[u32],
     blocks: usize,
     count: usize,
     counts: &mut [u32],
+    m: Measures,
 ) -> bool
-    requires { ⌜ (0 < count) × (blocks ≤ 1024) × (count ≤ 64) × (count * (3 + blocks) ≤ length (now slots)) × ((k : ℕ) → getD (now counts) k 0 + blocks < 2 ^ 32) ⌝ }
-    ensures { λ r. ⌜ ((pool : List ℕ) → Tells r (SlotPoints (shelfIn baseMeasures pool (now (records .entry))) blocks count (now (slots .entry)))) × (r ≡ true → now (counts .exit) ≡ tallied (pointerWords (take (3 + blocks) (now (slots .entry)))) (now (counts .entry))) ⌝ }
+    requires { ⌜ Measured (measuresOf m) × (0 < count) × (blocks ≤ 1024) × (count ≤ 64) × (count * (3 + blocks) ≤ length (now slots)) × ((k : ℕ) → getD (now counts) k 0 + blocks < 2 ^ 32) ⌝ }
+    ensures { λ r. ⌜ ((shelf : Shelf) → shelf .records ≡ recordsIn (m .blocks) (now (records .entry)) → Tells r (SlotPoints (m .bytes) shelf blocks count (now (slots .entry)))) × (r ≡ true → now (counts .exit) ≡ tallied (pointerWords (m .bytes) (take (3 + blocks) (now (slots .entry)))) (now (counts .entry))) ⌝ }
 {
     let width = 3 + blocks;
-    let mine = 3 + audit_pointers::pointer_count(&slots[0..width], blocks);
+    let mine = 3 + audit_pointers::pointer_count(&slots[0..width], blocks, m.bytes);
     if count < 2 {
-        return audit_pointers::pointers_good(records, &slots[0..0], &slots[3..mine], counts);
+        return audit_pointers::pointers_good(
+            records,
+            &slots[0..0],
+            &slots[3..mine],
+            counts,
+            m.blocks,
+        );
     }
     let twice = width + width;
     let start = width + 3;
-    let end = start + audit_pointers::pointer_count(&slots[width..twice], blocks);
-    audit_pointers::pointers_good(records, &slots[start..end], &slots[3..mine], counts)
+    let end = start + audit_pointers::pointer_count(&slots[width..twice], blocks, m.bytes);
+    audit_pointers::pointers_good(
+        records,
+        &slots[start..end],
+        &slots[3..mine],
+        counts,
+        m.blocks,
+    )
 }
 
 // Whether the first of some slots says a version of this number.
@@ -41,21 +57,22 @@ fn slot_says(
     count: usize,
     number: usize,
     counts: &mut [u32],
+    m: Measures,
 ) -> bool
-    requires { ⌜ (0 < count) × (blocks ≤ 1024) × (count ≤ 64) × (count * (3 + blocks) ≤ length (now slots)) × (number ≤ 131072) × ((k : ℕ) → getD (now counts) k 0 + blocks < 2 ^ 32) ⌝ }
-    ensures { λ r. ⌜ Tells r (SlotSays (shelfIn baseMeasures (now (pool .entry)) (now (records .entry))) blocks count number (now (slots .entry))) × (r ≡ true → now (counts .exit) ≡ tallied (take (3 + blocks) (now (slots .entry))) (now (counts .entry))) ⌝ }
+    requires { ⌜ Measured (measuresOf m) × (0 < count) × (blocks ≤ 1024) × (count ≤ 64) × (count * (3 + blocks) ≤ length (now slots)) × (number ≤ 131072) × ((k : ℕ) → getD (now counts) k 0 + blocks < 2 ^ 32) ⌝ }
+    ensures { λ r. ⌜ Tells r (SlotSays (m .bytes) (shelfIn (measuresOf m) (now (pool .entry)) (now (records .entry))) blocks count number (now (slots .entry))) × (r ≡ true → now (counts .exit) ≡ tallied (take (3 + blocks) (now (slots .entry))) (now (counts .entry))) ⌝ }
 {
     let width = 3 + blocks;
     if slots[0] as usize != number {
         return false;
     }
-    if !audit_words::slot_frame(&slots[0..width], blocks) {
+    if !audit_words::slot_frame(&slots[0..width], blocks, m.bytes) {
         return false;
     }
-    if !slot_points(records, slots, blocks, count, counts) {
+    if !slot_points(records, slots, blocks, count, counts, m) {
         return false;
     }
-    audit_tails::tail_zero(pool, records, slots, blocks, count)
+    audit_tails::tail_zero(pool, records, slots, blocks, count, m)
 }
 
 // Whether all slots do, numbered on from the first.
@@ -67,9 +84,10 @@ fn slots_say(
     count: usize,
     first: usize,
     counts: &mut [u32],
+    m: Measures,
 ) -> bool
-    requires { ⌜ (first ≤ 65536) × (blocks ≤ 1024) × (count ≤ 64) × (count * (3 + blocks) ≤ length (now slots)) × ((k : ℕ) → getD (now counts) k 0 + count * (3 + blocks) < 2 ^ 32) ⌝ }
-    ensures { λ r. ⌜ Tells r ((i : ℕ) → i < count → SlotSays (shelfIn baseMeasures (now (pool .entry)) (now (records .entry))) blocks (count - i) (first + i) (drop (i * (3 + blocks)) (now (slots .entry)))) × (r ≡ true → now (counts .exit) ≡ tallied (take (count * (3 + blocks)) (now (slots .entry))) (now (counts .entry))) ⌝ }
+    requires { ⌜ Measured (measuresOf m) × (first ≤ 65536) × (blocks ≤ 1024) × (count ≤ 64) × (count * (3 + blocks) ≤ length (now slots)) × ((k : ℕ) → getD (now counts) k 0 + count * (3 + blocks) < 2 ^ 32) ⌝ }
+    ensures { λ r. ⌜ Tells r ((i : ℕ) → i < count → SlotSays (m .bytes) (shelfIn (measuresOf m) (now (pool .entry)) (now (records .entry))) blocks (count - i) (first + i) (drop (i * (3 + blocks)) (now (slots .entry)))) × (r ≡ true → now (counts .exit) ≡ tallied (take (count * (3 + blocks)) (now (slots .entry))) (now (counts .entry))) ⌝ }
 {
     let mut i: usize = 0;
     while i < count {
@@ -82,6 +100,7 @@ fn slots_say(
             count - i,
             first + i,
             counts,
+            m,
         ) {
             return false;
         }
@@ -98,9 +117,10 @@ fn till_says(
     versions: usize,
     blocks: usize,
     counts: &mut [u32],
+    m: Measures,
 ) -> bool
-    requires { ⌜ (versions ≤ 64) × (blocks ≤ 1024) × (length (now till) ≡ tillWords versions blocks) × ((k : ℕ) → getD (now counts) k 0 + length (now till) < 2 ^ 32) ⌝ }
-    ensures { λ r. ⌜ Tells r (TillSays (shelfIn baseMeasures (now (pool .entry)) (now (records .entry))) versions blocks (now (till .entry))) × (r ≡ true → now (counts .exit) ≡ tallied (now (till .entry)) (now (counts .entry))) ⌝ }
+    requires { ⌜ Measured (measuresOf m) × (versions ≤ 64) × (blocks ≤ 1024) × (length (now till) ≡ tillWords versions blocks) × ((k : ℕ) → getD (now counts) k 0 + length (now till) < 2 ^ 32) ⌝ }
+    ensures { λ r. ⌜ Tells r (TillSays (m .bytes) (shelfIn (measuresOf m) (now (pool .entry)) (now (records .entry))) versions blocks (now (till .entry))) × (r ≡ true → now (counts .exit) ≡ tallied (now (till .entry)) (now (counts .entry))) ⌝ }
 {
     let last = till[0] as usize;
     let count = till[1] as usize;
@@ -124,6 +144,7 @@ fn till_says(
         count,
         1 + last - count,
         counts,
+        m,
     ) {
         return false;
     }
@@ -140,16 +161,17 @@ pub fn tills_say(
     versions: usize,
     blocks: usize,
     counts: &mut [u32],
+    m: Measures,
 ) -> bool
-    requires { ⌜ (count ≤ 16) × (versions ≤ 64) × (blocks ≤ 1024) × (length (now tills) ≡ count * tillWords versions blocks) × ((k : ℕ) → getD (now counts) k 0 + length (now tills) < 2 ^ 32) ⌝ }
-    ensures { λ r. ⌜ Tells r ((t : ℕ) → t < count → TillSays (shelfIn baseMeasures (now (pool .entry)) (now (records .entry))) versions blocks (take (tillWords versions blocks) (drop (t * tillWords versions blocks) (now (tills .entry))))) × (r ≡ true → now (counts .exit) ≡ tallied (now (tills .entry)) (now (counts .entry))) ⌝ }
+    requires { ⌜ Measured (measuresOf m) × (count ≤ 16) × (versions ≤ 64) × (blocks ≤ 1024) × (length (now tills) ≡ count * tillWords versions blocks) × ((k : ℕ) → getD (now counts) k 0 + length (now tills) < 2 ^ 32) ⌝ }
+    ensures { λ r. ⌜ Tells r ((t : ℕ) → t < count → TillSays (m .bytes) (shelfIn (measuresOf m) (now (pool .entry)) (now (records .entry))) versions blocks (take (tillWords versions blocks) (drop (t * tillWords versions blocks) (now (tills .entry))))) × (r ≡ true → now (counts .exit) ≡ tallied (now (tills .entry)) (now (counts .entry))) ⌝ }
 {
     let width = 4 + versions * (3 + blocks);
     let mut t: usize = 0;
     while t < count {
         let at = t * width;
         let end = at + width;
-        if !till_says(pool, records, &tills[at..end], versions, blocks, counts) {
+        if !till_says(pool, records, &tills[at..end], versions, blocks, counts, m) {
             return false;
         }
         t += 1;

@@ -8,6 +8,7 @@ use native.Mathlib.Omega.{arith}
 use lib.ListN.{length, getD, take, drop, length-drop, List·getD-eq-default}
 use lib.Seq.{getD-take, getD-drop, length-take-le}
 use Rattle.lists.proofs.Masks.{bit-zero, half-bit}
+use Rattle.model.specs.Measures.{recordWords}
 use Rattle.model.specs.State.{nullPosition, held}
 use Rattle.model.specs.Records.{isHeld, cellOf, cellsOf}
 use Rattle.model.specs.Table.{positionOf, positionsIn, segmentIn}
@@ -67,26 +68,26 @@ positions-at h r (c ∷ cs) (n ∷ ns) e (suc i) l =
     positions-at (h / 2) (r / 2) cs ns (suc-inj e) i (le-of-suc-le-suc l)
     ∙ ap₂ (λ (a b : ℕ). positionOf a b (getD cs i 0) (getD ns i 0)) (half-bit h i) (half-bit r i)
 
--- ---- segmentIn, of 19 words
+-- ---- segmentIn, of a record's words
 
-module _ (row : List ℕ) (l : length row ≡ 19) where
-  pub cells-long : length (take 8 (drop 3 row)) ≡ 8
-  cells-long = length-take-le 8 (drop 3 row) (omega (arith, length-drop 3 row))
+module _ (n : ℕ) (row : List ℕ) (l : length row ≡ recordWords n) where
+  pub cells-long : length (take n (drop 3 row)) ≡ n
+  cells-long = length-take-le n (drop 3 row) (omega (arith, length-drop 3 row))
 
-  pub counts-long : length (take 8 (drop 11 row)) ≡ 8
-  counts-long = length-take-le 8 (drop 11 row) (omega (arith, length-drop 11 row))
+  pub counts-long : length (take n (drop (3 + n) row)) ≡ n
+  counts-long = length-take-le n (drop (3 + n) row) (omega (arith, length-drop (3 + n) row))
 
-  pub segment-long : length (segmentIn 8 row) ≡ 8
+  pub segment-long : length (segmentIn n row) ≡ n
   unfolding segmentIn
-  segment-long = length-positions _ _ (take 8 (drop 3 row)) (take 8 (drop 11 row)) (cells-long ∙ sym counts-long) ∙ cells-long
+  segment-long = length-positions _ _ (take n (drop 3 row)) (take n (drop (3 + n) row)) (cells-long ∙ sym counts-long) ∙ cells-long
 
-  pub segment-at : (i : ℕ) → i < 8
-      → getD (segmentIn 8 row) i nullPosition ≡ positionOf (bitOf (getD row 0 0) i) (bitOf (getD row 1 0) i) (getD row (3 + i) 0) (getD row (11 + i) 0)
+  pub segment-at : (i : ℕ) → i < n
+      → getD (segmentIn n row) i nullPosition ≡ positionOf (bitOf (getD row 0 0) i) (bitOf (getD row 1 0) i) (getD row (3 + i) 0) (getD row (3 + n + i) 0)
   unfolding segmentIn
   segment-at i h =
-      positions-at _ _ (take 8 (drop 3 row)) (take 8 (drop 11 row)) (cells-long ∙ sym counts-long) i (rw cells-long h)
+      positions-at _ _ (take n (drop 3 row)) (take n (drop (3 + n) row)) (cells-long ∙ sym counts-long) i (rw cells-long h)
       ∙ ap₂ (positionOf (bitOf (getD row 0 0) i) (bitOf (getD row 1 0) i))
-      (getD-take 8 (drop 3 row) i 0 h ∙ getD-drop 3 row i 0) (getD-take 8 (drop 11 row) i 0 h ∙ getD-drop 11 row i 0)
+      (getD-take n (drop 3 row) i 0 h ∙ getD-drop 3 row i 0) (getD-take n (drop (3 + n) row) i 0 h ∙ getD-drop (3 + n) row i 0)
 
-  pub segment-past : (i : ℕ) → 8 ≤ i → getD (segmentIn 8 row) i nullPosition ≡ nullPosition
-  segment-past i h = List·getD-eq-default (segmentIn 8 row) nullPosition {n = i} (omega (arith, segment-long))
+  pub segment-past : (i : ℕ) → n ≤ i → getD (segmentIn n row) i nullPosition ≡ nullPosition
+  segment-past i h = List·getD-eq-default (segmentIn n row) nullPosition {n = i} (omega (arith, segment-long))

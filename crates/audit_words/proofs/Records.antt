@@ -15,6 +15,7 @@ use Rattle.lists.proofs.Masks.{bit-zero, half-bit, mask-bit, mask-lt}
 use Rattle.lists.proofs.Tests.{or-true, or-left}
 use Rattle.lists.proofs.Checkers.{clash}
 use Rattle.lists.proofs.Slices.{drop-next}
+use Rattle.model.specs.Measures.{recordWords}
 use Rattle.model.specs.State.{Position, nullPosition, held, removed, Segment}
 use Rattle.model.specs.Records.{isHeld, isRemoved, isFree, cellOf, countOf}
 use Rattle.model.specs.Table.{positionOf, positionsIn, segmentIn, recordToWords}
@@ -133,50 +134,50 @@ unfolding isUsed
 used-at seg h z =
     free-mask seg (or-first (isFree seg) (ltb 0 (count isHeld seg)) h (le-ltb 0 (count isHeld seg) (let e = count-zero seg z in omega arith)))
 
--- ---- a record's 19 words
+-- ---- a record's words
 
-pub record RecordSays (row : List ℕ) : Type 0 where
-  pub words : recordToWords (segmentIn 8 row) ≡ row
-  pub used : isUsed (segmentIn 8 row) ≡ true
+pub record RecordSays (n : ℕ) (row : List ℕ) : Type 0 where
+  pub words : recordToWords (segmentIn n row) ≡ row
+  pub used : isUsed (segmentIn n row) ≡ true
 
-module _ (row : List ℕ) (l : length row ≡ 19) where
-  kept : RecordForm row → Kept (getD row 0 0) (getD row 1 0) (take 8 (drop 3 row)) (take 8 (drop 11 row))
+module _ (n : ℕ) (row : List ℕ) (l : length row ≡ recordWords n) where
+  kept : RecordForm n row → Kept (getD row 0 0) (getD row 1 0) (take n (drop 3 row)) (take n (drop (3 + n) row))
   kept f =
-      let e : length (take 8 (drop 3 row)) ≡ 8 = cells-long row l in
-      keeps _ _ _ _ (e ∙ sym (counts-long row l)) (rw e (f .helds)) (rw e (f .removeds)) (λ i h. at i (rw e at h))
+      let e : length (take n (drop 3 row)) ≡ n = cells-long n row l in
+      keeps _ _ _ _ (e ∙ sym (counts-long n row l)) (rw e (f .helds)) (rw e (f .removeds)) (λ i h. at i (rw e at h))
     where
-      at : (i : ℕ) → i < 8 → Form (getD row 0 0) (getD row 1 0) (getD (take 8 (drop 3 row)) i 0) (getD (take 8 (drop 11 row)) i 0) i
+      at : (i : ℕ) → i < n → Form (getD row 0 0) (getD row 1 0) (getD (take n (drop 3 row)) i 0) (getD (take n (drop (3 + n) row)) i 0) i
       at i h =
           let p = f .positions i h in
-          record { one = p .one; cell = λ z. getD-cut 3 i h ∙ p .cell z; count = λ z. getD-cut 11 i h ∙ p .count z }
+          record { one = p .one; cell = λ z. getD-cut 3 i h ∙ p .cell z; count = λ z. getD-cut (3 + n) i h ∙ p .count z }
         where
-          getD-cut : (a i : ℕ) → i < 8 → getD (take 8 (drop a row)) i 0 ≡ getD row (a + i) 0
-          getD-cut a i h = getD-take 8 (drop a row) i 0 h ∙ getD-drop a row i 0
+          getD-cut : (a i : ℕ) → i < n → getD (take n (drop a row)) i 0 ≡ getD row (a + i) 0
+          getD-cut a i h = getD-take n (drop a row) i 0 h ∙ getD-drop a row i 0
 
-  -- the 19 words, one by one
-  apart : row ≡ getD row 0 0 ∷ getD row 1 0 ∷ getD row 2 0 ∷ (take 8 (drop 3 row) ++ take 8 (drop 11 row))
+  -- the words, one by one
+  apart : row ≡ getD row 0 0 ∷ getD row 1 0 ∷ getD row 2 0 ∷ (take n (drop 3 row) ++ take n (drop (3 + n) row))
   apart =
       drop-next row 0 0 (omega (arith, l)) ∙ ap (λ (r : List ℕ). getD row 0 0 ∷ r) (drop-next row 1 0 (omega (arith, l))
       ∙ ap (λ (r : List ℕ). getD row 1 0 ∷ r) (drop-next row 2 0 (omega (arith, l))
       ∙ ap (λ (r : List ℕ). getD row 2 0 ∷ r)
-      (sym (take-append-drop 8 (drop 3 row))
-      ∙ ap (λ (r : List ℕ). take 8 (drop 3 row) ++ r) (drop-drop 8 3 row ∙ sym (take-all 8 (drop 11 row) (omega (arith, length-drop 11 row)))))))
+      (sym (take-append-drop n (drop 3 row))
+      ∙ ap (λ (r : List ℕ). take n (drop 3 row) ++ r) (drop-drop n 3 row ∙ sym (take-all n (drop (3 + n) row) (omega (arith, length-drop (3 + n) row)))))))
 
-  pub record-says : RecordForm row → RecordSays row
+  pub record-says : RecordForm n row → RecordSays n row
   unfolding recordToWords segmentIn
   record-says f =
       let k = kept f in
       record {
-        words = rw (k .helds, k .removeds, k .cells, k .counts) (ap (λ (x : ℕ). getD row 0 0 ∷ getD row 1 0 ∷ x ∷ (take 8 (drop 3 row) ++ take 8 (drop 11 row))) (sym (f .third)) ∙ sym apart);
+        words = rw (k .helds, k .removeds, k .cells, k .counts) (ap (λ (x : ℕ). getD row 0 0 ∷ getD row 1 0 ∷ x ∷ (take n (drop 3 row) ++ take n (drop (3 + n) row))) (sym (f .third)) ∙ sym apart);
         used = used-of _ (λ z. k .removeds ∙ f .used (sym (k .helds) ∙ z));
       }
 
-  module _ (s : RecordSays row) where
+  module _ (s : RecordSays n row) where
     abbrev seg : Segment
-    seg = segmentIn 8 row
+    seg = segmentIn n row
 
-    long : length seg ≡ 8
-    long = segment-long row l
+    long : length seg ≡ n
+    long = segment-long n row l
 
     word : (j : ℕ) → getD (recordToWords seg) j 0 ≡ getD row j 0
     word j = ap (λ (x : List ℕ). getD x j 0) (s .words)
@@ -193,23 +194,23 @@ module _ (row : List ℕ) (l : length row ≡ 19) where
     unfolding recordToWords
     third = word 2
 
-    cell : (i : ℕ) → i < 8 → getD row (3 + i) 0 ≡ cellOf (getD seg i nullPosition)
+    cell : (i : ℕ) → i < n → getD row (3 + i) 0 ≡ cellOf (getD seg i nullPosition)
     unfolding recordToWords
     cell i h =
         sym (word (3 + i))
-        ∙ ap (λ (n : ℕ). getD (recordToWords seg) n 0) (let e : 3 + i ≡ suc (suc (suc i)) = omega arith in e)
+        ∙ ap (λ (j : ℕ). getD (recordToWords seg) j 0) (let e : 3 + i ≡ suc (suc (suc i)) = omega arith in e)
         ∙ List·getD-append (map cellOf seg) (map countOf seg) 0 i (omega (arith, length-map seg cellOf, long))
         ∙ List·getD-map cellOf seg i nullPosition
 
-    counts : (i : ℕ) → i < 8 → getD row (11 + i) 0 ≡ countOf (getD seg i nullPosition)
+    counts : (i : ℕ) → i < n → getD row (3 + n + i) 0 ≡ countOf (getD seg i nullPosition)
     unfolding recordToWords
     counts i h =
-        sym (word (11 + i))
-        ∙ ap (λ (n : ℕ). getD (recordToWords seg) n 0) (let e : 11 + i ≡ suc (suc (suc (length (map cellOf seg) + i))) = omega (arith, length-map seg cellOf, long) in e)
+        sym (word (3 + n + i))
+        ∙ ap (λ (j : ℕ). getD (recordToWords seg) j 0) (let e : 3 + n + i ≡ suc (suc (suc (length (map cellOf seg) + i))) = omega (arith, length-map seg cellOf, long) in e)
         ∙ getD-append-add (map cellOf seg) (map countOf seg) i 0
         ∙ List·getD-map countOf seg i nullPosition
 
-    position : (i : ℕ) → i < 8 → PositionForm row i
+    position : (i : ℕ) → i < n → PositionForm n row i
     position i h =
         let hb : bitOf (getD row 0 0) i ≡ cond (isHeld (getD seg i nullPosition)) 1 0 = rw (← helds) (mask-bit isHeld seg i nullPosition (rw long h)) in
         let rb : bitOf (getD row 1 0) i ≡ cond (isRemoved (getD seg i nullPosition)) 1 0 = rw (← removeds) (mask-bit isRemoved seg i nullPosition (rw long h)) in
@@ -234,7 +235,7 @@ module _ (row : List ℕ) (l : length row ≡ 19) where
         no-count (held c n) e = absurd (omega arith)
         no-count removed e = refl
 
-    says-form : RecordForm row
+    says-form : RecordForm n row
     says-form = record {
       helds = rw helds at (rw long at (mask-lt isHeld seg));
       removeds = rw removeds at (rw long at (mask-lt isRemoved seg));
@@ -243,5 +244,5 @@ module _ (row : List ℕ) (l : length row ≡ 19) where
       used = λ z. sym removeds ∙ used-at seg (s .used) (helds ∙ z);
     }
 
-  pub says-record : RecordSays row → RecordForm row
+  pub says-record : RecordSays n row → RecordForm n row
   says-record s = says-form s

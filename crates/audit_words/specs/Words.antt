@@ -13,35 +13,35 @@ use Rattle.model.specs.Table.{pointerWord, wordToPointer}
 abbrev pub PointerSays : ℕ → Type 0
 PointerSays w = pointerWord (wordToPointer w) ≡ w
 
--- a slot of 3 + `b` words, in use: a length in range, and zeros behind its pointers
-pub record SlotFrame (b : ℕ) (row : List ℕ) : Type 0 where
+-- a slot of 3 + `b` words, for blocks of so many bytes, in use: a length in range, and zeros behind its pointers
+pub record SlotFrame (bytes b : ℕ) (row : List ℕ) : Type 0 where
   pub some : 1 ≤ getD row 1 0
-  pub most : getD row 1 0 ≤ 64 * b
+  pub most : getD row 1 0 ≤ bytes * b
   pub third : getD row 2 0 ≡ 0
-  pub rest : allZero (drop (3 + partsFor 64 (getD row 1 0)) row) ≡ true
+  pub rest : allZero (drop (3 + partsFor bytes (getD row 1 0)) row) ≡ true
 
 -- and its pointers
-pub record SlotForm (b : ℕ) (row : List ℕ) : Type 0 where
+pub record SlotForm (bytes b : ℕ) (row : List ℕ) : Type 0 where
   pub some : 1 ≤ getD row 1 0
-  pub most : getD row 1 0 ≤ 64 * b
+  pub most : getD row 1 0 ≤ bytes * b
   pub third : getD row 2 0 ≡ 0
-  pub pointers : Each PointerSays (take (partsFor 64 (getD row 1 0)) (drop 3 row))
-  pub rest : allZero (drop (3 + partsFor 64 (getD row 1 0)) row) ≡ true
+  pub pointers : Each PointerSays (take (partsFor bytes (getD row 1 0)) (drop 3 row))
+  pub rest : allZero (drop (3 + partsFor bytes (getD row 1 0)) row) ≡ true
 
 -- bit `i` of a mask
 abbrev pub bitOf : ℕ → ℕ → ℕ
 bitOf m i = m / 2 ^ i % 2
 
--- position `i` of a record's 19 words: not both held and removed; the cell and the count of one that is not held are zero
-pub record PositionForm (row : List ℕ) (i : ℕ) : Type 0 where
+-- position `i` of the words of a record of `n` positions: not both held and removed; the cell and the count of one that is not held are zero
+pub record PositionForm (n : ℕ) (row : List ℕ) (i : ℕ) : Type 0 where
   pub one : bitOf (getD row 0 0) i ≡ 1 → bitOf (getD row 1 0) i ≡ 0
   pub cell : bitOf (getD row 0 0) i ≡ 0 → getD row (3 + i) 0 ≡ 0
-  pub count : bitOf (getD row 0 0) i ≡ 0 → getD row (11 + i) 0 ≡ 0
+  pub count : bitOf (getD row 0 0) i ≡ 0 → getD row (3 + n + i) 0 ≡ 0
 
--- a record's 19 words; in use, the record holds a position
-pub record RecordForm (row : List ℕ) : Type 0 where
-  pub helds : getD row 0 0 < 256
-  pub removeds : getD row 1 0 < 256
+-- a record's words; in use, the record holds a position
+pub record RecordForm (n : ℕ) (row : List ℕ) : Type 0 where
+  pub helds : getD row 0 0 < 2 ^ n
+  pub removeds : getD row 1 0 < 2 ^ n
   pub third : getD row 2 0 ≡ 0
-  pub positions : (i : ℕ) → i < 8 → PositionForm row i
+  pub positions : (i : ℕ) → i < n → PositionForm n row i
   pub used : getD row 0 0 ≡ 0 → getD row 1 0 ≡ 0

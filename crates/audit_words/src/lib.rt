@@ -1,12 +1,13 @@
 // Whether the words of a slot, a record and a pointer are in order. Each check's contract says exactly when it is true.
 ghost use mathlib.Core.Bool.{true, false};
 ghost use mathlib.Core.Path.{_≡_};
-ghost use Prim.Native.Nat.{ℕ, _+_, _*_, _/_, _%_, _≤_, _<_};
+ghost use Prim.Native.Nat.{ℕ, _+_, _*_, _/_, _%_, _^_, _≤_, _<_};
 ghost use lib.ListN.{length};
 ghost use Rattle.lists.specs.Tells.{Tells};
 ghost use Rattle.lists.specs.Lists.{allZero};
 ghost use Rattle.lists.specs.Rows.{chunks};
 ghost use Rattle.lists.specs.Each.{Each};
+ghost use Rattle.model.specs.Measures.{recordWords};
 ghost use Rattle.audit_words.specs.Words.{bitOf, SlotFrame, PositionForm, RecordForm};
 
 // Whether all words are zero. No exit from the loop, so that the compiler takes many words at a time.
@@ -25,22 +26,30 @@ pub fn zeros(words: &[u32]) -> bool
 }
 
 // Whether a slot in use has a version's words, but for its pointers.
-pub fn slot_frame(row: &[u32], blocks: usize) -> bool
-    requires { ⌜ (blocks ≤ 1024) × (length (now row) ≡ 3 + blocks) ⌝ }
-    ensures { λ r. ⌜ Tells r (SlotFrame blocks (now (row .entry))) ⌝ }
+pub fn slot_frame(row: &[u32], blocks: usize, bytes: usize) -> bool
+    requires { ⌜ (blocks ≤ 1024) × (length (now row) ≡ 3 + blocks) × (0 < bytes) × (bytes ≤ 512) ⌝ }
+    ensures { λ r. ⌜ Tells r (SlotFrame bytes blocks (now (row .entry))) ⌝ }
 {
-    let bytes = row[1] as usize;
-    if bytes < 1 {
+    let length = row[1] as usize;
+    if length < 1 {
         return false;
     }
-    if 64 * blocks < bytes {
+    if bytes * blocks < length {
         return false;
     }
     if row[2] != 0 {
         return false;
     }
-    let end = 3 + (bytes + 63) / 64;
+    let end = 3 + numbers::parts_for(bytes, length);
     zeros(&row[end..])
+}
+
+// The first number that is no mask of n positions.
+fn past_masks(n: usize) -> u32
+    requires { ⌜ n ≤ 16 ⌝ }
+    ensures { λ r. ⌜ r ≡ 2 ^ n ⌝ }
+{
+    1u32 << n
 }
 
 // A bit of a mask.
@@ -52,9 +61,9 @@ pub fn bit(m: u32, i: usize) -> u32
 }
 
 // Whether a position's words are in order.
-fn position_form(row: &[u32], i: usize) -> bool
-    requires { ⌜ (i < 8) × (length (now row) ≡ 19) ⌝ }
-    ensures { λ r. ⌜ Tells r (PositionForm (now (row .entry)) i) ⌝ }
+fn position_form(row: &[u32], i: usize, n: usize) -> bool
+    requires { ⌜ (i < n) × (length (now row) ≡ recordWords n) × (n ≤ 16) ⌝ }
+    ensures { λ r. ⌜ Tells r (PositionForm n (now (row .entry)) i) ⌝ }
 {
     if bit(row[0], i) == 1 {
         return bit(row[1], i) == 0;
@@ -62,17 +71,17 @@ fn position_form(row: &[u32], i: usize) -> bool
     if row[3 + i] != 0 {
         return false;
     }
-    row[11 + i] == 0
+    row[3 + n + i] == 0
 }
 
 // Whether the words of all positions are.
-fn positions_form(row: &[u32]) -> bool
-    requires { ⌜ length (now row) ≡ 19 ⌝ }
-    ensures { λ r. ⌜ Tells r ((i : ℕ) → i < 8 → PositionForm (now (row .entry)) i) ⌝ }
+fn positions_form(row: &[u32], n: usize) -> bool
+    requires { ⌜ (length (now row) ≡ recordWords n) × (n ≤ 16) ⌝ }
+    ensures { λ r. ⌜ Tells r ((i : ℕ) → i < n → PositionForm n (now (row .entry)) i) ⌝ }
 {
     let mut i: usize = 0;
-    while i < 8 {
-        if !position_form(row, i) {
+    while i < n {
+        if !position_form(row, i, n) {
             return false;
         }
         i += 1;
@@ -91,16 +100,17 @@ fn in_use(helds: u32, removeds: u32) -> bool
 }
 
 // Whether a record's words are in order.
-fn record_form(row: &[u32]) -> bool
-    requires { ⌜ length (now row) ≡ 19 ⌝ }
-    ensures { λ r. ⌜ Tells r (RecordForm (now (row .entry))) ⌝ }
+fn record_form(row: &[u32], n: usize) -> bool
+    requires { ⌜ (length (now row) ≡ recordWords n) × (n ≤ 16) ⌝ }
+    ensures { λ r. ⌜ Tells r (RecordForm n (now (row .entry))) ⌝ }
 {
     let helds = row[0];
     let removeds = row[1];
-    if 255 < helds {
+    let past = past_masks(n);
+    if past <= helds {
         return false;
     }
-    if 255 < removeds {
+    if past <= removeds {
         return false;
     }
     if row[2] != 0 {
@@ -109,19 +119,21 @@ fn record_form(row: &[u32]) -> bool
     if !in_use(helds, removeds) {
         return false;
     }
-    positions_form(row)
+    positions_form(row, n)
 }
 
 // Whether the words of all records are.
-pub fn records_form(records: &[u32]) -> bool
-    ensures { λ r. ⌜ Tells r (Each RecordForm (chunks 19 (now (records .entry)))) ⌝ }
+pub fn records_form(records: &[u32], n: usize) -> bool
+    requires { ⌜ n ≤ 16 ⌝ }
+    ensures { λ r. ⌜ Tells r (Each (RecordForm n) (chunks (recordWords n) (now (records .entry)))) ⌝ }
 {
-    let n = records.len() / 19;
+    let width = numbers::row_words(n);
+    let count = numbers::parts(records.len(), width);
     let mut k: usize = 0;
-    while k < n {
-        let at = k * 19;
-        let end = at + 19;
-        if !record_form(&records[at..end]) {
+    while k < count {
+        let at = k * width;
+        let end = at + width;
+        if !record_form(&records[at..end], n) {
             return false;
         }
         k += 1;

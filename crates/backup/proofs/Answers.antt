@@ -12,11 +12,11 @@ use Rattle.model.specs.Place.{Placed, placeAll}
 use Rattle.model.specs.State.{Block, Pointer, Shelf, State, Outcome, refused, done}
 use Rattle.model.specs.Table.{shapeOf, stateIn, stateToBytes, stateToWords, pointerWord}
 use Rattle.model.specs.Turn.{turn, target, indirectTo}
-use Rattle.laws.proofs.Stores.{tillAt, Sound}
+use Rattle.laws.specs.Stores.{tillAt, Sound}
 use Rattle.laws.proofs.Tills.{there}
 use Rattle.accept.specs.Accept.{Accepted}
 use Rattle.accept.proofs.Judging.{goes-on}
-use Rattle.backup.specs.Backup.{sweptState, ShelvedOn, DidOn, FiledOn}
+use Rattle.backup.specs.Backup.{measuresOn, blocksOn, placedOn, sweptState, ShelvedOn, DidOn, FiledOn}
 
 turn-size : (shelf : Shelf) (bs : List Block) (qs : List Pointer) → length (turn shelf bs qs) ≡ length qs
 unfolding turn
@@ -30,9 +30,9 @@ module _ (pool table : List ℕ) (h : Sound pool table) (t : ℕ) (image : List 
   ps = newestPointers (tillOf st t .versions)
 
   abbrev o : Outcome Placed
-  o = placeAll (done (record { shelf = st .shelf; pointers = [] })) (imageSegments 64 8 image)
+  o = placedOn pool table image
 
-  answer : backupOf pool table t image ≡ backupAnswer pool table (shapeOf table) (fileIn (shapeOf table) st t image (imageBlocks 64 image) (tillOf st t) o)
+  answer : backupOf pool table t image ≡ backupAnswer pool table (shapeOf table) (fileIn (shapeOf table) st t image (imageBlocks (measuresOn table .blockBytes) image) (tillOf st t) o)
   unfolding placeAndFile shapeOf
   answer = goes-on h t (a .there) image (a .some) (a .few) (a .free)
 
@@ -41,24 +41,24 @@ module _ (pool table : List ℕ) (h : Sound pool table) (t : ℕ) (image : List 
     refused-answer z = go o d ∙ sym answer
       where
         go : (x : Outcome Placed) → DidOn image ps pool table x r pool′ table′ words′ prev′
-            → record { refusal = r; version = 0; pool = pool′; table = table′ } ≡ backupAnswer pool table (shapeOf table) (fileIn (shapeOf table) st t image (imageBlocks 64 image) (tillOf st t) x)
+            → record { refusal = r; version = 0; pool = pool′; table = table′ } ≡ backupAnswer pool table (shapeOf table) (fileIn (shapeOf table) st t image (imageBlocks (measuresOn table .blockBytes) image) (tillOf st t) x)
         go (refused n) q = unfold backupAnswer fileIn in (λ i. record { refusal = q .0 i; version = 0; pool = q .2 i; table = q .3 i })
         go (done p) q = absurd (z (q .0))
 
     pub filed-answer : r ≡ 0 → (at end b k last : ℕ) (out : List ℕ) → last ≡ tillOf st t .last → b ≡ getD table 2 0 → at ≡ tillAt (shapeOf table) t
-        → end ≡ at + tillWords (getD table 1 0) (getD table 2 0) → k ≡ length (imageBlocks 64 image) → FiledOn at end b prev′ (length image) (take k words′) table′ out
+        → end ≡ at + tillWords (getD table 1 0) (getD table 2 0) → k ≡ length (imageBlocks (measuresOn table .blockBytes) image) → FiledOn at end b prev′ (length image) (take k words′) table′ out
         → record { refusal = 0; version = last + 1; pool = pool′; table = out } ≡ backupOf pool table t image
     unfolding tillOf withTill shapeOf backupAnswer fileIn stateToBytes
     filed-answer z at end b k last out el eb ea ee ek f = go o d ∙ sym answer
       where
         go : (x : Outcome Placed) → DidOn image ps pool table x r pool′ table′ words′ prev′
-            → record { refusal = 0; version = last + 1; pool = pool′; table = out } ≡ backupAnswer pool table (shapeOf table) (fileIn (shapeOf table) st t image (imageBlocks 64 image) (tillOf st t) x)
+            → record { refusal = 0; version = last + 1; pool = pool′; table = out } ≡ backupAnswer pool table (shapeOf table) (fileIn (shapeOf table) st t image (imageBlocks (measuresOn table .blockBytes) image) (tillOf st t) x)
         go (refused n) q = absurd (omega (arith, z, q .0, q .1))
         go (done p) q =
-            let turned : List Pointer = turn (p .shelf) (imageBlocks 64 image) ps in
-            let lt : length turned ≡ length ps = turn-size (p .shelf) (imageBlocks 64 image) ps in
+            let turned : List Pointer = turn (p .shelf) (imageBlocks (measuresOn table .blockBytes) image) ps in
+            let lt : length turned ≡ length ps = turn-size (p .shelf) (imageBlocks (measuresOn table .blockBytes) image) ps in
             let v : last + 1 ≡ suc (tillOf st t .last) = omega (arith, el) in
-            let e = f (shapeOf table) (sweptState st (imageBlocks 64 image) ps (p .shelf)) t turned (take k (p .pointers)) (there h t (a .there))
+            let e = f (shapeOf table) (sweptState (measuresOn table) st (blocksOn table image) ps (p .shelf)) t turned (take k (p .pointers)) (there h t (a .there))
             eb ea ee (q .1 .tables) (a .free .room) (q .1 .turned) lt (ap (take k) (q .1 .placed) ∙ take-map pointerWord k (p .pointers)) in
-            let e′ = e ∙ ap (λ (j : ℕ). stateToWords (shapeOf table) (withTill st t (tillWith (tillOf st t) turned (length image) (take j (p .pointers))) (sweptState st (imageBlocks 64 image) ps (p .shelf) .shelf))) ek in
+            let e′ = e ∙ ap (λ (j : ℕ). stateToWords (shapeOf table) (withTill st t (tillWith (tillOf st t) turned (length image) (take j (p .pointers))) (sweptState (measuresOn table) st (blocksOn table image) ps (p .shelf) .shelf))) ek in
             (λ i. record { refusal = 0; version = v i; pool = q .1 .bytes i; table = e′ i })

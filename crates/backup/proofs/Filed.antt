@@ -9,7 +9,8 @@ use Rattle.model.specs.Calls.{tillOf, tillWith, newestPointers}
 use Rattle.model.specs.Measures.{Shape, tillWords}
 use Rattle.model.specs.State.{Pointer, Till, State}
 use Rattle.model.specs.Table.{tillToWords, stateToWords, pointerWord}
-use Rattle.laws.proofs.Stores.{tillAt, till-is, till-put}
+use Rattle.laws.specs.Stores.{tillAt}
+use Rattle.laws.proofs.Stores.{till-is, till-put}
 use Rattle.backup.specs.Backup.{FileReady, FiledOn}
 
 pub filed-on : (at end b : ℕ) (turned : List ℕ) (bytes : ℕ) (pointers table out : List ℕ)

@@ -8,19 +8,22 @@ use lib.ListN.{length, getD, take, drop}
 use borrow.Rule.Slice.PartMut.{midOf, putMid}
 use Rattle.lists.specs.Rows.{joined, rows}
 use Rattle.model.specs.Image.{imageBlocks, imageSegments}
-use Rattle.model.specs.Measures.{Capacities, baseMeasures}
+use Rattle.lists.proofs.Rows.{length-rows}
+use Rattle.model.specs.Measures.{Measures, recordWords, tableWords}
 use Rattle.model.specs.Place.{Placed, placeAll}
 use Rattle.model.specs.State.{Block, Pointer, Segment, Shelf, State, Outcome, refused, done}
 use Rattle.model.specs.Table.{shapeOf, stateIn, shelfIn, stateToWords, stateToBytes, recordToWords}
 use Rattle.laws.proofs.Clean.{ShelfFits}
-use Rattle.laws.proofs.Stores.{recordsFrom, records-is, records-put, Sound, found, fits, valid, long, header}
+use Rattle.laws.specs.Stores.{recordsFrom, Sound}
+use Rattle.laws.proofs.Stores.{records-is, records-put, found, fits, valid, long, header}
 use Rattle.laws.proofs.Measures.{sizes}
-use Rattle.laws.proofs.Sweep.{Exact}
-use Rattle.place_words.proofs.Storing.{Back, count-is}
-use Rattle.shelf.proofs.Read.{records-of}
-use Rattle.ready.proofs.Shelf.{sound-back, sound-ready}
-use Rattle.shelve.specs.Shelve.{Pointed, Readied, Turned, DidShelve}
-use Rattle.backup.specs.Backup.{ShelfReady, sweptState, ShelvedOn, DidOn}
+use Rattle.meets.proofs.Records.{shelf-is, stored-read}
+use Rattle.place.specs.All.{segmentsIn, placedIn}
+use Rattle.ready.proofs.Shelf.{sound-counts}
+use Rattle.shelf.specs.Stored.{Countable}
+use Rattle.shelf.proofs.Read.{wide-of}
+use Rattle.shelve.specs.Shelve.{Pointed, Readied, DidShelve}
+use Rattle.backup.specs.Backup.{measuresOn, blocksOn, placedOn, ShelfReady, sweptState, DidOn}
 
 module _ {pool table : List ℕ} (h : Sound pool table) where
   abbrev st : State
@@ -41,10 +44,6 @@ module _ {pool table : List ℕ} (h : Sound pool table) where
   unfolding stateToBytes
   bytes-are = sym (found h .bytes)
 
-  back : Back 2147483648 (st .shelf) pool part
-  unfolding shapeOf
-  back = sound-back (shapeOf table .capacities) st (found h .sound) pool part bytes-are part-is
-
   part-put : (shelf : Shelf) (ws : List ℕ) → ws ≡ rows recordToWords (shelf .records)
       → putMid (recordsFrom (shapeOf table)) (length table - recordsFrom (shapeOf table)) table ws ≡ stateToWords (shapeOf table) (record { tills = st .tills; shelf = shelf })
   part-put shelf ws e =
@@ -52,44 +51,61 @@ module _ {pool table : List ℕ} (h : Sound pool table) where
       ∙ subst (λ (l : List ℕ). take (recordsFrom (shapeOf table)) l ++ (rows recordToWords (shelf .records) ++ drop (length l - recordsFrom (shapeOf table)) (drop (recordsFrom (shapeOf table)) l)) ≡ stateToWords (shapeOf table) (record { tills = st .tills; shelf = shelf }))
       (found h .words) (records-put (shapeOf table) st count (shelf .records) (shelf .cells))
 
-  records-count : length part / 19 ≡ getD table 3 0
-  unfolding shapeOf
-  records-count = sym (count-is (back .stored)) ∙ ap length (sym (records-of pool part)) ∙ ap (λ (x : Shelf). length (x .records)) (back .shelf) ∙ fits h .recordCount
+  shelf-back : shelfIn (measuresOn table) pool part ≡ st .shelf
+  shelf-back = shelf-is h (recordsFrom (shapeOf table)) refl
 
-module _ (image pool table : List ℕ) (from : ℕ) (words prev : List ℕ) (r : ShelfReady image pool table from words prev) where
+  part-length : length part ≡ getD table 3 0 * recordWords (measuresOn table .segmentBlocks)
+  unfolding shapeOf
+  part-length =
+      ap length part-is ∙ length-rows recordToWords (recordWords (measuresOn table .segmentBlocks)) (st .shelf .records) (wide-of (measuresOn table .segmentBlocks) (st .shelf .records) (fits h .records))
+      ∙ ap (λ (n : ℕ). n * recordWords (measuresOn table .segmentBlocks)) (fits h .recordCount)
+
+module _ (m : Measures) (image pool table : List ℕ) (from : ℕ) (words prev : List ℕ) (r : ShelfReady m image pool table from words prev) where
   pub from-in : from ≤ length table
   from-in = go (long (r .sound)) (r .begins)
     where
-      go : length table ≡ Rattle.model.specs.Measures.tableWords (shapeOf table) → from ≡ recordsFrom (shapeOf table) → from ≤ length table
-      go l b = unfold Rattle.model.specs.Measures.tableWords in omega (arith, l, b)
+      go : length table ≡ tableWords (shapeOf table) → from ≡ recordsFrom (shapeOf table) → from ≤ length table
+      go l b = unfold tableWords in omega (arith, l, b)
 
-  pub readied : Readied image pool (midOf from (length table - from) table) words prev
-  readied = subst (λ (k : ℕ). Readied image pool (midOf k (length table - k) table) words prev) (sym (r .begins)) (record {
-    ready = unfold shapeOf in sound-ready (shapeOf table .capacities) (st (r .sound)) (found (r .sound) .sound) pool (part (r .sound)) (bytes-are (r .sound)) (part-is (r .sound)) image words (r .short) (r .room);
-    fits = subst (λ (x : Shelf). ShelfFits baseMeasures x) (sym (back (r .sound) .shelf)) (unfold shapeOf in valid (r .sound) .fits);
-    exact = subst (λ (x : Shelf). Exact x) (sym (back (r .sound) .shelf)) (valid (r .sound) .exact);
-    pointers = subst (λ (n : ℕ). Pointed n prev) (sym (records-count (r .sound))) (r .pointers);
-  })
+  -- where the records begin, and with the table's measures
+  readied-on : Readied (measuresOn table) image pool (part (r .sound)) words prev
+  readied-on = record {
+    ready = record {
+      most = r .short;
+      stored = stored-read (r .sound) (recordsFrom (shapeOf table)) refl (measuresOn table) refl;
+      counts =
+          unfold shelfIn in subst (λ (x : Shelf). Countable 2147483648 (x .records)) (sym (shelf-back (r .sound))) (sound-counts (shapeOf table) (st (r .sound)) (found (r .sound) .sound));
+      room = r .room ∙ ap (λ (n : Measures). segmentsIn n image * n .segmentBlocks) (r .measures);
+    };
+    fits = subst (λ (x : Shelf). ShelfFits (measuresOn table) x) (sym (shelf-back (r .sound))) (valid (r .sound) .fits);
+    pointers = subst (λ (l : ℕ). Pointed (measuresOn table .segmentBlocks) l prev) (sym (part-length (r .sound))) (r .pointers);
+  }
+
+  pub readied : Readied m image pool (midOf from (length table - from) table) words prev
+  readied =
+      subst (λ (n : Measures). Readied n image pool (midOf from (length table - from) table) words prev) (sym (r .measures))
+      (subst (λ (k : ℕ). Readied (measuresOn table) image pool (midOf k (length table - k) table) words prev) (sym (r .begins)) readied-on)
 
   -- the steps' result, on the table
   pub done-on : (ps : List Pointer) (n : ℕ) (pool′ ws′ words′ prev′ : List ℕ)
-      → DidShelve image ps (placeAll (done (record { shelf = shelfIn baseMeasures pool (midOf from (length table - from) table); pointers = [] })) (imageSegments 64 8 image)) n pool (midOf from (length table - from) table) pool′ ws′ words′ prev′
-      → DidOn image ps pool table (placeAll (done (record { shelf = st (r .sound) .shelf; pointers = [] })) (imageSegments 64 8 image)) n pool′ (putMid from (length table - from) table ws′) words′ prev′
+      → DidShelve m image ps (placedIn m image pool (midOf from (length table - from) table)) n pool (midOf from (length table - from) table) pool′ ws′ words′ prev′
+      → DidOn image ps pool table (placedOn pool table image) n pool′ (putMid from (length table - from) table ws′) words′ prev′
   done-on ps n pool′ ws′ words′ prev′ d =
-      subst (λ (k : ℕ). DidShelve image ps (placeAll (done (record { shelf = shelfIn baseMeasures pool (midOf k (length table - k) table); pointers = [] })) (imageSegments 64 8 image)) n pool (midOf k (length table - k) table) pool′ ws′ words′ prev′
-      → DidOn image ps pool table (placeAll (done (record { shelf = st (r .sound) .shelf; pointers = [] })) (imageSegments 64 8 image)) n pool′ (putMid k (length table - k) table ws′) words′ prev′)
+      subst (λ (k : ℕ). DidShelve (measuresOn table) image ps (placedIn (measuresOn table) image pool (midOf k (length table - k) table)) n pool (midOf k (length table - k) table) pool′ ws′ words′ prev′
+      → DidOn image ps pool table (placedOn pool table image) n pool′ (putMid k (length table - k) table ws′) words′ prev′)
       (sym (r .begins))
-      (λ q. go (placeAll (done (record { shelf = st (r .sound) .shelf; pointers = [] })) (imageSegments 64 8 image))
-      (subst (λ (x : Shelf). DidShelve image ps (placeAll (done (record { shelf = x; pointers = [] })) (imageSegments 64 8 image)) n pool (part (r .sound)) pool′ ws′ words′ prev′) (back (r .sound) .shelf) q)) d
+      (λ q. go (placedOn pool table image)
+      (subst (λ (x : Shelf). DidShelve (measuresOn table) image ps (placeAll (done (record { shelf = x; pointers = [] })) (imageSegments (measuresOn table .blockBytes) (measuresOn table .segmentBlocks) image)) n pool (part (r .sound)) pool′ ws′ words′ prev′) (shelf-back (r .sound)) q))
+      (subst (λ (x : Measures). DidShelve x image ps (placedIn x image pool (midOf from (length table - from) table)) n pool (midOf from (length table - from) table) pool′ ws′ words′ prev′) (r .measures) d)
     where
-      go : (o : Outcome Placed) → DidShelve image ps o n pool (part (r .sound)) pool′ ws′ words′ prev′
+      go : (o : Outcome Placed) → DidShelve (measuresOn table) image ps o n pool (part (r .sound)) pool′ ws′ words′ prev′
           → DidOn image ps pool table o n pool′ (putMid (recordsFrom (shapeOf table)) (length table - recordsFrom (shapeOf table)) table ws′) words′ prev′
       go (refused k) q = (q .0, q .1, q .2, part-put (r .sound) (st (r .sound) .shelf) ws′ (q .3 ∙ part-is (r .sound)) ∙ found (r .sound) .words)
       go (done p) q = (
         q .0,
         record {
-          bytes = unfold stateToBytes in q .1 .told .cells .bytes;
-          tables = part-put (r .sound) (sweptState (st (r .sound)) (imageBlocks 64 image) ps (p .shelf) .shelf) ws′ (q .1 .told .records .words);
+          bytes = unfold stateToBytes in q .1 .told .cells .joins;
+          tables = part-put (r .sound) (sweptState (measuresOn table) (st (r .sound)) (blocksOn table image) ps (p .shelf) .shelf) ws′ (q .1 .told .records .words);
           turned = q .1 .words;
           placed = q .2;
         },

@@ -8,19 +8,21 @@ use lib.ListN.{length, getD, length-map}
 use Rattle.lists.specs.Each.{Each}
 use Rattle.lists.proofs.Each.{each-at, each-weaken}
 use Rattle.model.specs.Calls.{tillOf, emptyTill, newestPointers}
-use Rattle.model.specs.Measures.{partsFor}
+use Rattle.model.specs.Measures.{Measures, recordWords}
 use Rattle.model.specs.State.{Version, Till}
 use Rattle.model.specs.Table.{shapeOf, stateIn, tillToWords, pointerWord, wordToPointer}
 use Rattle.laws.proofs.Fits.{VersionFits, TillFits}
 use Rattle.laws.proofs.Measures.{sizes}
 use Rattle.laws.proofs.RoundTrip.{length-till, held-word, last-word}
-use Rattle.laws.proofs.Stores.{Sound, header, fits, found}
+use Rattle.laws.specs.Stores.{Sound}
+use Rattle.laws.proofs.Stores.{header, fits, found}
 use Rattle.laws.proofs.Tills.{there, few, last-most}
 use Rattle.accept.specs.Accept.{Free}
 use Rattle.filing.specs.Filing.{Room, SlotLeft, FewBlocks, Whole, Held}
 use Rattle.filing.proofs.Slots.{few-blocks}
-use Rattle.ready.proofs.Newest.{Good, newest-good, newest-few, words-back}
+use Rattle.ready.proofs.Newest.{newest-good, newest-few, words-back}
 use Rattle.shelve.specs.Shelve.{Pointed}
+use Rattle.turn.specs.Turn.{Followable}
 
 module _ {pool table : List ℕ} (h : Sound pool table) (t : ℕ) (in-table : t < getD table 0 0) where
   abbrev v : ℕ
@@ -36,11 +38,11 @@ module _ {pool table : List ℕ} (h : Sound pool table) (t : ℕ) (in-table : t 
   unfolding tillOf
   till-fit = each-at (TillFits (shapeOf table)) emptyTill (stateIn (shapeOf table) pool table .tills) (fits h .tills) t (there h t in-table)
 
-  pub till-held : Held v b till
-  unfolding shapeOf partsFor
+  till-held : Held (shapeOf table .measures .blockBytes) v b till
+  unfolding shapeOf
   till-held = record {
     most = few h t in-table;
-    versions = each-weaken (VersionFits (shapeOf table)) (Whole b) (λ u f. record { blocks = f .blocks; most = f .most }) (till .versions) (till-fit .versions);
+    versions = each-weaken (VersionFits (shapeOf table)) (Whole (shapeOf table .measures .blockBytes) b) (λ u f. record { blocks = f .blocks; most = f .most }) (till .versions) (till-fit .versions);
   }
 
   module _ (ws : List ℕ) (e : ws ≡ tillToWords v b till) where
@@ -69,23 +71,32 @@ module _ {pool table : List ℕ} (h : Sound pool table) (t : ℕ) (in-table : t 
         let m : (length (till .versions) + 1) * (3 + b) ≤ v * (3 + b) = mul-le-mul-right (3 + b) n in
         record { slot = rw (held, size) (omega (arith, m)); number = omega (arith, last, f .number) }
 
-    pub till-few : FewBlocks b ws
-    till-few = few-blocks v b till ws till-held e
+    till-few : FewBlocks (shapeOf table .measures .blockBytes) b ws
+    till-few = few-blocks (shapeOf table .measures .blockBytes) v b till ws (omega (arith, header h .measured .someBytes)) (header h .image) till-held e
+
+  -- with the measures as the code read them
+  module _ (m : Measures) (em : m ≡ shapeOf table .measures) where
+    pub held-read : Held (m .blockBytes) v b till
+    held-read = rw em till-held
+
+    pub few-read : (ws : List ℕ) → ws ≡ tillToWords v b till → FewBlocks (m .blockBytes) b ws × (0 < m .blockBytes) × (m .blockBytes ≤ 512)
+    few-read ws e = rw em (till-few ws e, omega (arith, header h .measured .someBytes), header h .measured .mostBytes)
 
   -- the newest version's pointer words
   pub prev-pointed : (prev : List ℕ) → prev ≡ map pointerWord (newestPointers (till .versions))
-      → Pointed (getD table 3 0) prev × (map wordToPointer prev ≡ newestPointers (till .versions))
+      → Pointed (shapeOf table .measures .segmentBlocks) (getD table 3 0 * recordWords (shapeOf table .measures .segmentBlocks)) prev × (map wordToPointer prev ≡ newestPointers (till .versions))
   unfolding shapeOf tillOf emptyTill
   prev-pointed prev e =
-      let n : ℕ = length (stateIn (shapeOf table) pool table .shelf .records) in
-      let g : Each (Good n) (newestPointers (till .versions)) = newest-good (shapeOf table .capacities) (stateIn (shapeOf table) pool table) (found h .sound) t (there h t in-table) in
-      let k : length (newestPointers (till .versions)) ≤ b = newest-few (shapeOf table .capacities) (stateIn (shapeOf table) pool table) (found h .sound) t (there h t in-table) in
-      let back : map wordToPointer prev ≡ newestPointers (till .versions) = ap (map wordToPointer) e ∙ words-back n (newestPointers (till .versions)) g in
-      let c : n ≡ getD table 3 0 = fits h .recordCount in (
+      let n : ℕ = shapeOf table .measures .segmentBlocks in
+      let l : ℕ = length (stateIn (shapeOf table) pool table .shelf .records) * recordWords n in
+      let g : Each (Followable n l) (newestPointers (till .versions)) = newest-good (shapeOf table) (stateIn (shapeOf table) pool table) (found h .sound) t (there h t in-table) in
+      let k : length (newestPointers (till .versions)) ≤ b = newest-few (shapeOf table) (stateIn (shapeOf table) pool table) (found h .sound) t (there h t in-table) in
+      let back : map wordToPointer prev ≡ newestPointers (till .versions) = ap (map wordToPointer) e ∙ words-back n l (newestPointers (till .versions)) g in
+      let c : l ≡ getD table 3 0 * recordWords n = ap (λ (x : ℕ). x * recordWords n) (fits h .recordCount) in (
         record {
           few = omega (arith, ap length e, length-map (newestPointers (till .versions)) pointerWord, k, header h .blocks);
           says = e ∙ ap (map pointerWord) (sym back);
-          good = subst (λ (m : ℕ). Each (Good m) (map wordToPointer prev)) c (subst (Each (Good n)) (sym back) g);
+          good = subst (λ (x : ℕ). Each (Followable n x) (map wordToPointer prev)) c (subst (Each (Followable n l)) (sym back) g);
         },
         back,
       )

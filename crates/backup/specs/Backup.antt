@@ -1,36 +1,49 @@
 -- What the steps of a backup ask of the table, and leave there.
 use mathlib.Core.Path.{_≡_}
-use mathlib.Core.List.{List, map}
+use mathlib.Core.List.{List, [], map}
 use Prim.Native.Nat.{ℕ, _+_, _-_, _*_, _≤_, _<_}
 use lib.ListN.{length, getD, set, take, drop}
-use Rattle.model.specs.Image.{imageBlocks}
-use Rattle.model.specs.Measures.{Shape, baseMeasures, tillWords}
+use Rattle.model.specs.Image.{imageBlocks, imageSegments}
+use Rattle.model.specs.Measures.{Measures, Shape, tillWords, recordWords}
 use Rattle.model.specs.Calls.{tillOf, tillWith, newestPointers}
 use Rattle.filing.specs.Filing.{Room, SlotLeft}
-use Rattle.model.specs.Place.{Placed}
+use Rattle.model.specs.Place.{Placed, placeAll}
 use Rattle.model.specs.State.{Block, Pointer, Shelf, State, Outcome, refused, done}
 use Rattle.model.specs.Sweep.{release, sweep}
 use Rattle.model.specs.Table.{shapeOf, stateIn, stateToWords, stateToBytes, pointerWord}
 use Rattle.model.specs.Turn.{turn, turning}
-use Rattle.laws.proofs.Stores.{recordsFrom, tillAt, Sound}
+use Rattle.laws.specs.Stores.{recordsFrom, tillAt, Sound}
 use Rattle.place.specs.All.{segmentsIn}
 use Rattle.shelve.specs.Shelve.{Pointed}
 
-pub record ShelfReady (image pool table : List ℕ) (from : ℕ) (words prev : List ℕ) : Type 0 where
+-- the table's measures
+abbrev pub measuresOn : List ℕ → Measures
+measuresOn table = shapeOf table .measures
+
+-- the image's blocks, and step 1
+abbrev pub blocksOn : List ℕ → List ℕ → List Block
+blocksOn table image = imageBlocks (measuresOn table .blockBytes) image
+
+abbrev pub placedOn : List ℕ → List ℕ → List ℕ → Outcome Placed
+placedOn pool table image =
+    placeAll (done (record { shelf = stateIn (shapeOf table) pool table .shelf; pointers = [] })) (imageSegments (measuresOn table .blockBytes) (measuresOn table .segmentBlocks) image)
+
+pub record ShelfReady (m : Measures) (image pool table : List ℕ) (from : ℕ) (words prev : List ℕ) : Type 0 where
   pub sound : Sound pool table
+  pub measures : m ≡ measuresOn table
   pub begins : from ≡ recordsFrom (shapeOf table)
   pub short : length image ≤ 65536
-  pub room : length words ≡ segmentsIn image * 8
-  pub pointers : Pointed (getD table 3 0) prev
+  pub room : length words ≡ segmentsIn m image * m .segmentBlocks
+  pub pointers : Pointed (measuresOn table .segmentBlocks) (getD table 3 0 * recordWords (measuresOn table .segmentBlocks)) prev
 
 -- the state with the segments placed, the pointers let go and the shelf swept, before the till has the new version
-abbrev pub sweptState : State → List Block → List Pointer → Shelf → State
-sweptState st blocks ps shelf = record { tills = st .tills; shelf = sweep baseMeasures (release shelf (turning shelf blocks ps)) }
+abbrev pub sweptState : Measures → State → List Block → List Pointer → Shelf → State
+sweptState m st blocks ps shelf = record { tills = st .tills; shelf = sweep m (release shelf (turning shelf blocks ps)) }
 
 pub record ShelvedOn (image : List ℕ) (ps : List Pointer) (pool₀ table₀ : List ℕ) (p : Placed) (pool table words prev : List ℕ) : Type 0 where
-  pub bytes : pool ≡ stateToBytes (sweptState (stateIn (shapeOf table₀) pool₀ table₀) (imageBlocks 64 image) ps (p .shelf))
-  pub tables : table ≡ stateToWords (shapeOf table₀) (sweptState (stateIn (shapeOf table₀) pool₀ table₀) (imageBlocks 64 image) ps (p .shelf))
-  pub turned : prev ≡ map pointerWord (turn (p .shelf) (imageBlocks 64 image) ps)
+  pub bytes : pool ≡ stateToBytes (sweptState (measuresOn table₀) (stateIn (shapeOf table₀) pool₀ table₀) (blocksOn table₀ image) ps (p .shelf))
+  pub tables : table ≡ stateToWords (shapeOf table₀) (sweptState (measuresOn table₀) (stateIn (shapeOf table₀) pool₀ table₀) (blocksOn table₀ image) ps (p .shelf))
+  pub turned : prev ≡ map pointerWord (turn (p .shelf) (blocksOn table₀ image) ps)
   pub placed : words ≡ map pointerWord (p .pointers)
 
 -- a refusal alters neither buffer

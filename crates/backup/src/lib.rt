@@ -3,15 +3,14 @@ ghost use mathlib.Core.Path.{_≡_};
 ghost use mathlib.Core.List.{List, map, []};
 ghost use Prim.Native.Nat.{ℕ, _+_, _*_, _/_, _≤_, _<_};
 ghost use lib.ListN.{length, getD, take};
-ghost use Rattle.model.specs.State.{done};
-ghost use Rattle.model.specs.Image.{imageSegments};
-ghost use Rattle.model.specs.Place.{placeAll};
+ghost use Rattle.numbers.specs.Measures.{measuresOf};
 ghost use Rattle.model.specs.Table.{shapeOf, stateIn, pointerWord, wordToPointer};
 ghost use Rattle.model.specs.Calls.{backupOf};
-ghost use Rattle.laws.proofs.Stores.{Sound, tillAt};
+ghost use Rattle.laws.specs.Stores.{Sound, tillAt};
 ghost use Rattle.accept.specs.Accept.{Accepted};
-ghost use Rattle.backup.specs.Backup.{ShelfReady, DidOn, FileReady, FiledOn};
+ghost use Rattle.backup.specs.Backup.{placedOn, ShelfReady, DidOn, FileReady, FiledOn};
 ghost use Rattle.backup.specs.Call.{newestOf, Begun, backedUpAnswer};
+use numbers::Measures;
 use tills::Head;
 
 // Steps 1 to 3 on the table's records, which begin at `from`. A refusal alters nothing.
@@ -22,11 +21,12 @@ pub fn shelve_in(
     from: usize,
     words: &mut [u32],
     prev: &mut [u32],
+    m: Measures,
 ) -> u32
-    requires { ⌜ ShelfReady (now image) (now pool) (now table) from (now words) (now prev) ⌝ }
-    ensures { λ r. ⌜ DidOn (now (image .entry)) (map wordToPointer (now (prev .entry))) (now (pool .entry)) (now (table .entry)) (placeAll (done (record { shelf = stateIn (shapeOf (now (table .entry))) (now (pool .entry)) (now (table .entry)) .shelf; pointers = [] })) (imageSegments 64 8 (now (image .entry)))) r (now (pool .exit)) (now (table .exit)) (now (words .exit)) (now (prev .exit)) ⌝ }
+    requires { ⌜ ShelfReady (measuresOf m) (now image) (now pool) (now table) from (now words) (now prev) ⌝ }
+    ensures { λ r. ⌜ DidOn (now (image .entry)) (map wordToPointer (now (prev .entry))) (now (pool .entry)) (now (table .entry)) (placedOn (now (pool .entry)) (now (table .entry)) (now (image .entry))) r (now (pool .exit)) (now (table .exit)) (now (words .exit)) (now (prev .exit)) ⌝ }
 {
-    shelve::shelve(image, pool, &mut table[from..], words, prev)
+    shelve::shelve(image, pool, &mut table[from..], words, prev, m)
 }
 
 // The till's words, from `at` to `end`, get the turned pointers and the new version.
@@ -53,13 +53,20 @@ pub struct BackedUp {
 }
 
 // The newest version's pointer words, to the front of prev; how many.
-fn copy_newest(pool: &[u8], table: &[u32], till: u32, at: usize, prev: &mut [u32]) -> usize
-    requires { ⌜ Sound (now pool) (now table) × (till < getD (now table) 0 0) × (at ≡ tillAt (shapeOf (now table)) till) × (length (now prev) ≡ 1024) ⌝ }
+fn copy_newest(
+    pool: &[u8],
+    table: &[u32],
+    till: u32,
+    at: usize,
+    prev: &mut [u32],
+    m: Measures,
+) -> usize
+    requires { ⌜ Sound (now pool) (now table) × (till < getD (now table) 0 0) × (at ≡ tillAt (shapeOf (now table)) till) × (length (now prev) ≡ 1024) × (measuresOf m ≡ shapeOf (now table) .measures) ⌝ }
     ensures { λ r. ⌜ (take r (now (prev .exit)) ≡ map pointerWord (newestOf (now (pool .entry)) (now (table .entry)) till)) × (r ≤ getD (now (table .entry)) 2 0) ⌝ }
 {
     let b = table[2] as usize;
     let end = at + tills::till_words(table);
-    filing::newest_pointers(&table[at..end], b, prev)
+    filing::newest_pointers(&table[at..end], b, prev, m.bytes)
 }
 
 // All steps, from the newest version's pointers on.
@@ -71,14 +78,15 @@ fn shelve_and_file(
     image: &[u8],
     prev: &mut [u32],
     words: &mut [u32],
+    m: Measures,
 ) -> BackedUp
-    requires { ⌜ Begun (now pool) (now table) till head (now image) (now prev) (now words) ⌝ }
+    requires { ⌜ Begun (measuresOf m) (now pool) (now table) till head (now image) (now prev) (now words) ⌝ }
     ensures { λ r. ⌜ backedUpAnswer r (now (pool .exit)) (now (table .exit)) ≡ backupOf (now (pool .entry)) (now (table .entry)) till (now (image .entry)) ⌝ }
 {
     let from = tills::records_at(table);
     let b = table[2] as usize;
     let end = head.at + tills::till_words(table);
-    let r = shelve_in(image, pool, table, from, words, prev);
+    let r = shelve_in(image, pool, table, from, words, prev, m);
     if r != 0 {
         return BackedUp {
             refusal: r,
@@ -86,7 +94,7 @@ fn shelve_and_file(
         };
     }
     let bytes = image.len();
-    let blocks = (bytes + 63) / 64;
+    let blocks = numbers::parts_for(m.bytes, bytes);
     file_in(table, head.at, end, b, prev, bytes as u32, &words[..blocks]);
     BackedUp {
         refusal: 0,
@@ -102,13 +110,14 @@ fn back_up_with(
     image: &[u8],
     prev: &mut [u32],
     words: &mut [u32],
+    m: Measures,
 ) -> BackedUp
-    requires { ⌜ Sound (now pool) (now table) × Accepted (now pool) (now table) till (now image) × (length (now prev) ≡ 1024) × (length (now words) ≡ 1024) ⌝ }
+    requires { ⌜ Sound (now pool) (now table) × Accepted (now pool) (now table) till (now image) × (length (now prev) ≡ 1024) × (length (now words) ≡ 1040) × (measuresOf m ≡ shapeOf (now table) .measures) ⌝ }
     ensures { λ r. ⌜ backedUpAnswer r (now (pool .exit)) (now (table .exit)) ≡ backupOf (now (pool .entry)) (now (table .entry)) till (now (image .entry)) ⌝ }
 {
     let head = tills::till_head(pool, table, till);
-    let n = copy_newest(pool, table, till, head.at, prev);
-    let count = (image.len() + 511) / 512 * 8;
+    let n = copy_newest(pool, table, till, head.at, prev, m);
+    let count = m.segments(image.len()) * m.blocks;
     shelve_and_file(
         pool,
         table,
@@ -117,16 +126,19 @@ fn back_up_with(
         image,
         &mut prev[..n],
         &mut words[..count],
+        m,
     )
 }
 
+// An image has at most 1,024 blocks, which fill up to whole segments of at most 16.
 fn back_up_accepted(pool: &mut [u8], table: &mut [u32], till: u32, image: &[u8]) -> BackedUp
     requires { ⌜ Sound (now pool) (now table) × Accepted (now pool) (now table) till (now image) ⌝ }
     ensures { λ r. ⌜ backedUpAnswer r (now (pool .exit)) (now (table .exit)) ≡ backupOf (now (pool .entry)) (now (table .entry)) till (now (image .entry)) ⌝ }
 {
+    let m = layout::measures_in(table);
     let mut prev = [0u32; 1024];
-    let mut words = [0u32; 1024];
-    back_up_with(pool, table, till, image, &mut prev, &mut words)
+    let mut words = [0u32; 1040];
+    back_up_with(pool, table, till, image, &mut prev, &mut words, m)
 }
 
 pub fn back_up(pool: &mut [u8], table: &mut [u32], till: u32, image: &[u8]) -> BackedUp

@@ -5,7 +5,7 @@ use mathlib.Core.List.{List, [], _∷_, _++_, append-nil}
 use Prim.Native.Nat.{ℕ, _+_, _-_, _≤_, min}
 use native.Mathlib.Omega.{arith}
 use lib.ListN.{length, replicate, take, drop, length-drop, length-append, take-append-drop}
-use lib.Seq.{length-take-le, drop-drop, take-all}
+use lib.Seq.{length-take-le, drop-drop}
 use borrow.Rule.Slice.PartMut.{midOf, putMid, post-is, mid-len}
 use Rattle.lists.specs.Lists.{every, allZero, sameNumbers}
 use Rattle.lists.specs.Rows.{fill}
@@ -64,36 +64,35 @@ put-filled p cell xs ys k n lp h lc ex ey =
 
 -- ---- a block of an image, from the part that is there
 
-module _ (l : List ℕ) (at s e : ℕ) (hs : s ≡ min (length l) at) (he : e ≡ min (length l) (at + 64)) where
+module _ (l : List ℕ) (at bytes s e : ℕ) (hs : s ≡ min (length l) at) (he : e ≡ min (length l) (at + bytes)) where
   abbrev pub cut : List ℕ
   cut = take (e - s) (drop s l)
 
-  pub cut-block : fill 64 cut ≡ blockFrom 64 l at
+  pub cut-block : fill bytes cut ≡ blockFrom bytes l at
   unfolding blockFrom
-  cut-block = cut-is l at 64 s e hs he
+  cut-block = cut-is l at bytes s e hs he
 
-  pub cut-fits : length cut ≤ 64
-  cut-fits = cut-small l at 64 s e hs he
+  pub cut-fits : length cut ≤ bytes
+  cut-fits = cut-small l at bytes s e hs he
 
-  pub cut-zero : allZero cut ≡ allZero (blockFrom 64 l at)
-  cut-zero = sym (zero-fill 64 cut cut-fits) ∙ ap allZero cut-block
+  pub cut-zero : allZero cut ≡ allZero (blockFrom bytes l at)
+  cut-zero = sym (zero-fill bytes cut cut-fits) ∙ ap allZero cut-block
 
-  pub cut-same : (cell : List ℕ) → length cell ≡ 64 → sameNumbers cell (fill (length cell) cut) ≡ sameNumbers cell (blockFrom 64 l at)
+  pub cut-same : (cell : List ℕ) → length cell ≡ bytes → sameNumbers cell (fill (length cell) cut) ≡ sameNumbers cell (blockFrom bytes l at)
   cut-same cell n = ap (λ (k : ℕ). sameNumbers cell (fill k cut)) n ∙ ap (sameNumbers cell) cut-block
 
   -- copied to the front of a cell, and the rest of the cell cleared
-  pub cut-put : (cell xs ys : List ℕ) → length cell ≡ 64 → xs ≡ cut ++ drop (length cut) cell → ys ≡ replicate (length (take (length xs - (e - s)) (drop (e - s) xs))) 0
-      → take (e - s) xs ++ (ys ++ drop (length xs - (e - s)) (drop (e - s) xs)) ≡ blockFrom 64 l at
+  pub cut-put : (cell xs ys : List ℕ) → length cell ≡ bytes → xs ≡ cut ++ drop (length cut) cell → ys ≡ replicate (length (take (length xs - (e - s)) (drop (e - s) xs))) 0
+      → take (e - s) xs ++ (ys ++ drop (length xs - (e - s)) (drop (e - s) xs)) ≡ blockFrom bytes l at
   cut-put cell xs ys n ex ey =
       let lc : length cut ≡ e - s = length-take-le (e - s) (drop s l) (omega (arith, length-drop s l)) in
-      put-filled cut cell xs ys (e - s) 64 lc (omega (arith, cut-fits)) n ex ey ∙ cut-block
+      put-filled cut cell xs ys (e - s) bytes lc (omega (arith, cut-fits)) n ex ey ∙ cut-block
 
 -- a block that the image's end does not cut
-pub whole-same : (l cell : List ℕ) (at : ℕ) → at + 64 ≤ length l → length cell ≡ 64
-    → sameNumbers (take 64 (drop 0 cell)) (take 64 (drop 0 (take (at + 64 - at) (drop at l)))) ≡ sameNumbers cell (blockFrom 64 l at)
+pub whole-same : (l cell : List ℕ) (at bytes : ℕ) → at + bytes ≤ length l
+    → sameNumbers cell (take (at + bytes - at) (drop at l)) ≡ sameNumbers cell (blockFrom bytes l at)
 unfolding blockFrom
-whole-same l cell at h n =
-    let k : at + 64 - at ≡ 64 = omega arith in
-    let w : length (take 64 (drop at l)) ≡ 64 = length-take-le 64 (drop at l) (omega (arith, length-drop at l)) in
-    rw k
-    (ap₂ sameNumbers (take-all 64 cell (omega arith)) (take-all 64 (take 64 (drop at l)) (omega (arith, w)) ∙ sym (fill-all 64 (take 64 (drop at l)) w) ∙ fill-take 64 (drop at l)))
+whole-same l cell at bytes h =
+    let k : at + bytes - at ≡ bytes = omega arith in
+    let w : length (take bytes (drop at l)) ≡ bytes = length-take-le bytes (drop at l) (omega (arith, length-drop at l)) in
+    rw k (ap (sameNumbers cell) (sym (fill-all bytes (take bytes (drop at l)) w) ∙ fill-take bytes (drop at l)))

@@ -11,7 +11,7 @@ use lib.ListN.{length, getD, take, drop, length-take, length-drop, take-append-d
 use lib.Seq.{take-suc, drop-cons, getD-drop, length-take-le, drop-drop}
 use Rattle.lists.specs.Lists.{every, allZero, sameNumbers}
 use Rattle.lists.proofs.Tests.{cond-self}
-use Rattle.lists.proofs.Slices.{drop-next, take-next}
+use Rattle.lists.proofs.Slices.{drop-next, take-next, drop-end}
 use Rattle.lists.proofs.Appends.{zero-append, same-append}
 
 -- ---- a count that is 0 just where a test holds so far
@@ -93,3 +93,8 @@ module _ (a b : List ℕ) (at : ℕ) where
 
     pub same-on : sameNumbers (take n (drop at a)) (take n (drop at b)) ≡ true → sameNumbers (drop at a) (drop at b) ≡ sameNumbers (drop (at + n) a) (drop (at + n) b)
     same-on e = same-piece n h k ∙ rw e
+
+-- nothing left on both sides
+pub same-ended : (a b : List ℕ) (at : ℕ) → length a ≤ at → length b ≤ at → true ≡ sameNumbers (drop at a) (drop at b)
+unfolding sameNumbers
+same-ended a b at h k = rw (drop-end a at h, drop-end b at k)

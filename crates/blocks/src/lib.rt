@@ -1,13 +1,12 @@
 // Blocks of bytes on parts of lent slices: tested, compared, copied and cleared; and the blocks of an image, the last filled up with zeros.
 ghost use mathlib.Core.Path.{_≡_};
 ghost use mathlib.Core.List.{_++_};
-ghost use Prim.Native.Nat.{ℕ, _+_, _*_, _≤_, _<_, min};
+ghost use Prim.Native.Nat.{ℕ, _+_, _*_, _%_, _≤_, _<_, min};
 ghost use lib.Dec.{eqb};
 ghost use lib.ListN.{length, take, drop, replicate};
 ghost use Rattle.lists.specs.Lists.{allZero, sameNumbers};
 ghost use Rattle.lists.specs.Rows.{fill};
 ghost use Rattle.model.specs.Image.{blockFrom};
-use numbers::Block;
 use numbers::Cell;
 
 pub fn least(a: usize, b: usize) -> usize
@@ -55,6 +54,23 @@ pub fn all_zero(part: &[u8]) -> bool
         at += 64;
     }
     nonzero(part, at, part.len() - at) == 0
+}
+
+// The same of whole pieces: nothing is left, so that a cell of one piece is one test.
+pub fn pieces_zero(part: &[u8]) -> bool
+    requires { ⌜ (64 ≤ length (now part)) × (length (now part) % 64 ≡ 0) ⌝ }
+    ensures { λ r. ⌜ r ≡ allZero (now (part .entry)) ⌝ }
+{
+    let mut at: usize = 0;
+    loop {
+        if !piece_zero(part, at) {
+            return false;
+        }
+        at += 64;
+        if part.len() <= at {
+            return true;
+        }
+    }
 }
 
 // How many of the n bytes at `at` differ.
@@ -132,12 +148,12 @@ pub fn clear(part: &mut [u8])
     }
 }
 
-pub fn clear_cell(pool: &mut [u8], c: Cell)
-    requires { ⌜ (c .0 < 32768) × (c .0 * 64 + 64 ≤ length (now pool)) ⌝ }
-    ensures { λ _. ⌜ now (pool .exit) ≡ take (c .0 * 64) (now (pool .entry)) ++ (replicate 64 0 ++ drop (c .0 * 64 + 64) (now (pool .entry))) ⌝ }
+pub fn clear_cell(pool: &mut [u8], c: Cell, bytes: usize)
+    requires { ⌜ (bytes ≤ 512) × (c .0 * bytes + bytes ≤ length (now pool)) ⌝ }
+    ensures { λ _. ⌜ now (pool .exit) ≡ take (c .0 * bytes) (now (pool .entry)) ++ (replicate bytes 0 ++ drop (c .0 * bytes + bytes) (now (pool .entry))) ⌝ }
 {
-    let at = c.byte();
-    let end = at + Block::BYTES;
+    let at = c.byte(bytes);
+    let end = at + bytes;
     clear(&mut pool[at..end]);
 }
 
@@ -154,44 +170,61 @@ pub fn same_padded(part: &[u8], block: &[u8]) -> bool
 }
 
 // Whether the image's block at a byte is all zero.
-pub fn block_zero(image: &[u8], at: usize) -> bool
-    requires { ⌜ at ≤ 131072 ⌝ }
-    ensures { λ r. ⌜ r ≡ allZero (blockFrom 64 (now (image .entry)) at) ⌝ }
+pub fn block_zero(image: &[u8], at: usize, bytes: usize) -> bool
+    requires { ⌜ (at ≤ 131072) × (bytes ≤ 512) ⌝ }
+    ensures { λ r. ⌜ r ≡ allZero (blockFrom bytes (now (image .entry)) at) ⌝ }
 {
     let start = least(image.len(), at);
-    let end = least(image.len(), at + Block::BYTES);
+    let end = least(image.len(), at + bytes);
     all_zero(&image[start..end])
 }
 
 // Whether the image's block at a byte, which the image's end may cut, equals a cell.
-fn end_same(image: &[u8], at: usize, cell: &[u8]) -> bool
-    requires { ⌜ (at ≤ 131072) × (length (now cell) ≡ 64) ⌝ }
-    ensures { λ r. ⌜ r ≡ sameNumbers (now (cell .entry)) (blockFrom 64 (now (image .entry)) at) ⌝ }
+fn end_same(image: &[u8], at: usize, cell: &[u8], bytes: usize) -> bool
+    requires { ⌜ (at ≤ 131072) × (bytes ≤ 512) × (length (now cell) ≡ bytes) ⌝ }
+    ensures { λ r. ⌜ r ≡ sameNumbers (now (cell .entry)) (blockFrom bytes (now (image .entry)) at) ⌝ }
 {
     let start = least(image.len(), at);
-    let end = least(image.len(), at + Block::BYTES);
+    let end = least(image.len(), at + bytes);
     same_padded(&image[start..end], cell)
 }
 
-// Whether the image's block at a byte equals a cell. Most blocks are not cut, and their first byte is looked at straight away.
-pub fn block_same(image: &[u8], at: usize, cell: &[u8]) -> bool
-    requires { ⌜ (at ≤ 131072) × (length (now cell) ≡ 64) ⌝ }
-    ensures { λ r. ⌜ r ≡ sameNumbers (now (cell .entry)) (blockFrom 64 (now (image .entry)) at) ⌝ }
+// Whether two whole blocks are the same, piece by piece. There is a first piece, so the end is tested behind each.
+fn pieces_same(a: &[u8], b: &[u8]) -> bool
+    requires { ⌜ (length (now a) ≡ length (now b)) × (64 ≤ length (now a)) × (length (now a) % 64 ≡ 0) ⌝ }
+    ensures { λ r. ⌜ r ≡ sameNumbers (now (a .entry)) (now (b .entry)) ⌝ }
 {
-    let end = at + Block::BYTES;
-    if end <= image.len() {
-        return piece_same(cell, &image[at..end], 0);
+    let mut at: usize = 0;
+    loop {
+        if !piece_same(a, b, at) {
+            return false;
+        }
+        at += 64;
+        if a.len() <= at {
+            return true;
+        }
     }
-    end_same(image, at, cell)
+}
+
+// Whether the image's block at a byte equals a cell. Most blocks are not cut.
+pub fn block_same(image: &[u8], at: usize, cell: &[u8], bytes: usize) -> bool
+    requires { ⌜ (at ≤ 131072) × (64 ≤ bytes) × (bytes ≤ 512) × (bytes % 64 ≡ 0) × (length (now cell) ≡ bytes) ⌝ }
+    ensures { λ r. ⌜ r ≡ sameNumbers (now (cell .entry)) (blockFrom bytes (now (image .entry)) at) ⌝ }
+{
+    let end = at + bytes;
+    if end <= image.len() {
+        return pieces_same(cell, &image[at..end]);
+    }
+    end_same(image, at, cell, bytes)
 }
 
 // The image's block at a byte goes into a cell.
-pub fn put_block(image: &[u8], at: usize, cell: &mut [u8])
-    requires { ⌜ (at ≤ 131072) × (length (now cell) ≡ 64) ⌝ }
-    ensures { λ _. ⌜ now (cell .exit) ≡ blockFrom 64 (now (image .entry)) at ⌝ }
+pub fn put_block(image: &[u8], at: usize, cell: &mut [u8], bytes: usize)
+    requires { ⌜ (at ≤ 131072) × (bytes ≤ 512) × (length (now cell) ≡ bytes) ⌝ }
+    ensures { λ _. ⌜ now (cell .exit) ≡ blockFrom bytes (now (image .entry)) at ⌝ }
 {
     let start = least(image.len(), at);
-    let end = least(image.len(), at + Block::BYTES);
+    let end = least(image.len(), at + bytes);
     let k = end - start;
     copy_in(&image[start..end], cell);
     clear(&mut cell[k..]);

@@ -4,6 +4,7 @@ ghost use Prim.Native.Nat.{ℕ, _/_, _<_};
 ghost use lib.ListN.{length, getD};
 use layout::Capacities;
 use libc::STDOUT_FILENO;
+use numbers::Measures;
 
 // Each letter fills a block.
 fn image_of(letters: &[u8; 8]) -> [u8; 512]
@@ -87,6 +88,7 @@ fn open(pool: &mut [u8], table: &mut [u32]) {
             blocks: 16,
             records: 8,
             cells: 32,
+            measures: Measures::base(),
         },
     );
     let first = image_of(b"ABCDEFGH");

@@ -1,7 +1,7 @@
 -- A till's words split at its newest version, and at its first slot that is left.
 use mathlib.Core.Path.{_≡_, refl, sym, ap, ap₂, _∙_, subst}
 use mathlib.Core.List.{List, [], _∷_, _++_, map, append-nil, append-assoc}
-use Prim.Native.Nat.{ℕ, zero, suc, _+_, _*_, _-_, _/_, _≤_, _<_}
+use Prim.Native.Nat.{ℕ, zero, suc, _+_, _*_, _-_, _≤_, _<_}
 use native.Mathlib.Nat.{mul-le-mul-right, suc-mul, add-zero, add-suc, not-suc-le-zero}
 use native.Mathlib.Omega.{arith}
 use lib.ListN.{length, getD, set, take, drop, replicate, length-append, length-map, length-drop, length-take, List·getD-append}
@@ -12,10 +12,12 @@ use Rattle.lists.specs.Rows.{fill, rows, joined}
 use Rattle.lists.proofs.Rows.{fill-split, fill-zeros, length-fill, fill-add, length-rows, wide-all, rows-append}
 use Rattle.lists.proofs.Slices.{mid-is, mid-put, drop-same, tail-is, tail-put, none-left}
 use Rattle.lists.proofs.Filled.{over-fill, over-zeros}
+use Rattle.model.specs.Measures.{partsFor}
 use Rattle.model.specs.State.{Pointer, Version, Till}
 use Rattle.model.specs.Table.{pointerWord, versionToWords, tillToWords}
 use Rattle.model.specs.Calls.{newestPointers, withNewestPointers, tillWith}
 use Rattle.laws.proofs.RoundTrip.{length-version, length-till, held-word, last-word}
+use Rattle.laws.proofs.Measures.{parts-enough}
 use Rattle.filing.specs.Filing.{newestAt, Room, FewBlocks, Whole, Held, turnedTill, addedTill, SameHead, SlotLeft}
 
 -- ---- the versions before the newest, and the newest
@@ -177,13 +179,13 @@ module _ (v b : ℕ) (t : Till) (till : List ℕ) (most : length (t .versions) �
   pointed : till ≡ head ++ (fill b (map pointerWord (u .pointers)) ++ left v b (suc (length us)))
   pointed = parted ∙ slot-head b (front b (t .last) (suc (length us)) us) u (left v b (suc (length us)))
 
-  read : Each (Whole b) (t .versions) → (n : ℕ) → n ≡ (getD till (newestAt b till + 1) 0 + 63) / 64
+  read : (bytes : ℕ) → Each (Whole bytes b) (t .versions) → (n : ℕ) → n ≡ partsFor bytes (getD till (newestAt b till + 1) 0)
       → take n (drop (newestAt b till + 3) till) ≡ map pointerWord (newestPointers (t .versions))
-  read w n e =
-      let f : Whole b u = newest-each (Whole b) us u (subst (Each (Whole b)) is w) in
+  read bytes w n e =
+      let f : Whole bytes b u = newest-each (Whole bytes b) us u (subst (Each (Whole bytes b)) is w) in
       let ws : List ℕ = map pointerWord (u .pointers) in
       let l : length ws ≡ length (u .pointers) = length-map (u .pointers) pointerWord in
-      let m : length ws ≡ n = l ∙ f .blocks ∙ ap (λ (k : ℕ). (k + 63) / 64) (sym length-at) ∙ sym e in
+      let m : length ws ≡ n = l ∙ f .blocks ∙ ap (partsFor bytes) (sym length-at) ∙ sym e in
       ap (take n) (ap (drop (newestAt b till + 3)) pointed ∙ drop-at head (fill b ws ++ left v b (suc (length us))) (newestAt b till + 3) head-length)
       ∙ ap (λ (x : List ℕ). take n (x ++ left v b (suc (length us)))) (fill-split b ws (omega (arith, l, f .most)))
       ∙ ap (take n) (append-assoc ws (fill (b - length ws) []) (left v b (suc (length us))))
@@ -209,10 +211,10 @@ module _ (v b : ℕ) (t : Till) (till : List ℕ) (most : length (t .versions) �
 some-versions : (v b : ℕ) (t : Till) (till : List ℕ) → till ≡ tillToWords v b t → 0 < getD till 1 0 → Ends (t .versions)
 some-versions v b t till et some = ends (t .versions) (omega (arith, some, ap (λ (l : List ℕ). getD l 1 0) et, held-word v b t))
 
-pub newest-read : (b : ℕ) (till : List ℕ) (at n : ℕ) → 0 < getD till 1 0 → at ≡ newestAt b till → n ≡ (getD till (at + 1) 0 + 63) / 64
+pub newest-read : (bytes b : ℕ) (till : List ℕ) (at n : ℕ) → 0 < getD till 1 0 → at ≡ newestAt b till → n ≡ partsFor bytes (getD till (at + 1) 0)
     → (rest out : List ℕ) → out ≡ take (at + 3 + n - (at + 3)) (drop (at + 3) till) ++ rest → at + 3 + n ≤ length till
-    → (v : ℕ) (t : Till) → Held v b t → till ≡ tillToWords v b t → take n out ≡ map pointerWord (newestPointers (t .versions))
-newest-read b till at n some ea en rest out eo fits v t h et =
+    → (v : ℕ) (t : Till) → Held bytes v b t → till ≡ tillToWords v b t → take n out ≡ map pointerWord (newestPointers (t .versions))
+newest-read bytes b till at n some ea en rest out eo fits v t h et =
     let e : Ends (t .versions) = some-versions v b t till et some in
     let k : at + 3 + n - (at + 3) ≡ n = omega arith in
     let src : List ℕ = take n (drop (at + 3) till) in
@@ -220,7 +222,7 @@ newest-read b till at n some ea en rest out eo fits v t h et =
     ap (take n) (eo ∙ ap (λ (j : ℕ). take j (drop (at + 3) till) ++ rest) k)
     ∙ take-at src rest n l
     ∙ ap (λ (j : ℕ). take n (drop (j + 3) till)) ea
-    ∙ read v b t till (h .most) et some (e .before) (e .newest) (e .is) (h .versions) n (en ∙ ap (λ (j : ℕ). (getD till (j + 1) 0 + 63) / 64) ea)
+    ∙ read v b t till (h .most) et some (e .before) (e .newest) (e .is) bytes (h .versions) n (en ∙ ap (λ (j : ℕ). partsFor bytes (getD till (j + 1) 0)) ea)
 
 pub newest-turned : (b : ℕ) (till : List ℕ) (at : ℕ) → 0 < getD till 1 0 → at ≡ newestAt b till
     → (pws ys : List ℕ) → length pws ≤ b → ys ≡ pws ++ drop (length pws) (midOf (at + 3) (at + 3 + b - (at + 3)) till)
@@ -300,8 +302,10 @@ slot-put (x ∷ y ∷ w ∷ slot) two ys ps a b h e f =
 pub positive-of : (n : ℕ) → (n ≡ 0 → ⊥) → 0 < n
 positive-of n h = omega (arith, h)
 
-pub few-at : (b : ℕ) (till : List ℕ) (at : ℕ) → at ≡ newestAt b till → FewBlocks b till → (getD till 1 0 ≡ 0 → ⊥) → getD till (at + 1) 0 ≤ 64 * b
-few-at b till at e f h = subst (λ (k : ℕ). getD till (k + 1) 0 ≤ 64 * b) (sym e) (f (positive-of (getD till 1 0) h))
+pub few-at : (bytes b : ℕ) (till : List ℕ) (at : ℕ) → at ≡ newestAt b till → FewBlocks bytes b till → (getD till 1 0 ≡ 0 → ⊥)
+    → (getD till (at + 1) 0 ≤ 65536) × (partsFor bytes (getD till (at + 1) 0) ≤ b)
+few-at bytes b till at e f h =
+    subst (λ (k : ℕ). (getD till (k + 1) 0 ≤ 65536) × (partsFor bytes (getD till (k + 1) 0) ≤ b)) (sym e) (f (positive-of (getD till 1 0) h))
 
 pub part-short : (a n m : ℕ) (ws : List ℕ) → n ≤ m → length (take (a + n - a) (drop a ws)) ≤ m
 part-short a n m ws h = let e : a + n - a ≡ n = omega arith in rw e (omega (arith, h, length-take n (drop a ws)))
@@ -347,8 +351,11 @@ unfolding tillWith
 version-filed b till mid out bytes pws qws f g v t ps qs room et ep lo eq =
     g v (turnedTill t ps) qs (omega (arith, room, turned-length (t .versions) ps)) (f v t ps (omega (arith, room)) et ep lo) eq
 
-pub few-blocks : (v b : ℕ) (t : Till) (till : List ℕ) → Held v b t → till ≡ tillToWords v b t → FewBlocks b till
-few-blocks v b t till h et some =
-    let e : Ends (t .versions) = some-versions v b t till et some in
-    let w : Whole b (e .newest) = newest-each (Whole b) (e .before) (e .newest) (subst (Each (Whole b)) (e .is) (h .versions)) in
-    omega (arith, length-at v b t till (h .most) et some (e .before) (e .newest) (e .is), w .blocks, w .most)
+pub few-blocks : (bytes v b : ℕ) (t : Till) (till : List ℕ) → 0 < bytes → b * bytes ≤ 65536 → Held bytes v b t → till ≡ tillToWords v b t → FewBlocks bytes b till
+few-blocks bytes v b t till some most h et held =
+    let e : Ends (t .versions) = some-versions v b t till et held in
+    let w : Whole bytes b (e .newest) = newest-each (Whole bytes b) (e .before) (e .newest) (subst (Each (Whole bytes b)) (e .is) (h .versions)) in
+    let n : getD till (newestAt b till + 1) 0 ≡ e .newest .length = length-at v b t till (h .most) et held (e .before) (e .newest) (e .is) in
+    let few : partsFor bytes (e .newest .length) ≤ b = subst (λ (k : ℕ). k ≤ b) (w .blocks) (w .most) in
+    let all : partsFor bytes (e .newest .length) * bytes ≤ b * bytes = mul-le-mul-right bytes few in
+    (omega (arith, n, parts-enough bytes (e .newest .length) some, all, most), subst (λ (k : ℕ). partsFor bytes k ≤ b) (sym n) few)

@@ -1,9 +1,10 @@
 -- A till's words with room for its slots, and a till with a version more.
 use mathlib.Core.Path.{_≡_}
 use mathlib.Core.List.{List, [], _∷_, _++_}
-use Prim.Native.Nat.{ℕ, suc, _+_, _*_, _-_, _/_, _≤_, _<_}
+use Prim.Native.Nat.{ℕ, suc, _+_, _*_, _-_, _≤_, _<_}
 use lib.ListN.{length, getD}
 use Rattle.lists.specs.Each.{Each}
+use Rattle.model.specs.Measures.{partsFor}
 use Rattle.model.specs.State.{Pointer, Version, Till}
 use Rattle.model.specs.Calls.{withNewestPointers}
 
@@ -18,18 +19,19 @@ pub record Room (b : ℕ) (till : List ℕ) : Type 0 where
   pub long : length till ≤ 65732
   pub slots : 4 + getD till 1 0 * (3 + b) ≤ length till
 
--- the newest version has at most b blocks
-abbrev pub FewBlocks : ℕ → List ℕ → Type 0
-FewBlocks b till = 0 < getD till 1 0 → getD till (newestAt b till + 1) 0 ≤ 64 * b
+-- the newest version is an image's, and has at most b blocks of so many bytes
+abbrev pub FewBlocks : ℕ → ℕ → List ℕ → Type 0
+FewBlocks bytes b till =
+    0 < getD till 1 0 → (getD till (newestAt b till + 1) 0 ≤ 65536) × (partsFor bytes (getD till (newestAt b till + 1) 0) ≤ b)
 
 -- as many pointers as the length has blocks
-pub record Whole (b : ℕ) (u : Version) : Type 0 where
-  pub blocks : length (u .pointers) ≡ (u .length + 63) / 64
+pub record Whole (bytes b : ℕ) (u : Version) : Type 0 where
+  pub blocks : length (u .pointers) ≡ partsFor bytes (u .length)
   pub most : length (u .pointers) ≤ b
 
-pub record Held (v b : ℕ) (t : Till) : Type 0 where
+pub record Held (bytes v b : ℕ) (t : Till) : Type 0 where
   pub most : length (t .versions) ≤ v
-  pub versions : Each (Whole b) (t .versions)
+  pub versions : Each (Whole bytes b) (t .versions)
 
 abbrev pub turnedTill : Till → List Pointer → Till
 turnedTill t ps = record { last = t .last; versions = withNewestPointers (t .versions) ps }

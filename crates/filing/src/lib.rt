@@ -17,15 +17,15 @@ fn newest_at(till: &[u32], b: usize) -> usize
 }
 
 // The newest held version's pointer words to the front of out; how many.
-pub fn newest_pointers(till: &[u32], b: usize, out: &mut [u32]) -> usize
-    requires { ⌜ Room b (now till) × FewBlocks b (now till) × (b ≤ length (now out)) ⌝ }
-    ensures { λ r. ⌜ ((v : ℕ) (t : Till) → Held v b t → now (till .entry) ≡ tillToWords v b t → take r (now (out .exit)) ≡ map pointerWord (newestPointers (t .versions))) × (r ≤ b) ⌝ }
+pub fn newest_pointers(till: &[u32], b: usize, out: &mut [u32], bytes: usize) -> usize
+    requires { ⌜ Room b (now till) × FewBlocks bytes b (now till) × (b ≤ length (now out)) × (0 < bytes) × (bytes ≤ 512) ⌝ }
+    ensures { λ r. ⌜ ((v : ℕ) (t : Till) → Held bytes v b t → now (till .entry) ≡ tillToWords v b t → take r (now (out .exit)) ≡ map pointerWord (newestPointers (t .versions))) × (r ≤ b) ⌝ }
 {
     if till[1] == 0 {
         return 0;
     }
     let at = newest_at(till, b);
-    let n = (till[at + 1] as usize + 63) / 64;
+    let n = numbers::parts_for(bytes, till[at + 1] as usize);
     let start = at + 3;
     let end = start + n;
     words::copy_in(&till[start..end], out);

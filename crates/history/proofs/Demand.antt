@@ -1,23 +1,22 @@
--- Demand 3 whole, as one term, for any measures that a table can hold, and so for the base.
+-- Demand 3 whole, as one term.
 use mathlib.Core.Path.{_≡_, sym, ap, _∙_}
 use mathlib.Core.List.{List, map}
 use mathlib.Core.Option.{Option}
 use Prim.Native.Nat.{ℕ}
 use Rattle.lists.specs.Rows.{chunks}
 use Rattle.lists.proofs.Cuts.{chunks-joined}
-use Rattle.model.specs.Measures.{Shape, shapeFor}
+use Rattle.model.specs.Measures.{Shape}
 use Rattle.model.specs.State.{State}
 use Rattle.model.specs.Table.{stateToBytes, cellsIn}
 use Rattle.model.specs.Sound.{Store}
 use Rattle.model.specs.Calls.{emptyState, tallyIn, tallyOf, tillOf, heldFrom}
 use Rattle.laws.proofs.Serves.{sound-valid}
 use Rattle.laws.proofs.Named.{named-full, named-inside, named-count}
-use Rattle.laws.proofs.Fits.{Fit, base-fit}
 use Rattle.history.specs.Calls.{Buffers, buffersAfterAll, stateAfterAll}
 use Rattle.history.specs.Keeper.{Kept, Keeper, freshKeeper, fedAll, keptFrom, keptTill}
 use Rattle.history.specs.Kinds.{kindOf, kindsKept}
 use Rattle.history.specs.View.{viewOf, viewAt, shownFrom}
-use Rattle.history.specs.Demand.{Shares, Cells, Holds, laidOutIn, DemandOf, Demand3, pointersHeld}
+use Rattle.history.specs.Demand.{Shares, Cells, Holds, laidOutIn, Demand3, pointersHeld}
 use Rattle.history.proofs.Shown.{firstKinds, kinds-is, from-same}
 use Rattle.history.proofs.Kept.{agree-from, agree-kinds}
 use Rattle.history.proofs.Fed.{Stands, stands-fresh, stands-all}
@@ -76,11 +75,11 @@ module _ (s : Shape) (b : Buffers) (st : State) (k : Keeper) (l : Left s b st) (
 
 -- ---- the theorem
 
--- for any measures that a table can hold
-pub demand-of : (s : Shape) → Fit s → DemandOf s
-demand-of s fit pool table calls accepted refusals =
+-- Demand 3, for every setting in one argument.
+pub demand-3 : Demand3
+demand-3 s pool table calls accepted refusals =
     let b : Buffers = laidOutIn s pool table in
-    let start : Left s b (emptyState s) = left-laid s fit pool table accepted in
+    let start : Left s b (emptyState s) = left-laid s pool table accepted in
     let end : Left s (buffersAfterAll b calls) (stateAfterAll s (emptyState s) calls) = left-all s calls b (emptyState s) start refusals in
     record {
       answers = answers-same s calls b (emptyState s) start refusals;
@@ -88,7 +87,3 @@ demand-of s fit pool table calls accepted refusals =
           holds s (buffersAfterAll b calls) (stateAfterAll s (emptyState s) calls) (fedAll (freshKeeper (s .capacities)) b calls) end
           (stands-all s calls b (emptyState s) (freshKeeper (s .capacities)) start (stands-fresh s) refusals);
     }
-
--- Demand 3.
-pub demand-3 : Demand3
-demand-3 c = demand-of (shapeFor c) (base-fit c)

@@ -9,7 +9,7 @@ use Rattle.lists.proofs.Tests.{by-test}
 use Rattle.model.specs.Measures.{Shape}
 use Rattle.model.specs.State.{Shelf, Version, Outcome, refused, done}
 use Rattle.model.specs.Sound.{Store, storeOf}
-use Rattle.model.specs.Calls.{layoutOf, layoutAs, backup, backupIn, backupOf, backupAnswer, restore, restoreFrom, restoreIn, restoreOf, restoreRefusal, RestoreAnswer, heldFrom, tillOf, retire, retireIn, retireOf, retireAnswer, listingIn, listingOf, listingRefusal, listTill, ListingAnswer, tallyIn, tallyOf, After}
+use Rattle.model.specs.Calls.{layoutOf, backup, backupIn, backupOf, backupAnswer, restore, restoreFrom, restoreIn, restoreOf, restoreRefusal, RestoreAnswer, heldFrom, tillOf, retire, retireIn, retireOf, retireAnswer, listingIn, listingOf, listingRefusal, listTill, ListingAnswer, tallyIn, tallyOf, After}
 use Rattle.laws.proofs.Empty.{layout-refused}
 use Rattle.history.specs.Calls.{Call, callLayout, callBackup, callRestore, callRetire, callListing, callTally, Buffers, refusalOf, buffersAfter, Answer, laidOut, backedUp, restored, retired, listed, tallied, answerOf}
 
@@ -20,7 +20,7 @@ same-buffers b pool table p q = λ i. record { pool = p i; table = q i }
 pub alters-nothing : (b : Buffers) (call : Call) → ¬ (refusalOf b call ≡ 0) → buffersAfter b call ≡ b
 unfolding refusalOf buffersAfter
 alters-nothing b (callLayout c) h =
-    unfold layoutOf layoutAs in (let r = layout-refused _ _ _ (b .pool) (b .table) h in same-buffers b _ _ (r .0) (r .1))
+    unfold layoutOf in (let r = layout-refused _ _ _ (b .pool) (b .table) h in same-buffers b _ _ (r .0) (r .1))
 alters-nothing b (callBackup t image) h = unfold backupOf in go (storeOf (b .pool) (b .table)) h
   where
     one : (s : Shape) (o : Outcome After) → ¬ (backupAnswer (b .pool) (b .table) s o .refusal ≡ 0)

@@ -9,8 +9,8 @@ use Rattle.model.specs.Measures.{Shape}
 use Rattle.model.specs.State.{State, Outcome, refused, done}
 use Rattle.model.specs.Table.{stateToWords, stateToBytes}
 use Rattle.model.specs.Sound.{isSound, Store, storeOf}
-use Rattle.model.specs.Calls.{emptyState, layoutAs, layoutOf, backup, backupIn, backupOf, backupAnswer, restoreIn, restoreOf, retire, retireIn, retireOf, retireAnswer, listingIn, listingOf, tallyIn, tallyOf, After}
-use Rattle.laws.proofs.Fits.{Fit}
+use Rattle.model.specs.Calls.{emptyState, layoutOf, backup, backupIn, backupOf, backupAnswer, restoreIn, restoreOf, retire, retireIn, retireOf, retireAnswer, listingIn, listingOf, tallyIn, tallyOf, After}
+use Rattle.laws.proofs.Fits.{Fit, range-fit}
 use Rattle.laws.proofs.RoundTrip.{round-trip}
 use Rattle.laws.proofs.Empty.{empty-sound, layout-refused, layout-accepted}
 use Rattle.history.specs.Calls.{Call, callLayout, callBackup, callRestore, callRetire, callListing, callTally, Buffers, refusalOf, buffersAfter, buffersAfterAll, laidOut, backedUp, restored, retired, listed, tallied, answerOf, answersOf, refusalIn, refusedLayout, refusedLayouts, stateOr, stateAfter, stateAfterAll, outcomeRefusal, outcomeNumber, answerIn, answersIn, isAccepted}
@@ -47,7 +47,7 @@ left-one s b st call e r = record { fit = e .fit; pool = words call r .0; table 
     words : (call : Call) → refusedLayout b call
         → (buffersAfter b call .pool ≡ stateToBytes (stateAfter s st call)) × (buffersAfter b call .table ≡ stateToWords s (stateAfter s st call))
     words (callLayout c) r =
-        unfold buffersAfter stateAfter layoutOf layoutAs in (let z = layout-refused _ _ _ (b .pool) (b .table) r in (z .0 ∙ e .pool, z .1 ∙ e .table))
+        unfold buffersAfter stateAfter layoutOf in (let z = layout-refused _ _ _ (b .pool) (b .table) r in (z .0 ∙ e .pool, z .1 ∙ e .table))
     words (callBackup t image) r =
         unfold buffersAfter stateAfter backupOf backupIn in rw (left-store s b st e) (backup-words s b st (backup s st t image) (e .pool) (e .table))
     words (callRestore t v output) r = unfold buffersAfter stateAfter in (e .pool, e .table)
@@ -62,10 +62,10 @@ left-all s [] b st l r = l
 left-all s (call ∷ calls) b st l r = left-all s calls (buffersAfter b call) (stateAfter s st call) (left-one s b st call l (r .0)) (r .1)
 
 -- an accepted lay out leaves the empty state
-pub left-laid : (s : Shape) → Fit s → (pool table : List ℕ) → layoutAs s pool table .refusal ≡ 0 → Left s (laidOutIn s pool table) (emptyState s)
+pub left-laid : (s : Shape) (pool table : List ℕ) → layoutOf s pool table .refusal ≡ 0 → Left s (laidOutIn s pool table) (emptyState s)
 unfolding laidOutIn
-left-laid s fit pool table h =
-    let a = layout-accepted s pool table h in record { fit = fit; pool = a .1; table = a .2; sound = empty-sound s (a .0) }
+left-laid s pool table h =
+    let a = layout-accepted s pool table h in record { fit = range-fit s (a .0); pool = a .1; table = a .2; sound = empty-sound s (a .0) }
 
 -- ---- what is answered
 

@@ -5,14 +5,14 @@ use mathlib.Core.Bool.{Bool}
 use mathlib.Core.List.{List, [], _∷_}
 use mathlib.Core.Option.{some}
 use lib.Dec.{eqb}
-use Rattle.model.specs.Measures.{Capacities, Shape}
+use Rattle.model.specs.Measures.{Shape}
 use Rattle.model.specs.State.{State, Outcome, refused, done}
 use Rattle.model.specs.Table.{stateToWords, stateToBytes}
 use Rattle.model.specs.Calls.{layoutOf, backupOf, restoreOf, retireOf, listingOf, tallyOf, backup, restore, retire, listingIn, tallyIn, RestoreAnswer, ListingAnswer, TallyAnswer, After}
 
 -- A call with its arguments, any of them. Table length takes no buffer and is no call of the list.
 pub data Call : Type 0 where
-  callLayout : (capacities : Capacities) → Call
+  callLayout : (capacities : Shape) → Call
   callBackup : (till : ℕ) (image : List ℕ) → Call
   callRestore : (till version : ℕ) (output : List ℕ) → Call
   callRetire : (till version : ℕ) → Call

@@ -7,13 +7,13 @@ use mathlib.Core.List.{List, [], _∷_, _++_, map}
 use mathlib.Core.Option.{some}
 use lib.ListN.{length, getD, drop}
 use Rattle.lists.specs.Lists.{counted, count, isIn, allZero}
-use Rattle.model.specs.Measures.{Capacities, Shape, shapeFor}
+use Rattle.model.specs.Measures.{Shape}
 use Rattle.model.specs.State.{Block, Pointer, nullPointer, direct, indirect, State}
 use Rattle.model.specs.Image.{imageBlocks}
 use Rattle.model.specs.Records.{namedCells, cellAt, positionAt, cellOf, isHeld}
 use Rattle.model.specs.Table.{stateToWords, stateToBytes, cellsIn}
 use Rattle.model.specs.Sound.{storeOf, nextPointers}
-use Rattle.model.specs.Calls.{layoutAs, backupOf, restoreOf, RestoreAnswer, retireOf, listingOf, ListingAnswer, tallyOf, emptyState, tillOf, heldFrom}
+use Rattle.model.specs.Calls.{layoutOf, backupOf, restoreOf, RestoreAnswer, retireOf, listingOf, ListingAnswer, tallyOf, emptyState, tillOf, heldFrom}
 use Rattle.history.specs.Calls.{Call, callBackup, Buffers, buffersAfterAll, answersOf, refusedLayouts, stateAfterAll, answersIn}
 use Rattle.history.specs.Keeper.{Kept, Keeper, freshKeeper, keptTill, fed, fedAll, keptFrom, oldestKept, newestKept}
 use Rattle.history.specs.Kinds.{kindOf, kindsKept, longestKept}
@@ -120,14 +120,10 @@ pub record Demands (s : Shape) (b : Buffers) (calls : List Call) : Type 0 where
   pub after : Holds (s .measures .blockBytes) (stateAfterAll s (emptyState s) calls) (fedAll (freshKeeper (s .capacities)) b calls) (buffersAfterAll b calls) s
 
 unfoldable pub laidOutIn : Shape → List ℕ → List ℕ → Buffers
-laidOutIn s pool table = record { pool = layoutAs s pool table .pool; table = layoutAs s pool table .table }
+laidOutIn s pool table = record { pool = layoutOf s pool table .pool; table = layoutOf s pool table .table }
 
--- From any accepted lay out with that shape, after every list of calls, with any arguments, whose lay outs are refused.
-abbrev pub DemandOf : Shape → Type 0
-DemandOf s =
-    (pool table : List ℕ) (calls : List Call) → layoutAs s pool table .refusal ≡ 0 → refusedLayouts (laidOutIn s pool table) calls
-    → Demands s (laidOutIn s pool table) calls
-
--- The single claim. `layoutOf c` is `layoutAs (shapeFor c)`.
+-- The single claim: from any accepted lay out, with any capacities, after every list of calls, with any arguments, whose lay outs are refused.
 abbrev pub Demand3 : Type 0
-Demand3 = (c : Capacities) → DemandOf (shapeFor c)
+Demand3 =
+    (s : Shape) (pool table : List ℕ) (calls : List Call) → layoutOf s pool table .refusal ≡ 0 → refusedLayouts (laidOutIn s pool table) calls
+    → Demands s (laidOutIn s pool table) calls

@@ -6,11 +6,11 @@ use mathlib.Core.Option.{Option, some}
 use Prim.Native.Nat.{ℕ, zero, suc, _+_, _-_, _≤_, _<_}
 use native.Mathlib.Omega.{arith}
 use lib.Count.{ones}
-use lib.ListN.{length, getD, length-map}
+use lib.ListN.{length, getD, length-map, length-replicate}
 use Rattle.lists.specs.Lists.{keep}
 use Rattle.lists.specs.Masks.{maskOf}
-use Rattle.lists.proofs.Masks.{ones-mask}
-use Rattle.model.specs.Measures.{baseMeasures}
+use Rattle.lists.proofs.Masks.{ones-mask, mask-lt}
+use Rattle.model.specs.Measures.{Measures}
 use Rattle.model.specs.Records.{isHeld, cellOf, freeSegment, cellsOf}
 use Rattle.model.specs.Runs.{Run}
 use Rattle.model.specs.State.{Position, nullPosition, held, removed, Segment, Shelf}
@@ -20,8 +20,11 @@ use Rattle.laws.proofs.Runs.{RunOk, Free, FoundOk, find-ok}
 use Rattle.laws.proofs.Uses.{staying, staying-count}
 use Rattle.records.specs.Records.{Formed, positions, recordOf}
 use Rattle.records.specs.declared.Record.{Record}
-use Rattle.records.proofs.Records.{positions-of, formed-of, held-small, moved-struck}
-use Rattle.shelf.proofs.Read.{eight-at}
+use Rattle.records.proofs.Records.{positions-of, formed-of, held-small, moved-struck, length-moved}
+use Rattle.shelf.proofs.Read.{count-at}
+use Rattle.lists.specs.Rows.{fill}
+use Rattle.lists.proofs.Rows.{getD-fill}
+use Rattle.pool.proofs.Pool.{along-fill}
 use Rattle.pool.specs.Pool.{along, clearAt, freeAt, copyTo, takeAt}
 use Rattle.kept.specs.Kept.{Kept, Loaded, Coded, filled}
 use Rattle.kept.specs.Ways.{segmentAt, stayingAt, freed, struckOnly, compacted, Chosen}
@@ -43,93 +46,114 @@ split-mask [] = refl
 split-mask (p ∷ ps) = omega (arith, split-bit p, split-mask ps)
 
 -- what the code needs of a loaded record
-pub record Ready (n : ℕ) (r : Record) (going : ℕ) : Type 0 where
+pub record Ready (l n : ℕ) (r : Record) (going : ℕ) : Type 0 where
   pub formed : Formed r
+  pub count : length (positions r) ≡ n
   pub gone : going ≡ maskOf goes (positions r)
-  pub small : r .held < 256
-  pub few : going < 256
+  pub small : r .held < 65536
+  pub few : going < 65536
   pub within : going ≤ r .held
-  pub cells : (j : ℕ) → getD (r .cells) j 0 < n
+  pub cells : (j : ℕ) → getD (r .cells) j 0 < l
 
-module _ (pool words : List ℕ) (marks : List Bool) (k : ℕ) (r : Record) (going : ℕ) (kept : Kept pool words marks) (l : Loaded words k r going) where
+module _ (m : Measures) (pool words : List ℕ) (marks : List Bool) (k : ℕ) (r : Record) (going : ℕ) (kept : Kept m pool words marks) (l : Loaded (m .segmentBlocks) words k r going) where
+  abbrev n : ℕ
+  n = m .segmentBlocks
+
   abbrev sh : Shelf
-  sh = shelfIn baseMeasures pool words
+  sh = shelfIn m pool words
 
   abbrev seg : Segment
-  seg = segmentAt words k
+  seg = segmentAt n words k
 
   hk : k < length (sh .records)
   unfolding shelfIn
   hk = l .inside
 
-  seg-8 : length seg ≡ 8
+  seg-n : length seg ≡ n
   unfolding shelfIn
-  seg-8 = eight-at words (recordsIn 8 words) (kept .coded .told .records) k (l .inside)
+  seg-n = count-at n words (recordsIn n words) (kept .coded .told .records) k (l .inside)
+
+  seg-few : length seg ≤ 16
+  seg-few = omega (arith, seg-n, kept .measured .mostBlocks)
 
   marks-length : length marks ≡ length (sh .cells)
   marks-length = ap length (kept .coded .marked) ∙ length-map (sh .cells) filled
 
   seg-is : positions r ≡ seg
-  seg-is = ap positions (l .is) ∙ positions-of seg
+  seg-is = ap positions (l .is) ∙ positions-of seg seg-few
 
   held-is : r .held ≡ maskOf isHeld seg
   unfolding recordOf
   held-is = ap (λ (x : Record). x .held) (l .is)
 
-  cells-is : r .cells ≡ map cellOf seg
+  cells-is : r .cells ≡ fill 16 (map cellOf seg)
   unfolding recordOf
   cells-is = ap (λ (x : Record). x .cells) (l .is)
+
+  -- a walk over the record's cells is one over those of its positions
+  walk-is : {S : Type 0} (step : S → ℕ → ℕ → S) (f : Position → Bool) (at : ℕ) (s : S)
+      → along step (maskOf f seg) at (r .cells) s ≡ along step (maskOf f seg) at (map cellOf seg) s
+  walk-is step f at s =
+      ap (λ (cs : List ℕ). along step (maskOf f seg) at cs s) cells-is
+      ∙ along-fill step 16 (maskOf f seg) at (map cellOf seg) s (rw (length-map seg cellOf) (mask-lt f seg)) (omega (arith, length-map seg cellOf, seg-few))
 
   stays-mask : r .held - going ≡ maskOf stays seg
   stays-mask = omega (arith, split-mask seg, held-is, l .gone)
 
-  pub need-ones : ones (r .held - going) ≡ stayingAt words k
+  pub need-ones : ones (r .held - going) ≡ stayingAt n words k
   unfolding staying
   need-ones = rw stays-mask (ones-mask stays seg ∙ sym (length-picked stays seg) ∙ ap length (sym (stays-picked seg)) ∙ (omega (arith, staying-count seg)))
 
   range : (j : ℕ) → getD (map cellOf seg) j 0 < length marks
   unfolding shelfIn
-  range = cell-range (length marks) (kept .some) seg (rw marks-length (cells-inside pool words marks sh (kept .coded) (kept .exact) k (l .inside)))
+  range = cell-range (length marks) (kept .some) seg (rw marks-length (cells-inside m pool words marks sh (kept .coded) (kept .exact) k (l .inside)))
 
-  pub ready : Ready (length marks) r going
+  pub ready : Ready (length marks) n r going
   ready =
-      let f : Formed r = formed-of r seg (l .is) seg-8 in
+      let f : Formed r = formed-of r seg (l .is) seg-few in
       record {
         formed = f;
+        count = ap length seg-is ∙ seg-n;
         gone = l .gone ∙ ap (maskOf goes) (sym seg-is);
         small = held-small r f;
         few = omega (arith, split-mask seg, held-is, l .gone, held-small r f);
         within = omega (arith, split-mask seg, held-is, l .gone);
-        cells = λ j. rw cells-is (range j);
+        cells = λ j. rw (cells-is, getD-fill 16 (map cellOf seg) j (omega (arith, length-map seg cellOf, seg-few))) (range j);
       }
 
-  module _ (p w : List ℕ) (o : List Bool) (n : Record) where
-    -- record k's words are those of another
-    put : (new : Segment) → n ≡ recordOf new → w ≡ rowPut words k (positions n) → w ≡ rowPut words k new
-    put new en ew = ew ∙ ap (rowPut words k) (ap positions en ∙ positions-of new)
+  free-few : length (freeSegment n) ≤ 16
+  free-few = unfold freeSegment in omega (arith, length-replicate n nullPosition, kept .measured .mostBlocks)
 
-    pub free-done : p ≡ along clearAt (r .held) 0 (r .cells) pool → n ≡ recordOf (freeSegment 8) → w ≡ rowPut words k (positions n)
-        → o ≡ along freeAt (r .held) 0 (r .cells) marks → Coded p w o (freed pool words k)
+  struck-few : length (map struck seg) ≤ 16
+  struck-few = omega (arith, length-map seg struck, seg-few)
+
+  module _ (p w : List ℕ) (o : List Bool) (new : Record) where
+    -- record k's words are those of another
+    put : (s : Segment) → length s ≤ 16 → new ≡ recordOf s → w ≡ rowPut n words k (positions new) → w ≡ rowPut n words k s
+    put s h en ew = ew ∙ ap (rowPut n words k) (ap positions en ∙ positions-of s h)
+
+    pub free-done : p ≡ along (clearAt (m .blockBytes)) (r .held) 0 (r .cells) pool → new ≡ recordOf (freeSegment n) → w ≡ rowPut n words k (positions new)
+        → o ≡ along freeAt (r .held) 0 (r .cells) marks → Coded m p w o (freed m pool words k)
     unfolding shelfIn
     free-done ep en ew eo =
-        rw (ep, put (freeSegment 8) en ew, eo, held-is, cells-is) (free-coded pool words marks sh (kept .coded) (kept .exact) k (l .inside))
+        rw (ep, put (freeSegment n) free-few en ew, eo, held-is, walk-is (clearAt (m .blockBytes)) isHeld 0 pool, walk-is freeAt isHeld 0 marks) (free-coded m pool words marks sh (kept .coded) (kept .exact) k (l .inside))
 
-    pub strike-done : p ≡ along clearAt going 0 (r .cells) pool → n ≡ recordOf (map struck (positions r)) → w ≡ rowPut words k (positions n)
-        → o ≡ along freeAt going 0 (r .cells) marks → Coded p w o (struckOnly pool words k)
+    pub strike-done : p ≡ along (clearAt (m .blockBytes)) going 0 (r .cells) pool → new ≡ recordOf (map struck (positions r)) → w ≡ rowPut n words k (positions new)
+        → o ≡ along freeAt going 0 (r .cells) marks → Coded m p w o (struckOnly m pool words k)
     unfolding shelfIn
     strike-done ep en ew eo =
-        rw (ep, put (map struck seg) (en ∙ ap (λ (s : Segment). recordOf (map struck s)) seg-is) ew, eo, l .gone, cells-is)
-        (strike-coded pool words marks sh (kept .coded) (kept .exact) k (l .inside))
+        rw (ep, put (map struck seg) struck-few (en ∙ ap (λ (s : Segment). recordOf (map struck s)) seg-is) ew, eo, l .gone, walk-is (clearAt (m .blockBytes)) goes 0 pool, walk-is freeAt goes 0 marks)
+        (strike-coded m pool words marks sh (kept .coded) (kept .exact) k (l .inside))
 
-  module _ (start : ℕ) (ch : Chosen pool words k start) where
-    stay-length : stayingAt words k ≡ length (cellsOf (keep stays seg))
+  module _ (start : ℕ) (ch : Chosen m pool words k start) where
+    stay-length : stayingAt n words k ≡ length (cellsOf (keep stays seg))
     unfolding staying
     stay-length = omega (arith, staying-count seg)
 
     ok : RunOk (Free sh) (length (cellsOf (keep stays seg))) (ch .run)
     ok =
-        let f : FoundOk (Free sh) (stayingAt words k) (some (ch .run)) =
-        subst (λ (o : Option Run). FoundOk (Free sh) (stayingAt words k) o) (ch .found) (find-ok sh (stayingAt words k)) in
+        let f : FoundOk (Free sh) (stayingAt n words k) (some (ch .run)) =
+        subst (λ (o : Option Run). FoundOk (Free sh) (stayingAt n words k) o) (ch .found) (find-ok sh (stayingAt n words k)) in
         subst (λ (i : ℕ). RunOk (Free sh) i (ch .run)) stay-length f
 
     some-stay : 0 < length (cellsOf (keep stays seg))
@@ -138,20 +162,20 @@ module _ (pool words : List ℕ) (marks : List Bool) (k : ℕ) (r : Record) (goi
     pub start-room : start + ones (r .held - going) ≤ length marks
     unfolding shelfIn
     start-room =
-        omega (arith, need-ones, stay-length, ch .at, marks-length, run-room pool words marks sh (kept .coded) (kept .exact) k (l .inside) (ch .run) ok some-stay)
+        omega (arith, need-ones, stay-length, ch .at, marks-length, run-room m pool words marks sh (kept .coded) (kept .exact) k (l .inside) (ch .run) ok some-stay)
 
-    pub move-done : (p w : List ℕ) (o : List Bool) (m n : Record)
-        → p ≡ along clearAt (r .held) 0 (r .cells) (along copyTo (r .held - going) start (r .cells) pool)
-        → m ≡ recordOf (map struck (positions r)) → n ≡ recordOf (moved start (positions m)) → w ≡ rowPut words k (positions n)
+    pub move-done : (p w : List ℕ) (o : List Bool) (mid new : Record)
+        → p ≡ along (clearAt (m .blockBytes)) (r .held) 0 (r .cells) (along (copyTo (m .blockBytes)) (r .held - going) start (r .cells) pool)
+        → mid ≡ recordOf (map struck (positions r)) → new ≡ recordOf (moved start (positions mid)) → w ≡ rowPut n words k (positions new)
         → o ≡ along freeAt (r .held) 0 (r .cells) (along takeAt (r .held - going) start (r .cells) marks)
-        → Coded p w o (compacted pool words k)
+        → Coded m p w o (compacted m pool words k)
     unfolding shelfIn
-    move-done p w o m n ep em en ew eo =
-        let s : positions m ≡ map struck seg = ap positions em ∙ positions-of (map struck (positions r)) ∙ ap (map struck) seg-is in
-        let q : moved start (positions m) ≡ moved start seg = ap (moved start) s ∙ moved-struck start seg in
-        let ew′ : w ≡ rowPut words k (moved start seg) = put p w o n (moved start seg) (en ∙ ap recordOf q) ew in
-        rw (ep, ew′, eo, held-is, cells-is, stays-mask′, ← ch .at, ch .found)
-        (move-coded pool words marks sh (kept .coded) (kept .exact) k (l .inside) (ch .run) ok some-stay)
+    move-done p w o mid new ep em en ew eo =
+        let s : positions mid ≡ map struck seg = ap positions (em ∙ ap (λ (s : Segment). recordOf (map struck s)) seg-is) ∙ positions-of (map struck seg) struck-few in
+        let q : moved start (positions mid) ≡ moved start seg = ap (moved start) s ∙ moved-struck start seg in
+        let ew′ : w ≡ rowPut n words k (moved start seg) = put p w o new (moved start seg) (omega (arith, length-moved start seg, seg-few)) (en ∙ ap recordOf q) ew in
+        rw (ep, ew′, eo, held-is, stays-mask′, walk-is (copyTo (m .blockBytes)) stays start pool, walk-is takeAt stays start marks, walk-is (clearAt (m .blockBytes)) isHeld 0, walk-is freeAt isHeld 0, ← ch .at, ch .found)
+        (move-coded m pool words marks sh (kept .coded) (kept .exact) k (l .inside) (ch .run) ok some-stay)
       where
         stays-mask′ : maskOf isHeld seg - going ≡ maskOf stays seg
         stays-mask′ = omega (arith, split-mask seg, l .gone)

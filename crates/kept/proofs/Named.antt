@@ -3,6 +3,7 @@ use mathlib.Core.Path.{_≡_, refl, sym, ap, _∙_}
 use mathlib.Core.Bool.{Bool, true, false, cond}
 use mathlib.Core.List.{List, [], _∷_, map}
 use Prim.Native.Nat.{ℕ, zero, suc, _+_, _*_, _/_, _≤_, _<_}
+use native.Mathlib.Nat.{zero-mul, eq-of-mul-eq-mul-right, le-of-mul-le-mul-right, mul-div-cancel}
 use native.Mathlib.Omega.{arith}
 use lib.ListN.{length, getD, set, take, drop, replicate, length-set, length-map, length-replicate, getD-replicate, List·getD-map}
 use lib.Seq.{ext-getD, getD-set-same, getD-set-other}
@@ -11,20 +12,24 @@ use borrow.Author.Tests.{eqb-true, eqb-false}
 use Rattle.lists.specs.Lists.{isIn, allZero, every}
 use Rattle.lists.specs.Marks.{marked}
 use Rattle.lists.specs.Masks.{maskOf}
-use Rattle.lists.specs.Rows.{joined}
+use Rattle.lists.specs.Rows.{joined, fill}
+use Rattle.lists.proofs.Rows.{getD-fill}
+use Rattle.lists.proofs.Places.{row-below}
+use Rattle.lists.proofs.Masks.{mask-lt}
+use Rattle.pool.proofs.Pool.{along-fill}
 use Rattle.lists.proofs.Marks.{marked-append, length-marked}
 use Rattle.lists.proofs.Slices.{drop-next, drop-end}
 use Rattle.lists.proofs.Apart.{marked-at}
-use Rattle.model.specs.Measures.{baseMeasures}
+use Rattle.model.specs.Measures.{Measures, recordWords}
 use Rattle.model.specs.Records.{isHeld, cellOf, cellsOf, namedCells}
-use Rattle.model.specs.State.{Segment, Shelf}
+use Rattle.model.specs.State.{Segment, Shelf, Block}
 use Rattle.model.specs.Table.{shelfIn, recordsIn}
 use Rattle.laws.proofs.Sweep.{Exact}
 use Rattle.records.specs.Records.{recordIn, recordOf}
 use Rattle.records.specs.declared.Record.{Record}
 use Rattle.records.proofs.Records.{held-small}
 use Rattle.shelf.specs.Stored.{Stored, RecordsTold}
-use Rattle.shelf.proofs.Read.{cells-length, records-count}
+use Rattle.shelf.proofs.Read.{cells-length, records-count, count-at}
 use Rattle.pool.specs.Pool.{markAt, along}
 use Rattle.kept.specs.Kept.{filled, Coded, NamedIn, Kept}
 use Rattle.kept.specs.Ways.{segmentAt}
@@ -39,8 +44,10 @@ fold-mark [] at os = refl
 fold-mark (c ∷ cs) at os = fold-mark cs (at + 1) (set os c true)
 
 -- a record's held cells
-along-mark : (seg : Segment) (os : List Bool) → along markAt (maskOf isHeld seg) 0 (map cellOf seg) os ≡ marked (cellsOf seg) os
-along-mark seg os = along-picked markAt isHeld seg 0 os ∙ rw (← held-picked seg) (fold-mark (cellsOf seg) 0 os)
+along-mark : (seg : Segment) → length seg ≤ 16 → (os : List Bool) → along markAt (maskOf isHeld seg) 0 (fill 16 (map cellOf seg)) os ≡ marked (cellsOf seg) os
+along-mark seg h os =
+    along-fill markAt 16 (maskOf isHeld seg) 0 (map cellOf seg) os (rw (length-map seg cellOf) (mask-lt isHeld seg)) (omega (arith, length-map seg cellOf))
+    ∙ along-picked markAt isHeld seg 0 os ∙ rw (← held-picked seg) (fold-mark (cellsOf seg) 0 os)
 
 -- one record more
 marked-next : (segs : List Segment) (k : ℕ) (os : List Bool) → k < length segs
@@ -75,81 +82,94 @@ marked-all shelf x n e =
 
 -- ---- what the code needs and leaves
 
-module _ (pool words : List ℕ) (s : Stored pool words) (n : ℕ) (e : n * 64 ≡ length pool) where
+module _ (m : Measures) (pool words : List ℕ) (s : Stored m pool words) (n : ℕ) (e : n * m .blockBytes ≡ length pool) where
   abbrev sh : Shelf
-  sh = shelfIn baseMeasures pool words
+  sh = shelfIn m pool words
 
   cells-n : n ≡ length (sh .cells)
-  cells-n = omega (arith, cells-length pool (sh .cells) (s .told .cells))
+  cells-n =
+      let p : n * m .blockBytes ≡ length (sh .cells) * m .blockBytes = e ∙ cells-length (m .blockBytes) pool (sh .cells) (s .told .cells) in
+      eq-of-mul-eq-mul-right (m .blockBytes) (omega (arith, s .measured .someBytes)) n (length (sh .cells)) p
 
-  coded : Coded pool words (map filled (sh .cells)) sh
+  some-n : 1 ≤ n
+  some-n = row-below 0 n (m .blockBytes) (omega (arith, s .measured .someBytes)) (omega (arith, zero-mul (m .blockBytes), s .some))
+
+  pub few-n : n ≤ 32768
+  few-n = le-of-mul-le-mul-right {m = n} {n = 32768} {k = m .blockBytes} (omega (arith, s .few)) (omega (arith, s .measured .someBytes))
+
+  coded : Coded m pool words (map filled (sh .cells)) sh
   coded = record { told = s .told; marked = refl }
 
-  pub named-in : NamedIn words n
+  pub named-in : NamedIn (m .segmentBlocks) words n
   unfolding shelfIn
   named-in = record {
     told = s .told .records;
-    inside = λ k j h. cell-range n (omega (arith, s .some)) (segmentAt words k) (rw cells-n (cells-inside pool words (map filled (sh .cells)) sh coded (s .exact) k h)) j;
+    inside = λ k j h. cell-range n some-n (segmentAt (m .segmentBlocks) words k) (rw cells-n (cells-inside m pool words (map filled (sh .cells)) sh coded (s .exact) k h)) j;
+    positions = s .measured .mostBlocks;
     short = s .short;
   }
 
-  pub kept-of : (marks : List Bool) → marks ≡ marked (namedCells (recordsIn 8 words)) (replicate n false) → Kept pool words marks
+  pub kept-of : (marks : List Bool) → marks ≡ marked (namedCells (recordsIn (m .segmentBlocks) words)) (replicate n false) → Kept m pool words marks
   unfolding shelfIn
   kept-of marks em =
-      let m : marks ≡ map filled (sh .cells) = em ∙ marked-all sh (s .exact) n cells-n in
-      let l : length marks ≡ n = ap length m ∙ length-map (sh .cells) filled ∙ sym cells-n in
+      let q : marks ≡ map filled (sh .cells) = em ∙ marked-all sh (s .exact) n cells-n in
+      let l : length marks ≡ n = ap length q ∙ length-map (sh .cells) filled ∙ sym cells-n in
       record {
-        coded = record { told = s .told; marked = m };
+        measured = s .measured;
+        coded = record { told = s .told; marked = q };
         exact = s .exact;
-        some = omega (arith, s .some);
-        few = omega (arith, s .few);
-        bytes = omega arith;
+        some = omega (arith, some-n);
+        few = omega (arith, few-n);
+        bytes = sym e ∙ ap (λ (i : ℕ). i * m .blockBytes) (sym l);
         short = s .short;
       }
 
 -- ---- the loop that marks
 
-pub record Marking (words : List ℕ) (os₀ : List Bool) (n : ℕ) (os : List Bool) (k : ℕ) : Type 0 where
+pub record Marking (b : ℕ) (words : List ℕ) (os₀ : List Bool) (n : ℕ) (os : List Bool) (k : ℕ) : Type 0 where
   pub inside : k ≤ n
-  pub all : n ≡ length words / 19
+  pub all : n ≡ length words / recordWords b
   pub long : length os ≡ length os₀
-  pub rest : marked (namedCells (drop k (recordsIn 8 words))) os ≡ marked (namedCells (recordsIn 8 words)) os₀
+  pub rest : marked (namedCells (drop k (recordsIn b words))) os ≡ marked (namedCells (recordsIn b words)) os₀
 
 -- what the code needs of record k
 pub record NamedAt (n : ℕ) (r : Record) : Type 0 where
-  pub small : r .held < 256
+  pub small : r .held < 65536
   pub cells : (j : ℕ) → getD (r .cells) j 0 < n
 
-module _ (words : List ℕ) (k : ℕ) (h : k < length words / 19) (r : Record) (e : r ≡ recordIn (take 19 (drop (k * 19) words))) where
-  hk : k < length (recordsIn 8 words)
-  hk = omega (arith, records-count words)
+module _ (b : ℕ) (few : b ≤ 16) (words : List ℕ) (k : ℕ) (h : k < length words / recordWords b) (r : Record) (e : r ≡ recordIn b (take (recordWords b) (drop (k * recordWords b) words))) where
+  hk : k < length (recordsIn b words)
+  hk = omega (arith, records-count b words)
 
-  pub marking-next : (os₀ : List Bool) (n : ℕ) (os : List Bool) → RecordsTold words (recordsIn 8 words) → Marking words os₀ n os k
-      → (os′ : List Bool) → length os′ ≡ length os → os′ ≡ along markAt (r .held) 0 (r .cells) os → Marking words os₀ n os′ (k + 1)
+  seg-few : RecordsTold b words (recordsIn b words) → length (segmentAt b words k) ≤ 16
+  seg-few d = omega (arith, count-at b words (recordsIn b words) d k hk)
+
+  pub marking-next : (os₀ : List Bool) (n : ℕ) (os : List Bool) → RecordsTold b words (recordsIn b words) → Marking b words os₀ n os k
+      → (os′ : List Bool) → length os′ ≡ length os → os′ ≡ along markAt (r .held) 0 (r .cells) os → Marking b words os₀ n os′ (k + 1)
   unfolding recordOf
   marking-next os₀ n os d m os′ l eo =
-      let is : r ≡ recordOf (segmentAt words k) = record-at words d k hk r e in
-      let q : os′ ≡ marked (cellsOf (segmentAt words k)) os = eo ∙ rw is (along-mark (segmentAt words k) os) in
+      let is : r ≡ recordOf (segmentAt b words k) = record-at b few words d k hk r e in
+      let q : os′ ≡ marked (cellsOf (segmentAt b words k)) os = eo ∙ rw is (along-mark (segmentAt b words k) (seg-few d) os) in
       record {
         inside = omega (arith, m .all);
         all = m .all;
         long = l ∙ m .long;
-        rest = rw q (marked-next (recordsIn 8 words) k os hk) ∙ m .rest;
+        rest = rw q (marked-next (recordsIn b words) k os hk) ∙ m .rest;
       }
 
-  pub named-at : (n : ℕ) → NamedIn words n → NamedAt n r
+  pub named-at : (n : ℕ) → NamedIn b words n → NamedAt n r
   unfolding recordOf
   named-at n d =
-      let is : r ≡ recordOf (segmentAt words k) = record-at words (d .told) k hk r e in
+      let is : r ≡ recordOf (segmentAt b words k) = record-at b few words (d .told) k hk r e in
       record {
-        small = held-small r (loaded-formed words (d .told) k hk r e);
-        cells = λ j. rw is (d .inside k j hk);
+        small = held-small r (loaded-formed b few words (d .told) k hk r e);
+        cells = λ j. rw (is, getD-fill 16 (map cellOf (segmentAt b words k)) j (omega (arith, length-map (segmentAt b words k) cellOf, seg-few (d .told)))) (d .inside k j hk);
       }
 
-pub marking-all : (words : List ℕ) (os₀ : List Bool) (n : ℕ) (os : List Bool) (k : ℕ) → Marking words os₀ n os k → n ≤ k → os ≡ marked (namedCells (recordsIn 8 words)) os₀
+pub marking-all : (b : ℕ) (words : List ℕ) (os₀ : List Bool) (n : ℕ) (os : List Bool) (k : ℕ) → Marking b words os₀ n os k → n ≤ k → os ≡ marked (namedCells (recordsIn b words)) os₀
 unfolding namedCells joined marked
-marking-all words os₀ n os k m h =
-    let z : drop k (recordsIn 8 words) ≡ [] = drop-end (recordsIn 8 words) k (omega (arith, m .all, records-count words)) in
+marking-all b words os₀ n os k m h =
+    let z : drop k (recordsIn b words) ≡ [] = drop-end (recordsIn b words) k (omega (arith, m .all, records-count b words)) in
     ap (λ (l : List Segment). marked (namedCells l) os) (sym z) ∙ m .rest
 
 -- ---- a part of an array that is false all through
@@ -162,11 +182,15 @@ take-false (suc n) (suc m) h = ap (λ (l : List Bool). false ∷ l) (take-false 
 pub length-false : (n m : ℕ) → n ≤ m → n ≡ length (take n (replicate m false))
 length-false n m h = sym (ap length (take-false n m h) ∙ length-replicate n false)
 
-pub false-part : (n m p : ℕ) → n ≤ m → n * 64 ≡ p
-    → (take n (replicate m false) ≡ replicate (length (take n (replicate m false))) false) × (length (take n (replicate m false)) * 64 ≡ p)
-false-part n m p h e =
+pub false-part : (size n m p : ℕ) → n ≤ m → n * size ≡ p
+    → (take n (replicate m false) ≡ replicate (length (take n (replicate m false))) false) × (length (take n (replicate m false)) * size ≡ p)
+false-part size n m p h e =
     let l : length (take n (replicate m false)) ≡ n = sym (length-false n m h) in
-    (take-false n m h ∙ ap (λ (i : ℕ). replicate i false) (sym l), omega arith)
+    (take-false n m h ∙ ap (λ (i : ℕ). replicate i false) (sym l), ap (λ (i : ℕ). i * size) l ∙ e)
 
-pub whole-cells : (pool words : List ℕ) → Stored pool words → length pool / 64 * 64 ≡ length pool
-whole-cells pool words s = omega (arith, cells-length pool (shelfIn baseMeasures pool words .cells) (s .told .cells))
+pub whole-cells : (m : Measures) (pool words : List ℕ) → Stored m pool words → length pool / m .blockBytes * m .blockBytes ≡ length pool
+whole-cells m pool words s =
+    let cells : List Block = shelfIn m pool words .cells in
+    let e : length pool ≡ length cells * m .blockBytes = cells-length (m .blockBytes) pool cells (s .told .cells) in
+    ap (λ (i : ℕ). i / m .blockBytes * m .blockBytes) e
+    ∙ ap (λ (i : ℕ). i * m .blockBytes) (mul-div-cancel (length cells) (omega (arith, s .measured .someBytes))) ∙ sym e

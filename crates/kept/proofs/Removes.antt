@@ -5,17 +5,17 @@ use mathlib.Core.List.{List, [], _∷_, _++_, map}
 use mathlib.Core.Option.{some}
 use Prim.Native.Nat.{ℕ, _+_, _-_, _*_, _≤_, _<_}
 use native.Mathlib.Omega.{arith}
-use lib.ListN.{length, getD, take, drop, length-map}
+use lib.ListN.{length, getD, take, drop, length-map, length-replicate}
 use lib.Seq.{sets, length-sets}
 use Rattle.lists.specs.Each.{Each}
 use Rattle.lists.specs.Lists.{keep}
 use Rattle.lists.specs.Masks.{maskOf}
 use Rattle.lists.proofs.Each.{each-at, each-weaken}
 use Rattle.lists.proofs.Uses.{uses, each-used}
-use Rattle.model.specs.Measures.{baseMeasures}
+use Rattle.model.specs.Measures.{Measures, recordWords}
 use Rattle.model.specs.Records.{cellsOf, cellOf, isHeld, cellAt, namedCells, freeSegment}
 use Rattle.model.specs.Runs.{Run}
-use Rattle.model.specs.State.{Segment, Shelf, Block, Position}
+use Rattle.model.specs.State.{Segment, Shelf, Block, Position, nullPosition}
 use Rattle.model.specs.Sweep.{goes, stays, struck, moved, clearCells, freeRecord, strikeOnly, compact}
 use Rattle.model.specs.Table.{recordToWords}
 use Rattle.laws.proofs.Runs.{RunOk, Free}
@@ -29,15 +29,21 @@ use Rattle.kept.proofs.Frees.{Named, named-cell}
 use Rattle.kept.proofs.Walks.{picked, along-picked, fold-clear, fold-free, held-picked, goes-picked, stays-picked, sized-clear, fold-copy, fold-take, sized-sets, Source, Sized, bytes}
 
 -- a record's words put in the place of record k's
-abbrev pub rowPut : List ℕ → ℕ → Segment → List ℕ
-rowPut ws k seg = take (k * 19) ws ++ (recordToWords seg ++ drop 19 (drop (k * 19) ws))
+abbrev pub rowPut : ℕ → List ℕ → ℕ → Segment → List ℕ
+rowPut n ws k seg = take (k * recordWords n) ws ++ (recordToWords seg ++ drop (recordWords n) (drop (k * recordWords n) ws))
 
-module _ (pool words : List ℕ) (marks : List Bool) (sh : Shelf) (d : Coded pool words marks sh) (x : Exact sh) (k : ℕ) (hk : k < length (sh .records)) where
+module _ (m : Measures) (pool words : List ℕ) (marks : List Bool) (sh : Shelf) (d : Coded m pool words marks sh) (x : Exact sh) (k : ℕ) (hk : k < length (sh .records)) where
+  abbrev n : ℕ
+  n = m .segmentBlocks
+
+  abbrev size : ℕ
+  size = m .blockBytes
+
   abbrev seg : Segment
   seg = getD (sh .records) k []
 
-  seg-8 : length seg ≡ 8
-  seg-8 = each-at (λ (s : Segment). length s ≡ 8) [] (sh .records) (d .told .records .eights) k hk
+  seg-n : length seg ≡ n
+  seg-n = each-at (λ (s : Segment). length s ≡ n) [] (sh .records) (d .told .records .sized) k hk
 
   pub all-named : Each (Named sh) (cellsOf seg)
   all-named = each-used (Named sh) (cellsOf seg) (λ c h. named-cell sh x k c h)
@@ -56,31 +62,31 @@ module _ (pool words : List ℕ) (marks : List Bool) (sh : Shelf) (d : Coded poo
 
   -- cells cleared and freed, on top of other cells
   cleared : (f : Position → Bool) (cs : List ℕ) → cs ≡ picked f seg → Each (λ (c : ℕ). c < length (sh .cells)) cs
-      → (p : List ℕ) (os : List Bool) (cells : List Block) → length cells ≡ length (sh .cells) → Sized cells → p ≡ bytes cells → os ≡ map filled cells
-      → (along clearAt (maskOf f seg) 0 (map cellOf seg) p ≡ bytes (clearCells 64 cells cs)) × (along freeAt (maskOf f seg) 0 (map cellOf seg) os ≡ map filled (clearCells 64 cells cs))
+      → (p : List ℕ) (os : List Bool) (cells : List Block) → length cells ≡ length (sh .cells) → Sized size cells → p ≡ bytes cells → os ≡ map filled cells
+      → (along (clearAt size) (maskOf f seg) 0 (map cellOf seg) p ≡ bytes (clearCells size cells cs)) × (along freeAt (maskOf f seg) 0 (map cellOf seg) os ≡ map filled (clearCells size cells cs))
   cleared f cs e i p os cells l z ep eo = (
-    rw (along-picked clearAt f seg 0 p, ← e, ep) (fold-clear (length (sh .cells)) cs cells 0 l z i),
-    rw (along-picked freeAt f seg 0 os, ← e, eo) (fold-free cs cells 0),
+    rw (along-picked (clearAt size) f seg 0 p, ← e, ep) (fold-clear size (length (sh .cells)) cs cells 0 l z i),
+    rw (along-picked freeAt f seg 0 os, ← e, eo) (fold-free size cs cells 0),
   )
 
-  pub free-coded : Coded (along clearAt (maskOf isHeld seg) 0 (map cellOf seg) pool) (rowPut words k (freeSegment 8))
-      (along freeAt (maskOf isHeld seg) 0 (map cellOf seg) marks) (freeRecord baseMeasures sh k seg)
+  pub free-coded : Coded m (along (clearAt size) (maskOf isHeld seg) 0 (map cellOf seg) pool) (rowPut n words k (freeSegment n))
+      (along freeAt (maskOf isHeld seg) 0 (map cellOf seg) marks) (freeRecord m sh k seg)
   unfolding freeRecord
   free-coded =
-      let c = cleared isHeld (cellsOf seg) (held-picked seg) cells-inside pool marks (sh .cells) refl (d .told .cells .blocks) (d .told .cells .bytes) (d .marked) in
+      let c = cleared isHeld (cellsOf seg) (held-picked seg) cells-inside pool marks (sh .cells) refl (d .told .cells .blocks) (d .told .cells .joins) (d .marked) in
       record {
-        told = record { cells = record { blocks = sized-clear (cellsOf seg) (sh .cells) (d .told .cells .blocks); bytes = c .0 }; records = store-at words (sh .records) (d .told .records) k hk (freeSegment 8) (unfold freeSegment in refl) };
+        told = record { cells = record { blocks = sized-clear size (cellsOf seg) (sh .cells) (d .told .cells .blocks); joins = c .0 }; records = store-at n words (sh .records) (d .told .records) k hk (freeSegment n) (unfold freeSegment in (length-replicate n nullPosition)) };
         marked = c .1;
       }
 
-  pub strike-coded : Coded (along clearAt (maskOf goes seg) 0 (map cellOf seg) pool) (rowPut words k (map struck seg))
-      (along freeAt (maskOf goes seg) 0 (map cellOf seg) marks) (strikeOnly baseMeasures sh k seg)
+  pub strike-coded : Coded m (along (clearAt size) (maskOf goes seg) 0 (map cellOf seg) pool) (rowPut n words k (map struck seg))
+      (along freeAt (maskOf goes seg) 0 (map cellOf seg) marks) (strikeOnly m sh k seg)
   unfolding strikeOnly
   strike-coded =
       let cs : List ℕ = cellsOf (keep goes seg) in
-      let c = cleared goes cs (goes-picked seg) (inside cs goes-named) pool marks (sh .cells) refl (d .told .cells .blocks) (d .told .cells .bytes) (d .marked) in
+      let c = cleared goes cs (goes-picked seg) (inside cs goes-named) pool marks (sh .cells) refl (d .told .cells .blocks) (d .told .cells .joins) (d .marked) in
       record {
-        told = record { cells = record { blocks = sized-clear cs (sh .cells) (d .told .cells .blocks); bytes = c .0 }; records = store-at words (sh .records) (d .told .records) k hk (map struck seg) (length-map seg struck ∙ seg-8) };
+        told = record { cells = record { blocks = sized-clear size cs (sh .cells) (d .told .cells .blocks); joins = c .0 }; records = store-at n words (sh .records) (d .told .records) k hk (map struck seg) (length-map seg struck ∙ seg-n) };
         marked = c .1;
       }
 
@@ -106,18 +112,18 @@ module _ (pool words : List ℕ) (marks : List Bool) (sh : Shelf) (d : Coded poo
           omega (arith, n .used, g);
     }
 
-    sized-first : (ds : List ℕ) → Each (Named sh) ds → Sized (map (λ c. getD (sh .cells) c []) ds)
+    sized-first : (ds : List ℕ) → Each (Named sh) ds → Sized size (map (λ c. getD (sh .cells) c []) ds)
     sized-first [] e = tt
-    sized-first (c ∷ ds) e = (each-at (λ (b : Block). length b ≡ 64) [] (sh .cells) (d .told .cells .blocks) c (e .0 .inside), sized-first ds (e .1))
+    sized-first (c ∷ ds) e = (each-at (λ (b : Block). length b ≡ size) [] (sh .cells) (d .told .cells .blocks) c (e .0 .inside), sized-first ds (e .1))
 
     full-first : (ds : List ℕ) → Each (Named sh) ds → Each (λ (b : Block). filled b ≡ true) (map (λ c. getD (sh .cells) c []) ds)
     full-first [] e = tt
     full-first (c ∷ ds) e = (e .0 .full, full-first ds (e .1))
 
-    copied : along copyTo (maskOf stays seg) (run .start) (map cellOf seg) pool ≡ bytes (sets (sh .cells) (run .start) first)
+    copied : along (copyTo size) (maskOf stays seg) (run .start) (map cellOf seg) pool ≡ bytes (sets (sh .cells) (run .start) first)
     copied =
-        rw (along-picked copyTo stays seg (run .start) pool, ← stays-picked seg, d .told .cells .bytes)
-        (fold-copy (sh .cells) cs (sh .cells) (run .start) (d .told .cells .blocks)
+        rw (along-picked (copyTo size) stays seg (run .start) pool, ← stays-picked seg, d .told .cells .joins)
+        (fold-copy size (sh .cells) cs (sh .cells) (run .start) (d .told .cells .blocks)
         (each-weaken (Named sh) (Source (sh .cells) (sh .cells) (run .start) (length cs)) source cs stays-named) run-room)
 
     taken : along takeAt (maskOf stays seg) (run .start) (map cellOf seg) marks ≡ map filled (sets (sh .cells) (run .start) first)
@@ -125,15 +131,15 @@ module _ (pool words : List ℕ) (marks : List Bool) (sh : Shelf) (d : Coded poo
         rw (along-picked takeAt stays seg (run .start) marks, ← stays-picked seg, d .marked)
         (fold-take cs first (sh .cells) (run .start) (length-map cs (λ c. getD (sh .cells) c [])) (full-first cs stays-named))
 
-    pub move-coded : Coded (along clearAt (maskOf isHeld seg) 0 (map cellOf seg) (along copyTo (maskOf stays seg) (run .start) (map cellOf seg) pool))
-        (rowPut words k (moved (run .start) seg))
-        (along freeAt (maskOf isHeld seg) 0 (map cellOf seg) (along takeAt (maskOf stays seg) (run .start) (map cellOf seg) marks)) (compact baseMeasures sh k seg (some run))
+    pub move-coded : Coded m (along (clearAt size) (maskOf isHeld seg) 0 (map cellOf seg) (along (copyTo size) (maskOf stays seg) (run .start) (map cellOf seg) pool))
+        (rowPut n words k (moved (run .start) seg))
+        (along freeAt (maskOf isHeld seg) 0 (map cellOf seg) (along takeAt (maskOf stays seg) (run .start) (map cellOf seg) marks)) (compact m sh k seg (some run))
     unfolding compact cellAt
     move-coded =
         let new : List Block = sets (sh .cells) (run .start) first in
-        let z : Sized new = sized-sets first (sh .cells) (run .start) (d .told .cells .blocks) (sized-first cs stays-named) in
+        let z : Sized size new = sized-sets size first (sh .cells) (run .start) (d .told .cells .blocks) (sized-first cs stays-named) in
         let c = cleared isHeld (cellsOf seg) (held-picked seg) cells-inside _ _ new (length-sets (sh .cells) (run .start) first) z copied taken in
         record {
-          told = record { cells = record { blocks = sized-clear (cellsOf seg) new z; bytes = c .0 }; records = store-at words (sh .records) (d .told .records) k hk (moved (run .start) seg) (length-moved (run .start) seg ∙ seg-8) };
+          told = record { cells = record { blocks = sized-clear size (cellsOf seg) new z; joins = c .0 }; records = store-at n words (sh .records) (d .told .records) k hk (moved (run .start) seg) (length-moved (run .start) seg ∙ seg-n) };
           marked = c .1;
         }

@@ -1,19 +1,20 @@
 -- The walks over a record's cells, on the cells of a shelf.
 use mathlib.Core.Path.{_≡_, refl, sym, ap, _∙_}
-use mathlib.Core.Bool.{Bool, true, false, cond}
+use mathlib.Core.Bool.{Bool, true, false, cond, not}
 use mathlib.Core.List.{List, [], _∷_, _++_, map}
 use Prim.Native.Nat.{ℕ, zero, suc, _+_, _*_, _/_, _%_, _≤_, _<_}
 use native.Mathlib.Nat.{add-zero}
 use native.Mathlib.Numerals.{add-one}
 use native.Mathlib.Omega.{arith}
-use lib.ListN.{length, getD, set, take, drop, replicate, length-set}
+use lib.ListN.{length, getD, set, take, drop, replicate, length-set, length-replicate}
 use lib.Seq.{sets, drop-drop, getD-set-other}
 use Rattle.lists.specs.Each.{Each}
-use Rattle.lists.specs.Lists.{keep, count, every, allZero}
+use Rattle.lists.specs.Lists.{keep, count, allZero}
 use Rattle.lists.specs.Masks.{maskOf}
 use Rattle.lists.specs.Rows.{joined}
 use Rattle.lists.proofs.Each.{each-at, each-set}
 use Rattle.lists.proofs.Masks.{mask-odd, mask-half}
+use Rattle.lists.proofs.Rows.{fill-zeros, zeros-fill}
 use Rattle.lists.proofs.Sets.{map-set}
 use Rattle.model.specs.Image.{zeroBlock}
 use Rattle.model.specs.Records.{isHeld, cellOf, cellsOf}
@@ -85,56 +86,56 @@ length-picked f (p ∷ ps) = go (f p) (length-picked f ps)
 
 -- ---- on the cells
 
-abbrev pub Sized : List Block → Type 0
-Sized cells = Each (λ (b : Block). length b ≡ 64) cells
+abbrev pub Sized : ℕ → List Block → Type 0
+Sized size cells = Each (λ (b : Block). length b ≡ size) cells
 
 abbrev pub bytes : List Block → List ℕ
 bytes cells = joined cells
 
-zero-64 : length (zeroBlock 64) ≡ 64
+zero-size : (size : ℕ) → length (zeroBlock size) ≡ size
 unfolding zeroBlock
-zero-64 = refl
+zero-size size = length-replicate size 0
 
-zero-filled : filled (zeroBlock 64) ≡ false
-unfolding filled zeroBlock allZero every
-zero-filled = refl
+zero-filled : (size : ℕ) → filled (zeroBlock size) ≡ false
+unfolding filled zeroBlock
+zero-filled size = ap not (ap allZero (sym (fill-zeros size)) ∙ zeros-fill size)
 
-put-cell : (cells : List Block) → Sized cells → (c : ℕ) (b : Block) → c < length cells
-    → take (c * 64) (bytes cells) ++ (b ++ drop (c * 64 + 64) (bytes cells)) ≡ bytes (set cells c b)
-put-cell cells e c b h = rw (← drop-drop 64 (c * 64) (bytes cells)) (paste-joined 64 cells e c b h)
+put-cell : (size : ℕ) (cells : List Block) → Sized size cells → (c : ℕ) (b : Block) → c < length cells
+    → take (c * size) (bytes cells) ++ (b ++ drop (c * size + size) (bytes cells)) ≡ bytes (set cells c b)
+put-cell size cells e c b h = rw (← drop-drop size (c * size) (bytes cells)) (paste-joined size cells e c b h)
 
-clear-one : (cells : List Block) → Sized cells → (c at : ℕ) → c < length cells → clearAt (bytes cells) c at ≡ bytes (set cells c (zeroBlock 64))
+clear-one : (size : ℕ) (cells : List Block) → Sized size cells → (c at : ℕ) → c < length cells → clearAt size (bytes cells) c at ≡ bytes (set cells c (zeroBlock size))
 unfolding clearAt zeroBlock
-clear-one cells e c at h = put-cell cells e c (replicate 64 0) h
+clear-one size cells e c at h = put-cell size cells e c (replicate size 0) h
 
-copy-one : (cells : List Block) → Sized cells → (c at : ℕ) → c < length cells → at < length cells
-    → copyTo (bytes cells) c at ≡ bytes (set cells at (getD cells c []))
+copy-one : (size : ℕ) (cells : List Block) → Sized size cells → (c at : ℕ) → c < length cells → at < length cells
+    → copyTo size (bytes cells) c at ≡ bytes (set cells at (getD cells c []))
 unfolding copyTo
-copy-one cells e c at h h′ = rw (row-joined 64 cells e c h) (put-cell cells e at (getD cells c []) h′)
+copy-one size cells e c at h h′ = rw (row-joined size cells e c h) (put-cell size cells e at (getD cells c []) h′)
 
-pub sized-set : (cells : List Block) → Sized cells → (c : ℕ) (b : Block) → length b ≡ 64 → Sized (set cells c b)
-sized-set cells e c b h = each-set (λ (x : Block). length x ≡ 64) cells c b e h
+pub sized-set : (size : ℕ) (cells : List Block) → Sized size cells → (c : ℕ) (b : Block) → length b ≡ size → Sized size (set cells c b)
+sized-set size cells e c b h = each-set (λ (x : Block). length x ≡ size) cells c b e h
 
-pub fold-clear : (n : ℕ) (cs : List ℕ) (cells : List Block) (at : ℕ) → length cells ≡ n → Sized cells → Each (λ (c : ℕ). c < n) cs
-    → fold clearAt at cs (bytes cells) ≡ bytes (clearCells 64 cells cs)
+pub fold-clear : (size : ℕ) (n : ℕ) (cs : List ℕ) (cells : List Block) (at : ℕ) → length cells ≡ n → Sized size cells → Each (λ (c : ℕ). c < n) cs
+    → fold (clearAt size) at cs (bytes cells) ≡ bytes (clearCells size cells cs)
 unfolding fold clearCells
-fold-clear n [] cells at l e p = refl
-fold-clear n (c ∷ cs) cells at l e p =
-    rw (clear-one cells e c at (omega (arith, p .0)))
-    (fold-clear n cs (set cells c (zeroBlock 64)) (at + 1) (length-set cells c _ ∙ l) (sized-set cells e c (zeroBlock 64) zero-64) (p .1))
+fold-clear size n [] cells at l e p = refl
+fold-clear size n (c ∷ cs) cells at l e p =
+    rw (clear-one size cells e c at (omega (arith, p .0)))
+    (fold-clear size n cs (set cells c (zeroBlock size)) (at + 1) (length-set cells c _ ∙ l) (sized-set size cells e c (zeroBlock size) (zero-size size)) (p .1))
 
-pub sized-clear : (cs : List ℕ) (cells : List Block) → Sized cells → Sized (clearCells 64 cells cs)
+pub sized-clear : (size : ℕ) (cs : List ℕ) (cells : List Block) → Sized size cells → Sized size (clearCells size cells cs)
 unfolding clearCells
-sized-clear [] cells e = e
-sized-clear (c ∷ cs) cells e = sized-clear cs (set cells c (zeroBlock 64)) (sized-set cells e c (zeroBlock 64) zero-64)
+sized-clear size [] cells e = e
+sized-clear size (c ∷ cs) cells e = sized-clear size cs (set cells c (zeroBlock size)) (sized-set size cells e c (zeroBlock size) (zero-size size))
 
-pub fold-free : (cs : List ℕ) (cells : List Block) (at : ℕ) → fold freeAt at cs (map filled cells) ≡ map filled (clearCells 64 cells cs)
+pub fold-free : (size : ℕ) (cs : List ℕ) (cells : List Block) (at : ℕ) → fold freeAt at cs (map filled cells) ≡ map filled (clearCells size cells cs)
 unfolding fold clearCells
-fold-free [] cells at = refl
-fold-free (c ∷ cs) cells at =
-    let e : set (map filled cells) c false ≡ map filled (set cells c (zeroBlock 64)) =
-    sym (map-set filled cells c (zeroBlock 64) ∙ ap (set (map filled cells) c) zero-filled) in
-    rw e (fold-free cs (set cells c (zeroBlock 64)) (at + 1))
+fold-free size [] cells at = refl
+fold-free size (c ∷ cs) cells at =
+    let e : set (map filled cells) c false ≡ map filled (set cells c (zeroBlock size)) =
+    sym (map-set filled cells c (zeroBlock size) ∙ ap (set (map filled cells) c) (zero-filled size)) in
+    rw e (fold-free size cs (set cells c (zeroBlock size)) (at + 1))
 
 -- a cell to copy: it is there, holds what it held at first, and is none of the n cells from `at` on
 pub record Source (first cells : List Block) (at n c : ℕ) : Type 0 where
@@ -153,21 +154,21 @@ sources-next : (first cells : List Block) (at n : ℕ) (b : Block) (cs : List �
 sources-next first cells at n b [] e = tt
 sources-next first cells at n b (c ∷ cs) e = (source-next first cells at n b c (e .0), sources-next first cells at n b cs (e .1))
 
-pub fold-copy : (first : List Block) (cs : List ℕ) (cells : List Block) (at : ℕ) → Sized cells → Each (Source first cells at (length cs)) cs → at + length cs ≤ length cells
-    → fold copyTo at cs (bytes cells) ≡ bytes (sets cells at (map (λ c. getD first c []) cs))
+pub fold-copy : (size : ℕ) (first : List Block) (cs : List ℕ) (cells : List Block) (at : ℕ) → Sized size cells → Each (Source first cells at (length cs)) cs → at + length cs ≤ length cells
+    → fold (copyTo size) at cs (bytes cells) ≡ bytes (sets cells at (map (λ c. getD first c []) cs))
 unfolding fold
-fold-copy first [] cells at e p l = refl
-fold-copy first (c ∷ cs) cells at e p l =
+fold-copy size first [] cells at e p l = refl
+fold-copy size first (c ∷ cs) cells at e p l =
     let b : Block = getD first c [] in
     let k : getD cells c [] ≡ b = p .0 .same in
-    let lb : length b ≡ 64 = sym (ap length k) ∙ each-at (λ (x : Block). length x ≡ 64) [] cells e c (p .0 .inside) in
-    rw (copy-one cells e c at (p .0 .inside) (omega arith), k)
-    (fold-copy first cs (set cells at b) (at + 1) (sized-set cells e at b lb) (sources-next first cells at (length cs) b cs (p .1)) (omega (arith, length-set cells at b))
+    let lb : length b ≡ size = sym (ap length k) ∙ each-at (λ (x : Block). length x ≡ size) [] cells e c (p .0 .inside) in
+    rw (copy-one size cells e c at (p .0 .inside) (omega arith), k)
+    (fold-copy size first cs (set cells at b) (at + 1) (sized-set size cells e at b lb) (sources-next first cells at (length cs) b cs (p .1)) (omega (arith, length-set cells at b))
     ∙ rw (add-one at))
 
-pub sized-sets : (bs cells : List Block) (at : ℕ) → Sized cells → Sized bs → Sized (sets cells at bs)
-sized-sets [] cells at e f = e
-sized-sets (b ∷ bs) cells at e f = sized-sets bs (set cells at b) (suc at) (sized-set cells e at b (f .0)) (f .1)
+pub sized-sets : (size : ℕ) (bs cells : List Block) (at : ℕ) → Sized size cells → Sized size bs → Sized size (sets cells at bs)
+sized-sets size [] cells at e f = e
+sized-sets size (b ∷ bs) cells at e f = sized-sets size bs (set cells at b) (suc at) (sized-set size cells e at b (f .0)) (f .1)
 
 pub fold-take : (cs : List ℕ) (bs cells : List Block) (at : ℕ) → length bs ≡ length cs → Each (λ (b : Block). filled b ≡ true) bs
     → fold takeAt at cs (map filled cells) ≡ map filled (sets cells at bs)

@@ -5,42 +5,42 @@ use mathlib.Core.Option.{some}
 use Prim.Native.Nat.{ℕ, _-_, _<_}
 use lib.ListN.{getD}
 use Rattle.lists.specs.Lists.{count}
-use Rattle.model.specs.Measures.{baseMeasures}
+use Rattle.model.specs.Measures.{Measures}
 use Rattle.model.specs.Records.{isHeld}
 use Rattle.model.specs.Runs.{Run, findRun}
 use Rattle.model.specs.State.{Segment, Shelf}
 use Rattle.model.specs.Sweep.{goes, freeRecord, strikeOnly, compact, removeFrom}
 use Rattle.model.specs.Table.{recordsIn, shelfIn}
 
-abbrev pub segmentAt : List ℕ → ℕ → Segment
-segmentAt words k = getD (recordsIn 8 words) k []
+abbrev pub segmentAt : ℕ → List ℕ → ℕ → Segment
+segmentAt n words k = getD (recordsIn n words) k []
 
 -- how many of record k's positions go, are held, and stay
-abbrev pub goingAt : List ℕ → ℕ → ℕ
-goingAt words k = count goes (segmentAt words k)
+abbrev pub goingAt : ℕ → List ℕ → ℕ → ℕ
+goingAt n words k = count goes (segmentAt n words k)
 
-abbrev pub heldAt : List ℕ → ℕ → ℕ
-heldAt words k = count isHeld (segmentAt words k)
+abbrev pub heldAt : ℕ → List ℕ → ℕ → ℕ
+heldAt n words k = count isHeld (segmentAt n words k)
 
-abbrev pub stayingAt : List ℕ → ℕ → ℕ
-stayingAt words k = heldAt words k - goingAt words k
+abbrev pub stayingAt : ℕ → List ℕ → ℕ → ℕ
+stayingAt n words k = heldAt n words k - goingAt n words k
 
-abbrev pub freed : List ℕ → List ℕ → ℕ → Shelf
-freed pool words k = freeRecord baseMeasures (shelfIn baseMeasures pool words) k (segmentAt words k)
+abbrev pub freed : Measures → List ℕ → List ℕ → ℕ → Shelf
+freed m pool words k = freeRecord m (shelfIn m pool words) k (segmentAt (m .segmentBlocks) words k)
 
-abbrev pub struckOnly : List ℕ → List ℕ → ℕ → Shelf
-struckOnly pool words k = strikeOnly baseMeasures (shelfIn baseMeasures pool words) k (segmentAt words k)
+abbrev pub struckOnly : Measures → List ℕ → List ℕ → ℕ → Shelf
+struckOnly m pool words k = strikeOnly m (shelfIn m pool words) k (segmentAt (m .segmentBlocks) words k)
 
-abbrev pub compacted : List ℕ → List ℕ → ℕ → Shelf
-compacted pool words k =
-    compact baseMeasures (shelfIn baseMeasures pool words) k (segmentAt words k) (findRun (shelfIn baseMeasures pool words) (stayingAt words k))
+abbrev pub compacted : Measures → List ℕ → List ℕ → ℕ → Shelf
+compacted m pool words k =
+    compact m (shelfIn m pool words) k (segmentAt (m .segmentBlocks) words k) (findRun (shelfIn m pool words) (stayingAt (m .segmentBlocks) words k))
 
-abbrev pub removedAt : List ℕ → List ℕ → ℕ → Shelf
-removedAt pool words k = removeFrom baseMeasures (shelfIn baseMeasures pool words) k (segmentAt words k) (goingAt words k) (heldAt words k)
+abbrev pub removedAt : Measures → List ℕ → List ℕ → ℕ → Shelf
+removedAt m pool words k = removeFrom m (shelfIn m pool words) k (segmentAt (m .segmentBlocks) words k) (goingAt (m .segmentBlocks) words k) (heldAt (m .segmentBlocks) words k)
 
 -- the run for the positions of record k that stay begins at a cell
-pub record Chosen (pool words : List ℕ) (k start : ℕ) : Type 0 where
+pub record Chosen (m : Measures) (pool words : List ℕ) (k start : ℕ) : Type 0 where
   pub run : Run
-  pub found : findRun (shelfIn baseMeasures pool words) (stayingAt words k) ≡ some run
+  pub found : findRun (shelfIn m pool words) (stayingAt (m .segmentBlocks) words k) ≡ some run
   pub at : run .start ≡ start
-  pub needed : 0 < stayingAt words k
+  pub needed : 0 < stayingAt (m .segmentBlocks) words k

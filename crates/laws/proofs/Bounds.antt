@@ -22,6 +22,8 @@ use Rattle.laws.proofs.Sweep.{countIn}
 use Rattle.laws.proofs.Clean.{SegmentFits}
 use Rattle.laws.proofs.Counts.{at, leads-itself}
 use Rattle.laws.proofs.Serves.{pointersOf, Valid, sound-valid}
+use Rattle.laws.specs.Ranges.{Ranges}
+use Rattle.laws.proofs.Ranges.{ranges}
 use Rattle.laws.proofs.Fits.{Fit, VersionFits, TillFits, StateFits, state-fits, held-in, record-in}
 use Rattle.laws.proofs.Place.{counted-held}
 
@@ -53,15 +55,11 @@ module _ (s : Shape) (fit : Fit s) (st : State) (h : isSound s st ≡ true) wher
   valid = sound-valid s st h
 
   pub pointers-most : length (allPointers (st .tills)) ≤ 1048576
-  unfolding isSound inRange isWithin
   pointers-most =
       let f : StateFits s st = state-fits s st (fit .proper .bytes) (fit .most) h in
-      let r : inRange s ≡ true = clause _ 0 h in
-      let t : s .capacities .tills ≤ 16 = leb-true _ _ (clause _ 1 (clause _ 0 r)) in
-      let v : s .capacities .versions ≤ 64 = leb-true _ _ (clause _ 1 (clause _ 1 r)) in
-      let b : s .capacities .blocks ≤ 1024 = leb-true _ _ (clause _ 1 (clause _ 2 r)) in
-      let vb : s .capacities .versions * s .capacities .blocks ≤ 64 * 1024 = mul-le-mul v b in
-      let n : length (st .tills) ≤ 16 = omega (arith, t, f .tillCount) in
+      let r : Ranges s = ranges s (valid .range) in
+      let vb : s .capacities .versions * s .capacities .blocks ≤ 64 * 1024 = mul-le-mul (r .versions) (r .blocks) in
+      let n : length (st .tills) ≤ 16 = omega (arith, r .tills, f .tillCount) in
       let all : length (st .tills) * (s .capacities .versions * s .capacities .blocks) ≤ 16 * (64 * 1024) = mul-le-mul n vb in
       omega (arith, tills-most s (st .tills) (f .tills), all)
 

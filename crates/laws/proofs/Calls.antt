@@ -8,8 +8,9 @@ use Rattle.model.specs.Measures.{Shape}
 use Rattle.model.specs.State.{State, Outcome, refused, done}
 use Rattle.model.specs.Table.{stateToWords, stateToBytes}
 use Rattle.model.specs.Sound.{isSound, Store, storeOf}
-use Rattle.model.specs.Calls.{layoutAs, emptyState, backup, backupAnswer, backupIn, backupOf, retire, retireAnswer, retireIn, retireOf, After}
-use Rattle.laws.proofs.Fits.{Fit}
+use Rattle.model.specs.Calls.{layoutOf, emptyState, backup, backupAnswer, backupIn, backupOf, retire, retireAnswer, retireIn, retireOf, After}
+use Rattle.laws.proofs.Fits.{Fit, range-fit}
+use Rattle.laws.proofs.Serves.{sound-valid}
 use Rattle.laws.proofs.RoundTrip.{round-trip, store-found}
 use Rattle.laws.proofs.Empty.{empty-sound, layout-accepted}
 use Rattle.laws.proofs.Backup.{backup-sound}
@@ -23,12 +24,15 @@ pub record IsStore (pool table : List ℕ) : Type 0 where
 left : (s : Shape) (st : State) → Fit s → isSound s st ≡ true → IsStore (stateToBytes st) (stateToWords s st)
 left s st fit h = record { store = record { shape = s; state = st }; is = round-trip s st fit h }
 
-pub layout-leaves : (s : Shape) → Fit s → (pool table : List ℕ) → layoutAs s pool table .refusal ≡ 0
-    → IsStore (layoutAs s pool table .pool) (layoutAs s pool table .table)
-layout-leaves s fit pool table h =
-    let a = layout-accepted s pool table h in rw (a .1, a .2) (left s (emptyState s) fit (empty-sound s (a .0)))
+pub layout-leaves : (s : Shape) (pool table : List ℕ) → layoutOf s pool table .refusal ≡ 0
+    → IsStore (layoutOf s pool table .pool) (layoutOf s pool table .table)
+layout-leaves s pool table h =
+    let a = layout-accepted s pool table h in rw (a .1, a .2) (left s (emptyState s) (range-fit s (a .0)) (empty-sound s (a .0)))
 
-module _ (pool table : List ℕ) (x : Store) (e : storeOf pool table ≡ some x) (fit : Fit (x .shape)) where
+module _ (pool table : List ℕ) (x : Store) (e : storeOf pool table ≡ some x) where
+  fit : Fit (x .shape)
+  fit = range-fit (x .shape) (sound-valid (x .shape) (x .state) (store-found pool table x e .sound) .range)
+
   pub backup-leaves : (t : ℕ) (image : List ℕ) → IsStore (backupOf pool table t image .pool) (backupOf pool table t image .table)
   unfolding backupOf backupIn
   backup-leaves t image = rw e (go (backup (x .shape) (x .state) t image) refl)

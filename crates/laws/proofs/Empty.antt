@@ -16,7 +16,7 @@ use Rattle.model.specs.Image.{zeroBlock}
 use Rattle.model.specs.Records.{freeSegment, isNullPosition, isFree, cellsOf, namedCells}
 use Rattle.model.specs.Table.{stateToBytes, stateToWords}
 use Rattle.model.specs.Sound.{isSound, isShaped, isNumbered, isTill, areTraceable, isUsed, hasCells, areCounted, allCounted, allPointers, areFilled}
-use Rattle.model.specs.Calls.{emptyTill, emptyState, layoutIf, layoutAs}
+use Rattle.model.specs.Calls.{emptyTill, emptyState, layoutIf, layoutOf}
 
 -- a null block is zero
 pub zero-null : (bytes : ℕ) → allZero (zeroBlock bytes) ≡ true
@@ -111,9 +111,9 @@ layout-refused false true s pool table h = (refl, refl)
 layout-refused true true s pool table h = absurd (h refl)
 
 -- an accepted lay out has a shape in range, and leaves the empty state
-pub layout-accepted : (s : Shape) (pool table : List ℕ) → layoutAs s pool table .refusal ≡ 0
-    → (inRange s ≡ true) × (layoutAs s pool table .pool ≡ stateToBytes (emptyState s)) × (layoutAs s pool table .table ≡ stateToWords s (emptyState s))
-unfolding layoutAs layoutIf
+pub layout-accepted : (s : Shape) (pool table : List ℕ) → layoutOf s pool table .refusal ≡ 0
+    → (inRange s ≡ true) × (layoutOf s pool table .pool ≡ stateToBytes (emptyState s)) × (layoutOf s pool table .table ≡ stateToWords s (emptyState s))
+unfolding layoutOf layoutIf
 layout-accepted s pool table h = go (inRange s) refl _ h
   where
     go : (r : Bool) → inRange s ≡ r → (fit : Bool) → layoutIf r fit s pool table .refusal ≡ 0

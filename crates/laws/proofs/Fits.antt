@@ -12,11 +12,12 @@ use Rattle.lists.specs.Lists.{every}
 use Rattle.lists.specs.Each.{Each}
 use Rattle.lists.proofs.Tests.{clause}
 use Rattle.lists.proofs.Each.{every-each, each-at}
-use Rattle.model.specs.Measures.{Measures, Capacities, Shape, shapeFor, isWithin, inRange, partsFor}
+use Rattle.model.specs.Measures.{Measures, Shape, isWithin, inRange, partsFor}
 use Rattle.model.specs.State.{Block, Pointer, nullPointer, direct, indirect, Position, nullPosition, Segment, Version, Till, State}
 use Rattle.model.specs.Records.{isHeld, positionAt}
-use Rattle.model.specs.Table.{kindUnit, shapeOf, headerToWords, stateToWords}
+use Rattle.model.specs.Table.{kindUnit, shapeOf, stateToWords}
 use Rattle.model.specs.Sound.{isSound, isShaped, hasLength, isNumbered, isNull, leads, nextPointers, areTraceable, isTill}
+use Rattle.laws.proofs.Ranges.{measured, ranges, header-back}
 
 -- ---- measures
 
@@ -26,15 +27,20 @@ pub record Proper (m : Measures) : Type 0 where
   pub blocks : 0 < m .segmentBlocks
 
 -- A position fits its four bits of a pointer's word, and a table's header gives back the shape that it was written with. The laws of tables are for
--- any such shape; the base's `shapeOf` gives back the base measures only.
+-- any such shape.
 pub record Fit (s : Shape) : Type 0 where
   pub proper : Proper (s .measures)
   pub most : s .measures .segmentBlocks ≤ 16
   pub back : (st : State) → shapeOf (stateToWords s st) ≡ s
 
-pub base-fit : (c : Capacities) → Fit (shapeFor c)
-unfolding shapeOf stateToWords headerToWords
-base-fit c = record { proper = record { bytes = lit< tt; blocks = lit< tt }; most = lit≤ tt; back = λ st. refl }
+pub range-fit : (s : Shape) → inRange s ≡ true → Fit s
+range-fit s h =
+    let m = measured s h in
+    record {
+      proper = record { bytes = omega (arith, m .someBytes); blocks = omega (arith, m .someBlocks) };
+      most = m .mostBlocks;
+      back = λ st. header-back s st (m .someBytes);
+    }
 
 -- ---- what fits
 
@@ -134,7 +140,7 @@ module _ (s : Shape) (st : State) (l : Limits s st) where
   till-fits t h = record { versions = versions-fit (t .versions) (clause _ 1 h); most = leb-true _ _ (clause _ 0 (clause _ 0 h)) }
 
 pub state-fits : (s : Shape) (st : State) → 0 < s .measures .blockBytes → s .measures .segmentBlocks ≤ 16 → isSound s st ≡ true → StateFits s st
-unfolding isSound isShaped inRange isWithin
+unfolding isSound isShaped
 state-fits s st hb hs h =
     let r : inRange s ≡ true = clause _ 0 h in
     let shaped : isShaped s st ≡ true = clause _ 1 h in
@@ -144,8 +150,8 @@ state-fits s st hb hs h =
     let l : Limits s st = record {
       block = hb;
       segment = hs;
-      blocks = leb-true _ _ (clause _ 1 (clause _ 2 r));
-      recordCount = subst (λ (k : ℕ). k ≤ 4096) (sym rc) (leb-true _ _ (clause _ 1 (clause _ 3 r)));
+      blocks = ranges s r .blocks;
+      recordCount = subst (λ (k : ℕ). k ≤ 4096) (sym rc) (ranges s r .records);
       records = segs;
     } in
     record {

@@ -33,6 +33,11 @@ module _ (bytes : ℕ) (image : List ℕ) where
   length-blocks at zero = refl
   length-blocks at (suc n) = ap suc (length-blocks (at + bytes) n)
 
+  -- of n blocks i are done: the next one, and those after it
+  pub blocks-next : (at n i : ℕ) → i < n → blocksFrom bytes image at (n - i) ≡ blockFrom bytes image at ∷ blocksFrom bytes image (at + bytes) (n - (i + 1))
+  unfolding blocksFrom
+  blocks-next at n i h = let e : n - i ≡ suc (n - (i + 1)) = omega arith in rw e
+
   pub block-at : (at n j : ℕ) → j < n → getD (blocksFrom bytes image at n) j [] ≡ blockFrom bytes image (at + j * bytes)
   unfolding blocksFrom
   block-at at zero j h = absurd (not-suc-le-zero h)

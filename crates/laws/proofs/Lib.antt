@@ -1,5 +1,6 @@
 -- Laws of the store's definitions, named after what they are about.
 pub mod Measures
+pub mod Ranges
 pub mod Fits
 pub mod RoundTrip
 pub mod Uses

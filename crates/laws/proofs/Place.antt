@@ -6,13 +6,13 @@ use mathlib.Core.Bool.{Bool, true, false, cond, not, _||_, false≢true}
 use mathlib.Core.List.{List, [], _∷_, map}
 use mathlib.Core.Option.{none}
 use Prim.Native.Nat.{ℕ, zero, suc, _+_, _-_, _≤_, _<_, suc-le-suc}
-use native.Mathlib.Nat.{zero-add, add-zero, suc-add, add-suc, not-suc-le-zero, le-of-suc-le-suc, suc-ne-zero, suc-inj, zero-lt-suc}
+use native.Mathlib.Nat.{zero-add, add-zero, suc-add, add-suc, not-suc-le-zero, le-of-suc-le-suc, zero-lt-suc}
 use native.Mathlib.Omega.{arith}
-use lib.ListN.{length, getD, set, replicate, length-set, length-map, List·getD-map}
+use lib.ListN.{length, getD, set, length-set, length-map, List·getD-map}
 use lib.Seq.{sets, getD-set-same, getD-set-other, length-sets, map-set-same}
 use lib.Dec.{eqb, ltb}
 use borrow.Author.Tests.{eqb-true, eqb-false, eq-eqb, ne-eqb}
-use Rattle.lists.specs.Lists.{counted, every, allOf, keep, count, sameNumbers, allZero}
+use Rattle.lists.specs.Lists.{counted, every, allOf, keep, count, allZero}
 use Rattle.lists.specs.Rows.{joined}
 use Rattle.lists.specs.Each.{Each}
 use Rattle.model.specs.Measures.{Measures}
@@ -243,6 +243,12 @@ more-cell nullPosition = refl
 more-cell (held c n) = refl
 more-cell removed = refl
 
+-- a record that serves again names what it named
+pub share-exact : (a : Shelf) → Exact a → (seg : List Block) (k : ℕ) → Exact (share a seg k .shelf)
+unfolding share namedCells
+share-exact a x seg k c =
+    ap (λ (l : List (List ℕ)). uses c (joined l)) (map-set-same cellsOf (a .records) k (map oneMore (getD (a .records) k [])) [] (more-cells (getD (a .records) k []))) ∙ x c
+
 module _ (m : Measures) (a : Shelf) (f : ShelfFits m a) (x : Exact a) (seg : List Block) (w : Each (Whole m) seg) (k : ℕ) (hk : k < length (a .records))
     (q : equals a seg (getD (a .records) k []) ≡ true) where
   rec : Segment
@@ -278,10 +284,6 @@ module _ (m : Measures) (a : Shelf) (f : ShelfFits m a) (x : Exact a) (seg : Lis
       go (held c n) h = same-eq (getD (a .cells) c []) (getD seg i []) h
       go removed h = absurd (false≢true h)
 
-  share-exact : Exact (record { records = set (a .records) k (map oneMore rec); cells = a .cells })
-  unfolding namedCells rec
-  share-exact c = ap (λ (l : List (List ℕ)). uses c (joined l)) (map-set-same cellsOf (a .records) k (map oneMore rec) [] (more-cells rec)) ∙ x c
-
   share-fits : SegmentFits m (map oneMore rec)
   unfolding rec isUsed
   share-fits =
@@ -296,7 +298,7 @@ module _ (m : Measures) (a : Shelf) (f : ShelfFits m a) (x : Exact a) (seg : Lis
   share-ok =
       placed-by m a seg w k hk (map oneMore rec) (a .cells)
       (record { records = each-set (SegmentFits m) (a .records) k (map oneMore rec) (f .records) share-fits; cells = f .cells })
-      share-exact refl share-counts
+      (unfold share in share-exact a x seg k) refl share-counts
       (λ i p. ap (λ (r : Position). getD (a .cells) (cellOf r) []) (List·getD-map oneMore rec i nullPosition)
       ∙ ap (λ (n : ℕ). getD (a .cells) n []) (more-cell (getD rec i nullPosition)))
       (λ j i h p. refl)
@@ -399,8 +401,8 @@ nonnull-some (b ∷ seg) h = go (allZero b) h (λ e. nonnull-some seg e)
     go true e r = r e
     go false e r = zero-lt-suc (length (nonNull seg))
 
-module _ (m : Measures) (a : Shelf) (f : ShelfFits m a) (x : Exact a) (seg : List Block) (w : Each (Whole m) seg) (sz : length seg ≡ m .segmentBlocks)
-    (k : ℕ) (hk : k < length (a .records)) (fr : isFree (getD (a .records) k []) ≡ true) (ne : every allZero seg ≡ false)
+-- a free record that is filled names its run's cells
+module _ (a : Shelf) (x : Exact a) (seg : List Block) (k : ℕ) (hk : k < length (a .records)) (fr : isFree (getD (a .records) k []) ≡ true)
     (run : Run) (ok : RunOk (Free a) (length (nonNull seg)) run) where
   n₁ : ℕ
   n₁ = length (nonNull seg)
@@ -429,9 +431,9 @@ module _ (m : Measures) (a : Shelf) (f : ShelfFits m a) (x : Exact a) (seg : Lis
       go (inr (inr t)) =
           absurd (not-suc-le-zero (subst (λ (y : ℕ). 0 < y) (ap (λ (y : ℕ). uses y (namedCells (a .records))) (t .1) ∙ run-free (t .0) (t .2) .unnamed) u))
 
-  new-exact : Exact (record { records = set (a .records) k (newPositions (run .start) seg); cells = cells′ })
-  unfolding cells′ n₁
-  new-exact c = go (within-run c (run .start) n₁)
+  pub write-exact : Exact (write a seg k run .shelf)
+  unfolding write cells′ n₁
+  write-exact c = go (within-run c (run .start) n₁)
     where
       new : ℕ
       new = uses c (namedCells (set (a .records) k (newPositions (run .start) seg)))
@@ -462,10 +464,13 @@ module _ (m : Measures) (a : Shelf) (f : ShelfFits m a) (x : Exact a) (seg : Lis
           ) in z)
           ∙ sym (ap (λ (y : ℕ). bit (getD cells′ y [])) (t .1) ∙ ap bit (run-cells (t .0) (t .2)) ∙ nonnull-full seg (t .0) (t .2))
 
+module _ (m : Measures) (a : Shelf) (f : ShelfFits m a) (x : Exact a) (seg : List Block) (w : Each (Whole m) seg) (sz : length seg ≡ m .segmentBlocks)
+    (k : ℕ) (hk : k < length (a .records)) (fr : isFree (getD (a .records) k []) ≡ true) (ne : every allZero seg ≡ false)
+    (run : Run) (ok : RunOk (Free a) (length (nonNull seg)) run) where
   pub fill-ok : PlacedOk m a (write a seg k run .shelf) seg (write a seg k run .pointers)
   unfolding write cells′ n₁
   fill-ok =
-      placed-by m a seg w k hk (newPositions (run .start) seg) cells′
+      placed-by m a seg w k hk (newPositions (run .start) seg) (sets (a .cells) (run .start) (nonNull seg))
       (record {
         records =
             each-set (SegmentFits m) (a .records) k (newPositions (run .start) seg) (f .records)
@@ -475,10 +480,10 @@ module _ (m : Measures) (a : Shelf) (f : ShelfFits m a) (x : Exact a) (seg : Lis
             });
         cells = each-sets (Whole m) (nonNull seg) (a .cells) (run .start) (f .cells) (nonnull-whole m seg w);
       })
-      new-exact (length-sets (a .cells) (run .start) (nonNull seg))
+      (unfold write in write-exact a x seg k hk fr run ok) (length-sets (a .cells) (run .start) (nonNull seg))
       (λ i. new-counts seg (run .start) i ∙ sym (ap (λ (n : ℕ). n + untick (allZero (getD seg i []))) (free-none (getD (a .records) k []) fr i) ∙ zero-add (untick (allZero (getD seg i [])))))
       (λ i p. absurd (not-suc-le-zero (subst (λ (n : ℕ). 0 < n) (free-none (getD (a .records) k []) fr i) p)))
       (λ j i h p.
-      off (cellOf (at (a .records) j i))
+      off a x seg k hk fr run ok (cellOf (at (a .records) j i))
       (omega (arith, held-named (getD (a .records) j []) i (counted-held (at (a .records) j i) p), named-one (cellOf (at (a .records) j i)) (a .records) j)))
-      (λ i h e. new-blocks cells′ seg (run .start) run-cells i h e)
+      (λ i h e. new-blocks (sets (a .cells) (run .start) (nonNull seg)) seg (run .start) (run-cells a x seg k hk fr run ok) i h e)

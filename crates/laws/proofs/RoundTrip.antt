@@ -3,10 +3,10 @@ use mathlib.Core.Path.{_≡_, refl, sym, ap, ap₂, _∙_, subst}
 use mathlib.Core.Bool.{Bool, true, false, cond, false≢true}
 use mathlib.Core.List.{List, [], _∷_, _++_, map}
 use mathlib.Core.Option.{Option, none, some}
-use Prim.Native.Nat.{ℕ, _+_, _*_, _/_, _%_, _≤_, _<_, min}
+use Prim.Native.Nat.{ℕ, zero, suc, _+_, _*_, _/_, _%_, _≤_, _<_, min}
 use native.Mathlib.Nat.{min-eq-left, mul-le-mul-right}
 use native.Mathlib.Omega.{arith}
-use lib.ListN.{length, getD, take, drop, length-append, length-map, replicate}
+use lib.ListN.{length, getD, take, drop, length-append, length-map, replicate, replicate-append-replicate}
 use lib.Seq.{take-at, drop-at, drop-drop, take-all}
 use lib.Dec.{lit<}
 use borrow.Author.Tests.{eqb-true, eq-eqb}
@@ -25,7 +25,7 @@ use Rattle.model.specs.State.{Pointer, nullPointer, direct, indirect, Position,
 use Rattle.model.specs.Records.{isHeld, isRemoved, cellOf, countOf, freeSegment}
 use Rattle.model.specs.Table.{kindUnit, pointerWord, recordToWords, versionToWords, tillToWords, headerToWords, stateToWords, stateToBytes, shapeOf, pointerOf, wordToPointer, positionOf, positionsIn, segmentIn, recordsIn, cellsIn, shelfIn, versionIn, versionsIn, tillIn, tillsIn, tillsPart, recordsPart, stateIn}
 use Rattle.model.specs.Sound.{isSound, Store, ifSound, hasLengths, storeAs, storeOf}
-use Rattle.laws.proofs.Fits.{Fit, PointerFits, VersionFits, TillFits, StateFits, state-fits}
+use Rattle.laws.proofs.Fits.{Fit, range-fit, PointerFits, VersionFits, TillFits, StateFits, state-fits}
 
 -- ---- a record
 
@@ -60,6 +60,22 @@ segment-back n seg l =
 pub free-words : recordToWords (freeSegment 8) ≡ replicate 19 0
 unfolding recordToWords freeSegment maskOf
 free-words = refl
+
+free-masks : (f : Position → Bool) → f nullPosition ≡ false → (n : ℕ) → maskOf f (replicate n nullPosition) ≡ 0
+unfolding maskOf
+free-masks f e zero = refl
+free-masks f e (suc n) = rw (e, free-masks f e n)
+
+free-numbers : (f : Position → ℕ) → f nullPosition ≡ 0 → (n : ℕ) → map f (replicate n nullPosition) ≡ replicate n 0
+free-numbers f e zero = refl
+free-numbers f e (suc n) = rw (e, free-numbers f e n)
+
+-- a free record's words are zeros
+pub free-row : (n : ℕ) → recordToWords (freeSegment n) ≡ replicate (recordWords n) 0
+unfolding recordToWords freeSegment
+free-row n =
+    let w : recordWords n ≡ suc (suc (suc (n + n))) = omega arith in
+    rw (free-masks isHeld refl n, free-masks isRemoved refl n, free-numbers cellOf refl n, free-numbers countOf refl n, w, replicate-append-replicate {A = ℕ} n n 0)
 
 -- ---- a pointer
 
@@ -260,11 +276,13 @@ module _ (pool table : List ℕ) where
 
   read-found : hasLengths (shapeOf table) pool table ≡ true → allOf (sameNumbers (stateToWords (shapeOf table) read) table ∷ isSound (shapeOf table) read ∷ []) ≡ true
       → Found pool table (record { shape = shapeOf table; state = read })
-  unfolding read hasLengths stateToBytes stateIn shelfIn cellsIn poolBytes shapeOf
+  unfolding read hasLengths stateToBytes stateIn shelfIn cellsIn poolBytes
   read-found l t = record {
     shape = refl;
     sound = clause _ 1 t;
-    bytes = joined-chunks 64 (getD table 4 0) pool (eqb-true _ _ (clause _ 1 l)) (lit< tt);
+    bytes =
+        joined-chunks (shapeOf table .measures .blockBytes) (shapeOf table .capacities .cells) pool (eqb-true _ _ (clause _ 1 l))
+        (range-fit (shapeOf table) (clause _ 0 l) .proper .bytes);
     words = same-eq _ _ (clause _ 0 t);
   }
 

@@ -5,7 +5,7 @@ use mathlib.Core.Bool.{Bool, true, false}
 use mathlib.Core.List.{List, [], _∷_, _++_, map, append-nil, append-assoc}
 use mathlib.Core.Option.{Option, none, some}
 use Prim.Native.Nat.{ℕ, zero, suc, _+_, _-_, _<_}
-use native.Mathlib.Nat.{zero-add, add-zero, not-suc-le-zero}
+use native.Mathlib.Nat.{add-zero, not-suc-le-zero}
 use native.Mathlib.Omega.{arith}
 use lib.ListN.{length, getD, length-map, length-append, List·getD-append}
 use lib.Seq.{getD-append-add}
@@ -16,20 +16,56 @@ use Rattle.lists.specs.Rows.{joined}
 use Rattle.lists.specs.Each.{Each}
 use Rattle.lists.proofs.Counts.{count-append}
 use Rattle.lists.proofs.Each.{each-at}
-use Rattle.lists.proofs.First.{Lowest, first-lowest}
+use Rattle.lists.proofs.Puts.{first-found}
 use Rattle.lists.proofs.Tests.{by-test, every-head, every-tail}
 use Rattle.model.specs.Measures.{Measures}
 use Rattle.model.specs.State.{Block, Pointer, nullPointer, direct, indirect, Shelf, Outcome, refused, done}
 use Rattle.model.specs.Records.{isFree, cellAt, positionAt, equals}
 use Rattle.model.specs.Runs.{Run, findRun}
-use Rattle.model.specs.Place.{Placed, nonNull, writeRun, writeRecord, shareOrWrite, placeSegment, afterSome, placeNext, placeAll}
+use Rattle.model.specs.Place.{Placed, nonNull, share, write, writeRun, writeRecord, shareOrWrite, placeSegment, afterSome, placeNext, placeAll}
 use Rattle.model.specs.Trace.{blockAt}
 use Rattle.model.specs.Sound.{isNull, leadsTo}
-use Rattle.laws.proofs.Runs.{FoundOk, Free, find-ok}
+use Rattle.laws.proofs.Runs.{RunOk, FoundOk, Free, find-ok}
 use Rattle.laws.proofs.Sweep.{Exact, countIn, blockIn}
 use Rattle.laws.proofs.Clean.{Whole, ShelfFits}
 use Rattle.laws.proofs.Place.{zero-eq, isIndirect, PlacedOk, share-ok, fill-ok}
 use Rattle.laws.proofs.Counts.{leads-itself, pointer-counted}
+
+-- ---- the cases of placing one segment
+
+-- what is placed, if it is
+abbrev pub IfDone : (Placed → Type 0) → Outcome Placed → Type 0
+IfDone P (refused n) = Unit {0}
+IfDone P (done p) = P p
+
+-- what holds where no record is needed, where one serves and where a free one is filled holds of what is placed
+module _ (P : Placed → Type 0) (a : Shelf) (seg : List Block)
+    (null : every allZero seg ≡ true → P (record { shelf = a; pointers = map (λ b. nullPointer) seg }))
+    (shared : every allZero seg ≡ false → (k : ℕ) → firstFrom (equals a seg) 0 (a .records) ≡ some k → P (share a seg k))
+    (filled : every allZero seg ≡ false → (k : ℕ) → firstFrom isFree 0 (a .records) ≡ some k → (run : Run) → findRun a (length (nonNull seg)) ≡ some run → P (write a seg k run)) where
+  module _ (ne : every allZero seg ≡ false) where
+    by-run : (k : ℕ) → firstFrom isFree 0 (a .records) ≡ some k → (o : Option Run) → findRun a (length (nonNull seg)) ≡ o → IfDone P (writeRun a seg k o)
+    unfolding writeRun
+    by-run k e none q = tt
+    by-run k e (some run) q = filled ne k e run q
+
+    by-record : (o : Option ℕ) → firstFrom isFree 0 (a .records) ≡ o → IfDone P (writeRecord a seg o)
+    unfolding writeRecord
+    by-record none e = tt
+    by-record (some k) e = by-run k e (findRun a (length (nonNull seg))) refl
+
+    by-match : (o : Option ℕ) → firstFrom (equals a seg) 0 (a .records) ≡ o → IfDone P (shareOrWrite a seg o)
+    unfolding shareOrWrite
+    by-match none e = by-record (firstFrom isFree 0 (a .records)) refl
+    by-match (some k) e = shared ne k e
+
+  pub segment-cases : IfDone P (placeSegment a seg)
+  unfolding placeSegment
+  segment-cases = by-test (IfDone P) (every allZero seg) null (λ ne. by-match ne (firstFrom (equals a seg) 0 (a .records)) refl)
+
+-- a run that is found is free and long enough
+pub run-found : (a : Shelf) (need : ℕ) (run : Run) → findRun a need ≡ some run → RunOk (Free a) need run
+run-found a need run e = subst (FoundOk (Free a) need) e (find-ok a need)
 
 -- ---- one segment
 
@@ -39,8 +75,7 @@ null-count k i [] = refl
 null-count k i (x ∷ bs) = ap (λ (n : ℕ). 0 + n) (null-count k i bs)
 
 abbrev pub PlaceOk : (m : Measures) (a : Shelf) (seg : List Block) → Outcome Placed → Type 0
-PlaceOk m a seg (refused n) = Unit {0}
-PlaceOk m a seg (done p) = PlacedOk m a (p .shelf) seg (p .pointers)
+PlaceOk m a seg = IfDone (λ p. PlacedOk m a (p .shelf) seg (p .pointers))
 
 module _ (m : Measures) (a : Shelf) (f : ShelfFits m a) (x : Exact a) (seg : List Block) (w : Each (Whole m) seg) (sz : length seg ≡ m .segmentBlocks) where
   null-ok : every allZero seg ≡ true → PlacedOk m a a seg (map (λ b. nullPointer) seg)
@@ -70,33 +105,12 @@ module _ (m : Measures) (a : Shelf) (f : ShelfFits m a) (x : Exact a) (seg : Lis
       zero-at (b ∷ bs) z zero = every-head allZero b bs z
       zero-at (b ∷ bs) z (suc j) = zero-at bs (every-tail allZero b bs z) j
 
-  module _ (ne : every allZero seg ≡ false) where
-    run-ok : (k : ℕ) → k < length (a .records) → isFree (getD (a .records) k []) ≡ true → (o : Option Run) → FoundOk (Free a) (length (nonNull seg)) o
-        → PlaceOk m a seg (writeRun a seg k o)
-    unfolding writeRun
-    run-ok k hk fr none h = tt
-    run-ok k hk fr (some run) h = fill-ok m a f x seg w sz k hk fr ne run h
-
-    record-ok : (o : Option ℕ) → Lowest isFree [] 0 (a .records) o → PlaceOk m a seg (writeRecord a seg o)
-    unfolding writeRecord
-    record-ok none h = tt
-    record-ok (some k) h =
-        let e : k ≡ h .0 = h .1 ∙ zero-add (h .0) in
-        run-ok k (subst (λ (n : ℕ). n < length (a .records)) (sym e) (h .2)) (ap (λ (n : ℕ). isFree (getD (a .records) n [])) e ∙ h .3)
-        (findRun a (length (nonNull seg))) (find-ok a (length (nonNull seg)))
-
-    either-ok : (o : Option ℕ) → Lowest (equals a seg) [] 0 (a .records) o → PlaceOk m a seg (shareOrWrite a seg o)
-    unfolding shareOrWrite
-    either-ok none h = record-ok (firstFrom isFree 0 (a .records)) (first-lowest isFree [] 0 (a .records))
-    either-ok (some k) h =
-        let e : k ≡ h .0 = h .1 ∙ zero-add (h .0) in
-        share-ok m a f x seg w k (subst (λ (n : ℕ). n < length (a .records)) (sym e) (h .2)) (ap (λ (n : ℕ). equals a seg (getD (a .records) n [])) e ∙ h .3)
-
   pub segment-ok : PlaceOk m a seg (placeSegment a seg)
-  unfolding placeSegment
   segment-ok =
-      by-test (PlaceOk m a seg) (every allZero seg) null-ok
-      (λ ne. either-ok ne (firstFrom (equals a seg) 0 (a .records)) (first-lowest (equals a seg) [] 0 (a .records)))
+      segment-cases (λ p. PlacedOk m a (p .shelf) seg (p .pointers)) a seg null-ok
+      (λ ne k e. let (hk, q) = first-found [] (equals a seg) (a .records) k e in share-ok m a f x seg w k hk q)
+      (λ ne k e run r.
+      let (hk, fr) = first-found [] isFree (a .records) k e in fill-ok m a f x seg w sz k hk fr ne run (run-found a (length (nonNull seg)) run r))
 
 -- ---- all segments
 

@@ -1,4 +1,4 @@
--- Where the tills and the records of a state lie among its words; and a sound store, read from its buffers.
+-- Laws of where the tills and the records of a state lie among its words; and of a sound store, read from its buffers.
 use mathlib.Core.Path.{_≡_, refl, sym, ap, _∙_, subst}
 use mathlib.Core.Bool.{Bool, true, false, cond, false≢true}
 use mathlib.Core.Logic.{_⊎_, inl, inr}
@@ -20,19 +20,14 @@ use Rattle.model.specs.State.{Block, Segment, Till, State}
 use Rattle.model.specs.Table.{recordToWords, tillToWords, headerToWords, stateToWords, shapeOf, stateIn}
 use Rattle.model.specs.Sound.{isSound, ifSound, hasLengths, Store, storeAs, storeOf}
 use Rattle.model.specs.Calls.{emptyTill, tillOf}
-use Rattle.laws.proofs.Fits.{StateFits, state-fits, base-fit}
+use Rattle.laws.specs.Ranges.{Ranges}
+use Rattle.laws.specs.Stores.{tillAt, recordsFrom, storeRead, Sound, Header}
+use Rattle.laws.proofs.Ranges.{ranges}
+use Rattle.laws.proofs.Fits.{Fit, range-fit, StateFits, state-fits}
 use Rattle.laws.proofs.RoundTrip.{length-till, table-length, Found, store-found}
 use Rattle.laws.proofs.Serves.{Valid, sound-valid}
 
 -- ---- parts of the table
-
--- a till's words begin here
-abbrev pub tillAt : Shape → ℕ → ℕ
-tillAt s t = 8 + t * tillWords (s .capacities .versions) (s .capacities .blocks)
-
--- the records' words begin here
-abbrev pub recordsFrom : Shape → ℕ
-recordsFrom s = recordsAt (s .capacities .tills) (s .capacities .versions) (s .capacities .blocks)
 
 module _ (s : Shape) (st : State) where
   tillsOf : Part (stateToWords s) (rows (tillToWords (s .capacities .versions) (s .capacities .blocks))) st
@@ -101,22 +96,6 @@ module _ (s : Shape) (st : State) where
 
 -- ---- a sound store
 
-abbrev pub storeRead : List ℕ → List ℕ → Store
-storeRead pool table = record { shape = shapeOf table; state = stateIn (shapeOf table) pool table }
-
--- the buffers are a sound store, which is what they are read as
-pub record Sound (pool table : List ℕ) : Type 0 where
-  pub is : storeOf pool table ≡ some (storeRead pool table)
-
--- what the header says, as numbers
-pub record Header (table : List ℕ) : Type 0 where
-  pub eight : 8 ≤ length table
-  pub tills : getD table 0 0 ≤ 16
-  pub versions : getD table 1 0 ≤ 64
-  pub blocks : getD table 2 0 ≤ 1024
-  pub records : getD table 3 0 ≤ 4096
-  pub cells : getD table 4 0 ≤ 32768
-
 module _ (pool table : List ℕ) where
   read-or-none : storeOf pool table ≡ none ⊎ storeOf pool table ≡ some (storeRead pool table)
   unfolding storeOf storeAs ifSound
@@ -147,23 +126,29 @@ module _ {pool table : List ℕ} (h : Sound pool table) where
   pub found : Found pool table (storeRead pool table)
   found = store-found pool table (storeRead pool table) (h .is)
 
-  pub fits : StateFits (shapeOf table) (stateIn (shapeOf table) pool table)
-  unfolding shapeOf
-  fits = state-fits (shapeOf table) (stateIn (shapeOf table) pool table) (lit< tt) (lit≤ tt) (found .sound)
-
   pub valid : Valid (shapeOf table) (stateIn (shapeOf table) pool table)
   valid = sound-valid (shapeOf table) (stateIn (shapeOf table) pool table) (found .sound)
+
+  pub fit : Fit (shapeOf table)
+  fit = range-fit (shapeOf table) (valid .range)
+
+  pub fits : StateFits (shapeOf table) (stateIn (shapeOf table) pool table)
+  fits = state-fits (shapeOf table) (stateIn (shapeOf table) pool table) (fit .proper .bytes) (fit .most) (found .sound)
 
   pub long : length table ≡ tableWords (shapeOf table)
   long = ap length (sym (found .words)) ∙ table-length (shapeOf table) (stateIn (shapeOf table) pool table) fits
 
   pub header : Header table
-  unfolding inRange isWithin shapeOf tableWords
-  header = record {
-    eight = omega (arith, long);
-    tills = leb-true _ _ (clause _ 1 (clause _ 0 (valid .range)));
-    versions = leb-true _ _ (clause _ 1 (clause _ 1 (valid .range)));
-    blocks = leb-true _ _ (clause _ 1 (clause _ 2 (valid .range)));
-    records = leb-true _ _ (clause _ 1 (clause _ 3 (valid .range)));
-    cells = leb-true _ _ (clause _ 1 (clause _ 4 (valid .range)));
-  }
+  unfolding shapeOf tableWords
+  header =
+      let r : Ranges (shapeOf table) = ranges (shapeOf table) (valid .range) in
+      record {
+        eight = omega (arith, long);
+        tills = r .tills;
+        versions = r .versions;
+        blocks = r .blocks;
+        records = r .records;
+        cells = r .cells;
+        measured = r .measured;
+        image = r .image;
+      }

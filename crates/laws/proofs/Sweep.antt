@@ -220,6 +220,26 @@ module _ (m : Measures) (a : Shelf) (x : Exact a) (k : ℕ) (hk : k < length (a 
               (let z : uses c (namedCells (set (a .records) k (map struck seg))) ≡ uses c (namedCells (a .records)) = omega (arith, g, sum, uses-split c seg) in z)
               ∙ x c ∙ ap bit (sym (clear-out m (going seg) (a .cells) c g))
 
+  -- a record that is freed names nothing, and its cells are cleared
+  pub free-exact : Exact (freeRecord m a k (getD (a .records) k []))
+  unfolding freeRecord freeSegment seg
+  free-exact c = go (ltb 0 (uses c (cellsOf seg))) refl
+    where
+      new : ℕ
+      new = uses c (namedCells (set (a .records) k (replicate (m .segmentBlocks) nullPosition)))
+
+      sum : new + uses c (cellsOf seg) ≡ uses c (namedCells (a .records)) + 0
+      sum = named-set c (a .records) k (replicate (m .segmentBlocks) nullPosition) hk ∙ ap (λ (n : ℕ). uses c (namedCells (a .records)) + n) (free-uses c (m .segmentBlocks))
+
+      go : (t : Bool) → ltb 0 (uses c (cellsOf seg)) ≡ t → new ≡ bit (getD (clearCells (m .blockBytes) (a .cells) (cellsOf seg)) c [])
+      go true t =
+          let g : 0 < uses c (cellsOf seg) = ltb-true 0 (uses c (cellsOf seg)) t in
+          (let z : new ≡ 0 = omega (arith, g, sum, named-one c (a .records) k, x c, bit-most (getD (a .cells) c [])) in z)
+          ∙ sym (clear-in m (cellsOf seg) (a .cells) c g)
+      go false t =
+          let g : uses c (cellsOf seg) ≡ 0 = omega (arith, ltb-false 0 (uses c (cellsOf seg)) t) in
+          (let z : new ≡ uses c (namedCells (a .records)) = omega (arith, g, sum) in z) ∙ x c ∙ ap bit (sym (clear-out m (cellsOf seg) (a .cells) c g))
+
   free-keeps : length (staying seg) ≡ 0 → Keeps a (freeRecord m a k seg)
   unfolding freeRecord freeSegment seg
   free-keeps e =
@@ -227,25 +247,7 @@ module _ (m : Measures) (a : Shelf) (x : Exact a) (k : ℕ) (hk : k < length (a 
       (λ i. free-count (m .segmentBlocks) i ∙ sym (none-stays seg e i))
       (λ i p. absurd (not-suc-le-zero (subst (λ (n : ℕ). 0 < n) (none-stays seg e i) p)))
       (λ c u n. clear-out m (cellsOf seg) (a .cells) c u)
-      exact
-    where
-      exact : (c : ℕ) → uses c (namedCells (set (a .records) k (replicate (m .segmentBlocks) nullPosition))) ≡ bit (getD (clearCells (m .blockBytes) (a .cells) (cellsOf seg)) c [])
-      exact c = go (ltb 0 (uses c (cellsOf seg))) refl
-        where
-          new : ℕ
-          new = uses c (namedCells (set (a .records) k (replicate (m .segmentBlocks) nullPosition)))
-
-          sum : new + uses c (cellsOf seg) ≡ uses c (namedCells (a .records)) + 0
-          sum = named-set c (a .records) k (replicate (m .segmentBlocks) nullPosition) hk ∙ ap (λ (n : ℕ). uses c (namedCells (a .records)) + n) (free-uses c (m .segmentBlocks))
-
-          go : (t : Bool) → ltb 0 (uses c (cellsOf seg)) ≡ t → new ≡ bit (getD (clearCells (m .blockBytes) (a .cells) (cellsOf seg)) c [])
-          go true t =
-              let g : 0 < uses c (cellsOf seg) = ltb-true 0 (uses c (cellsOf seg)) t in
-              (let z : new ≡ 0 = omega (arith, g, sum, named-one c (a .records) k, x c, bit-most (getD (a .cells) c [])) in z)
-              ∙ sym (clear-in m (cellsOf seg) (a .cells) c g)
-          go false t =
-              let g : uses c (cellsOf seg) ≡ 0 = omega (arith, ltb-false 0 (uses c (cellsOf seg)) t) in
-              (let z : new ≡ uses c (namedCells (a .records)) = omega (arith, g, sum) in z) ∙ x c ∙ ap bit (sym (clear-out m (cellsOf seg) (a .cells) c g))
+      free-exact
 
   module _ (run : Run) (ok : RunOk (Free a) (length (staying seg)) run) where
     n : ℕ

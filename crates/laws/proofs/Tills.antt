@@ -18,7 +18,8 @@ use Rattle.model.specs.Sound.{isNumbered, areTraceable, isTill}
 use Rattle.model.specs.Calls.{emptyTill, tillOf, heldFrom, oldestNumber, newestNumber}
 use Rattle.laws.proofs.Fits.{StateFits}
 use Rattle.laws.proofs.RoundTrip.{length-till}
-use Rattle.laws.proofs.Stores.{tillAt, till-is, Sound, found, fits, valid, long}
+use Rattle.laws.specs.Stores.{tillAt, Sound}
+use Rattle.laws.proofs.Stores.{till-is, found, fits, valid, long}
 
 -- ---- numbers
 

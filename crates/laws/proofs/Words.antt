@@ -12,20 +12,22 @@ use Rattle.lists.specs.Lists.{every, counted, sameNumbers}
 use Rattle.lists.specs.Rows.{joined, rows}
 use Rattle.lists.specs.Each.{Each}
 use Rattle.lists.proofs.Each.{each-at, each-both, each-joined, each-map, each-map-at, each-of, each-weaken, each-append}
-use Rattle.lists.proofs.Tests.{clause, cond-true, every-head, every-tail}
+use Rattle.lists.proofs.Tests.{clause, by-test, cond-true, every-head, every-tail}
 use Rattle.lists.proofs.Uses.{uses-in}
 use Rattle.lists.proofs.Rows.{each-fill}
 use Rattle.lists.proofs.Masks.{mask-lt}
-use Rattle.model.specs.Measures.{Shape, slotWords, inRange, isWithin}
+use Rattle.model.specs.Measures.{Measures, Shape, isBase, slotWords, inRange, isWithin}
 use Rattle.model.specs.State.{Pointer, nullPointer, direct, indirect, Position, nullPosition, held, removed, Segment, Version, Till, State}
 use Rattle.model.specs.Records.{isHeld, isRemoved, cellOf, countOf, namedCells}
-use Rattle.model.specs.Table.{pointerWord, recordToWords, versionToWords, tillToWords, headerToWords, stateToWords}
+use Rattle.model.specs.Table.{pointerWord, recordToWords, versionToWords, tillToWords, measureWord, headerToWords, stateToWords}
 use Rattle.model.specs.Sound.{isSound, isTill, isNumbered, areTraceable, hasLength}
 use Rattle.laws.proofs.Sweep.{named-one}
 use Rattle.laws.proofs.Counts.{at}
 use Rattle.laws.proofs.Place.{held-named}
 use Rattle.laws.proofs.Named.{named-inside}
 use Rattle.laws.proofs.Bounds.{count-bound}
+use Rattle.laws.specs.Ranges.{Measured, Ranges}
+use Rattle.laws.proofs.Ranges.{ranges}
 use Rattle.laws.proofs.Fits.{Fit, PointerFits, VersionFits, TillFits, StateFits, state-fits}
 
 abbrev pub Word : ℕ → Type 0
@@ -47,6 +49,10 @@ numbers-most last (v ∷ vs) b zero h l = absurd (false≢true h)
 numbers-most last (v ∷ vs) b (suc n) h l =
     let (e, r) = cond-true (eqb (v .number) b) (sameNumbers (map (λ (v : Version). v .number) vs) (counted (λ x. x) (suc b) n)) h in
     (omega (arith, eqb-true (v .number) b e, l), numbers-most last vs (suc b) n r (omega (arith, l)))
+
+measure-word : (m : Measures) (n : ℕ) → Word n → Word (measureWord m n)
+unfolding measureWord
+measure-word m n h = by-test Word (isBase m) (λ e. lit< tt) (λ e. h)
 
 lengths-most : (s : Shape) (st : State) (vs : List Version) → areTraceable (s .measures .blockBytes) (s .capacities .blocks) (st .shelf) vs ≡ true
     → Each (λ (v : Version). v .length ≤ s .measures .blockBytes * s .capacities .blocks) vs
@@ -162,15 +168,28 @@ module _ (s : Shape) (fit : Fit s) (st : State) (h : isSound s st ≡ true) (sma
       size k l = subst (λ (n : ℕ). n ≤ 16) (sym (each-at (λ (seg : Segment). length seg ≡ s .measures .segmentBlocks) [] (st .shelf .records) (fits .records) k l)) (fit .most)
 
   header-words : Each Word (headerToWords s)
-  unfolding headerToWords isSound inRange isWithin
+  unfolding headerToWords isSound
   header-words =
-      let r : inRange s ≡ true = clause _ 0 h in
-      let a : s .capacities .tills ≤ 16 = leb-true _ _ (clause _ 1 (clause _ 0 r)) in
-      let b : s .capacities .versions ≤ 64 = leb-true _ _ (clause _ 1 (clause _ 1 r)) in
-      let c : s .capacities .blocks ≤ 1024 = leb-true _ _ (clause _ 1 (clause _ 2 r)) in
-      let d : s .capacities .records ≤ 4096 = leb-true _ _ (clause _ 1 (clause _ 3 r)) in
-      let e : s .capacities .cells ≤ 32768 = leb-true _ _ (clause _ 1 (clause _ 4 r)) in
-      (omega (arith, a), (omega (arith, b), (omega (arith, c), (omega (arith, d), (omega (arith, e), (lit< tt, (lit< tt, (lit< tt, tt))))))))
+      let r : Ranges s = ranges s (clause _ 0 h) in
+      let m : Measured (s .measures) = r .measured in (
+        omega (arith, r .tills),
+        (
+          omega (arith, r .versions),
+          (
+            omega (arith, r .blocks),
+            (
+              omega (arith, r .records),
+              (
+                omega (arith, r .cells),
+                (
+                  measure-word (s .measures) _ (omega (arith, m .mostBytes)),
+                  (measure-word (s .measures) _ (omega (arith, m .mostBlocks)), (measure-word (s .measures) _ (omega (arith, m .mostPercent)), tt)),
+                ),
+              ),
+            ),
+          ),
+        ),
+      )
 
   pub words-fit : Each Word (stateToWords s st)
   unfolding stateToWords isSound

@@ -2,26 +2,30 @@
 use mathlib.Core.Path.{_≡_, refl, sym, ap, ap₂, _∙_}
 use mathlib.Core.Bool.{Bool, true, false, not, cond, _&&_, false≢true}
 use mathlib.Core.List.{List, [], _∷_, _++_, map}
-use Prim.Native.Nat.{ℕ, zero, suc, _+_, _*_, _≤_, _<_}
-use native.Mathlib.Nat.{zero-mul, suc-mul}
+use Prim.Native.Nat.{ℕ, zero, suc, _+_, _*_, _/_, _≤_, _<_}
+use native.Mathlib.Nat.{zero-mul, suc-mul, mul-le-mul}
 use native.Mathlib.Omega.{arith}
-use lib.ListN.{length, getD, set, replicate}
-use lib.Dec.{eqb, leb}
+use lib.ListN.{length, getD, set, replicate, length-replicate, length-set}
+use lib.Dec.{eqb, leb, lit<}
 use borrow.Author.Tests.{lt-leb, le-leb, leb-true, eqb-true, eq-eqb, ne-eqb}
-use Rattle.lists.specs.Lists.{allOf}
+use Rattle.lists.specs.Lists.{allOf, isIn}
 use Rattle.lists.specs.Rows.{joined, rows, fill}
-use Rattle.lists.proofs.Tests.{clause}
+use Rattle.lists.proofs.Each.{each-in}
+use Rattle.lists.proofs.Tests.{clause, all-false, all-last, cond-self}
 use Rattle.lists.proofs.Rows.{fill-zeros}
-use Rattle.model.specs.Measures.{Shape, isWithin, inRange, slotWords, tillWords, recordWords, recordsAt, tableWords, poolBytes}
+use Rattle.model.specs.Measures.{Measures, Shape, isWithin, areMeasures, inRange, slotWords, tillWords, recordWords, recordsAt, tableWords, poolBytes}
 use Rattle.model.specs.State.{Position, nullPosition, Till}
 use Rattle.model.specs.Image.{zeroBlock}
 use Rattle.model.specs.Records.{freeSegment, isHeld, isRemoved, cellOf, countOf}
 use Rattle.lists.specs.Masks.{maskOf}
-use Rattle.model.specs.Table.{recordToWords, versionToWords, tillToWords, headerToWords, stateToWords, stateToBytes}
-use Rattle.model.specs.Calls.{LengthAnswer, LayoutAnswer, emptyTill, emptyState, tableLengthOf, layoutOf, layoutAs, layoutIf}
+use Rattle.model.specs.Table.{recordToWords, versionToWords, tillToWords, measureWord, measuresIn, headerToWords, shapeOf, stateToWords, stateToBytes}
+use Rattle.model.specs.Calls.{LengthAnswer, LayoutAnswer, emptyTill, emptyState, tableLengthOf, layoutOf, layoutIf}
+use Rattle.numbers.specs.Measures.{measuresOf}
 use Rattle.layout.specs.declared.Capacities.{Capacities}
-use Rattle.layout.specs.Layout.{capacities, shape, Ranged}
-use Rattle.laws.proofs.RoundTrip.{free-words}
+use Rattle.layout.specs.Layout.{shape}
+use Rattle.laws.specs.Ranges.{Ranges}
+use Rattle.laws.proofs.Measures.{sizes}
+use Rattle.laws.proofs.RoundTrip.{free-row}
 
 -- ---- ranges
 
@@ -37,41 +41,77 @@ above low high n h = rw (le-leb low n h) (go (leb n high))
     go true = refl
     go false = refl
 
--- one condition that does not hold
-not-all : (bs : List Bool) (i : ℕ) → getD bs i true ≡ false → false ≡ allOf bs
-unfolding allOf
-not-all [] i h = absurd (false≢true (sym h))
-not-all (b ∷ bs) zero h = rw h
-not-all (b ∷ bs) (suc i) h = sym (both b) ∙ ap (λ (t : Bool). cond b t false) (not-all bs i h)
-  where
-    both : (b : Bool) → cond b false false ≡ false
-    both true = refl
-    both false = refl
+pub size-of : (n x : ℕ) (xs : List ℕ) → n ≡ x → true ≡ isIn n (x ∷ xs)
+unfolding isIn
+size-of n x xs e = rw (eq-eqb n x e)
 
-module _ (c : Capacities) where
-  pub out-of : (i : ℕ) → getD (isWithin 1 16 (c .tills) ∷ isWithin 1 64 (c .versions) ∷ isWithin 1 1024 (c .blocks) ∷ isWithin 1 4096 (c .records) ∷ isWithin 1 32768 (c .cells) ∷ []) i true ≡ false
-      → false ≡ inRange (shape c)
+pub not-size : (n x : ℕ) (xs : List ℕ) (b : Bool) → (n ≡ x → ⊥) → b ≡ isIn n xs → b ≡ isIn n (x ∷ xs)
+unfolding isIn
+not-size n x xs b e h = rw (ne-eqb n x e) h
+
+pub last-size : (n x : ℕ) → eqb n x ≡ isIn n (x ∷ [])
+unfolding isIn
+last-size n x = sym (cond-self (eqb n x))
+
+-- ---- ranges of all
+
+module _ (m : Measures) where
+  pub no-measures : (i : ℕ) → getD (isIn (m .blockBytes) (64 ∷ 128 ∷ 256 ∷ 512 ∷ []) ∷ isIn (m .segmentBlocks) (4 ∷ 8 ∷ 16 ∷ []) ∷ leb (m .rebuildPercent) 100 ∷ []) i true ≡ false
+      → false ≡ areMeasures m
+  unfolding areMeasures
+  no-measures i h = sym (all-false _ i h)
+
+  pub by-percent : isIn (m .blockBytes) (64 ∷ 128 ∷ 256 ∷ 512 ∷ []) ≡ true → isIn (m .segmentBlocks) (4 ∷ 8 ∷ 16 ∷ []) ≡ true → leb (m .rebuildPercent) 100 ≡ areMeasures m
+  unfolding areMeasures
+  by-percent a b = sym (all-last (isIn (m .blockBytes) (64 ∷ 128 ∷ 256 ∷ 512 ∷ []) ∷ isIn (m .segmentBlocks) (4 ∷ 8 ∷ 16 ∷ []) ∷ []) _ (a, (b, tt)))
+
+  pub some-bytes : areMeasures m ≡ true → 0 < m .blockBytes
+  unfolding areMeasures
+  some-bytes h = each-in (λ n. 0 < n) (m .blockBytes) (64 ∷ 128 ∷ 256 ∷ 512 ∷ []) (clause _ 0 h) (lit< tt, (lit< tt, (lit< tt, (lit< tt, tt))))
+
+module _ (s : Shape) where
+  abbrev pub tests : List Bool
+  tests =
+      isWithin 1 16 (s .capacities .tills)
+      ∷ isWithin 1 64 (s .capacities .versions)
+      ∷ isWithin 1 (65536 / s .measures .blockBytes) (s .capacities .blocks)
+      ∷ isWithin 1 4096 (s .capacities .records)
+      ∷ isWithin 1 32768 (s .capacities .cells)
+      ∷ areMeasures (s .measures)
+      ∷ []
+
+  pub out-of : (i : ℕ) → getD tests i true ≡ false → false ≡ inRange s
   unfolding inRange
-  out-of i h = not-all _ i h
+  out-of i h = sym (all-false _ i h)
 
-  pub last-of : isWithin 1 16 (c .tills) ≡ true → isWithin 1 64 (c .versions) ≡ true → isWithin 1 1024 (c .blocks) ≡ true → isWithin 1 4096 (c .records) ≡ true
-      → isWithin 1 32768 (c .cells) ≡ inRange (shape c)
+  pub by-cells : getD tests 0 true ≡ true → getD tests 1 true ≡ true → getD tests 2 true ≡ true → getD tests 3 true ≡ true → getD tests 5 true ≡ true
+      → isWithin 1 32768 (s .capacities .cells) ≡ inRange s
   unfolding inRange allOf
-  last-of a b d e = rw (a, b, d, e) (go (isWithin 1 32768 (c .cells)))
-    where
-      go : (b : Bool) → b ≡ cond b true false
-      go true = refl
-      go false = refl
+  by-cells a b c d m = rw (a, b, c, d, m) (sym (cond-self (isWithin 1 32768 (s .capacities .cells))))
 
-  pub ranged : inRange (shape c) ≡ true → Ranged c
-  unfolding inRange isWithin
-  ranged h = record {
-    tills = leb-true _ _ (clause _ 1 (clause _ 0 h));
-    versions = leb-true _ _ (clause _ 1 (clause _ 1 h));
-    blocks = leb-true _ _ (clause _ 1 (clause _ 2 h));
-    records = leb-true _ _ (clause _ 1 (clause _ 3 h));
-    cells = leb-true _ _ (clause _ 1 (clause _ 4 h));
-  }
+  -- by the most blocks of an image, as code has it
+  pub by-most : (most : ℕ) (b : Bool) → most ≡ 65536 / s .measures .blockBytes → isWithin 1 most (s .capacities .blocks) ≡ b → getD tests 2 true ≡ b
+  by-most most b e h = rw (sym e) h
+
+pub capacities-read : (table : List ℕ) (m : Measures) → m ≡ shapeOf table .measures
+    → record {
+      measures = m;
+      capacities = record { tills = getD table 0 0; versions = getD table 1 0; blocks = getD table 2 0; records = getD table 3 0; cells = getD table 4 0 };
+    }
+    ≡ shapeOf table
+unfolding shapeOf
+capacities-read table m e = rw e
+
+-- ---- products
+
+-- the slots of a till, all tills, all records, and the pool
+pub products : (s : Shape) → Ranges s
+    → (s .capacities .versions * (3 + s .capacities .blocks) ≤ 65728) × (s .capacities .tills * (4 + s .capacities .versions * (3 + s .capacities .blocks)) ≤ 1051712)
+    × (s .capacities .records * recordWords (s .measures .segmentBlocks) ≤ 143360) × (s .capacities .cells * s .measures .blockBytes ≤ 16777216)
+products s r =
+    let (v, t) = sizes _ _ _ (r .tills) (r .versions) (r .blocks) in
+    let w : recordWords (s .measures .segmentBlocks) ≤ 35 = omega (arith, r .measured .mostBlocks) in
+    (v, t, mul-le-mul (r .records) w, mul-le-mul (r .cells) (r .measured .mostBytes))
 
 -- ---- the empty store
 
@@ -95,53 +135,76 @@ zero-cells k (suc n) = let p : suc n * k ≡ k + n * k = omega (arith, suc-mul n
 
 pub empty-bytes : (c : Capacities) (n : ℕ) → n ≡ poolBytes (shape c) → replicate n 0 ≡ stateToBytes (emptyState (shape c))
 unfolding stateToBytes emptyState poolBytes zeroBlock
-empty-bytes c n e = rw e (sym (zero-cells 64 (c .cells)))
+empty-bytes c n e = rw e (sym (zero-cells (c .measures .bytes) (c .cells)))
 
--- five words written over zeros
-pub empty-words : (c : Capacities) (n : ℕ) → n ≡ tableWords (shape c)
-    → set (set (set (set (set (replicate n 0) 0 (c .tills)) 1 (c .versions)) 2 (c .blocks)) 3 (c .records)) 4 (c .cells) ≡ stateToWords (shape c) (emptyState (shape c))
+-- eight words written over zeros
+pub empty-words : (c : Capacities) (n : ℕ) → n ≡ tableWords (shape c) → (x y z : ℕ)
+    → x ≡ measureWord (measuresOf (c .measures)) (c .measures .bytes) → y ≡ measureWord (measuresOf (c .measures)) (c .measures .blocks)
+    → z ≡ measureWord (measuresOf (c .measures)) (c .measures .percent)
+    → set (set (set (set (set (set (set (set (replicate n 0) 0 (c .tills)) 1 (c .versions)) 2 (c .blocks)) 3 (c .records)) 4 (c .cells)) 5 x) 6 y) 7 z
+    ≡ stateToWords (shape c) (emptyState (shape c))
 unfolding stateToWords emptyState headerToWords tableWords
-empty-words c n e =
+empty-words c n e x y z ex ey ez =
     let w : ℕ = tillWords (c .versions) (c .blocks) in
-    let m : ℕ = c .tills * w + c .records * 19 in
+    let k : ℕ = recordWords (c .measures .blocks) in
+    let m : ℕ = c .tills * w + c .records * k in
     let long : n ≡ suc (suc (suc (suc (suc (suc (suc (suc m))))))) = omega (arith, e) in
-    rw (long, zero-rows (tillToWords (c .versions) (c .blocks)) emptyTill w (empty-till (c .versions) (c .blocks)) (c .tills), zero-rows recordToWords (freeSegment 8) 19 free-words (c .records), zeros-append)
+    rw (
+      ex,
+      ey,
+      ez,
+      long,
+      zero-rows (tillToWords (c .versions) (c .blocks)) emptyTill w (empty-till (c .versions) (c .blocks)) (c .tills),
+      zero-rows recordToWords (freeSegment (c .measures .blocks)) k (free-row (c .measures .blocks)) (c .records),
+      zeros-append,
+    )
+
+pub length-room : (ws : List ℕ) (a b c d e n : ℕ) → n ≤ length ws → n ≤ length (set (set (set (set (set ws 0 a) 1 b) 2 c) 3 d) 4 e)
+length-room ws a b c d e n h =
+    rw (
+      length-set (set (set (set (set ws 0 a) 1 b) 2 c) 3 d) 4 e,
+      length-set (set (set (set ws 0 a) 1 b) 2 c) 3 d,
+      length-set (set (set ws 0 a) 1 b) 2 c,
+      length-set (set ws 0 a) 1 b,
+      length-set ws 0 a,
+    )
+    h
 
 -- ---- the answers
 
 module _ (c : Capacities) where
   pub in-range-length : (words : ℕ) → inRange (shape c) ≡ true → words ≡ tableWords (shape c)
-      → record { refusal = 0; words = words } ≡ tableLengthOf (capacities c)
+      → record { refusal = 0; words = words } ≡ tableLengthOf (shape c)
   unfolding tableLengthOf
   in-range-length words h e = rw (h, e)
 
-  pub out-of-range-length : inRange (shape c) ≡ false → record { refusal = 1; words = 0 } ≡ tableLengthOf (capacities c)
+  pub out-of-range-length : inRange (shape c) ≡ false → record { refusal = 1; words = 0 } ≡ tableLengthOf (shape c)
   unfolding tableLengthOf
   out-of-range-length h = rw h
 
 -- ---- lengths
 
-pub other-pool : (c : Capacities) (bytes words : ℕ) → (bytes ≡ c .cells * 64 → ⊥) → false ≡ (eqb bytes (poolBytes (shape c)) && eqb words (tableWords (shape c)))
+pub other-pool : (c : Capacities) (bytes words : ℕ) → (bytes ≡ c .cells * c .measures .bytes → ⊥) → false ≡ (eqb bytes (poolBytes (shape c)) && eqb words (tableWords (shape c)))
 unfolding poolBytes
 other-pool c bytes words h = rw (ne-eqb _ _ h)
 
-pub right-pool : (c : Capacities) (bytes words n : ℕ) → bytes ≡ c .cells * 64 → n ≡ tableWords (shape c)
+pub right-pool : (c : Capacities) (bytes words n : ℕ) → bytes ≡ c .cells * c .measures .bytes → n ≡ tableWords (shape c)
     → eqb words n ≡ (eqb bytes (poolBytes (shape c)) && eqb words (tableWords (shape c)))
 unfolding poolBytes
 right-pool c bytes words n h e = rw (eq-eqb _ _ h, e)
 
-pub at-least-8 : (c : Capacities) (n : ℕ) → n ≡ tableWords (shape c) → 8 ≤ n
+pub at-least-8 : (c : Capacities) (n : ℕ) → n ≡ tableWords (shape c) → 8 ≤ length (replicate {A = ℕ} n 0)
 unfolding tableWords
-at-least-8 c n e = omega (arith, e)
+at-least-8 c n e = omega (arith, length-replicate {A = ℕ} n 0, e)
 
 module _ (c : Capacities) (pool table : List ℕ) where
-  pub refused-1 : inRange (shape c) ≡ false → record { refusal = 1; pool = pool; table = table } ≡ layoutOf (capacities c) pool table
-  unfolding layoutOf layoutAs layoutIf
+  pub refused-1 : inRange (shape c) ≡ false → record { refusal = 1; pool = pool; table = table } ≡ layoutOf (shape c) pool table
+  unfolding layoutOf layoutIf
   refused-1 h = rw h
 
   pub refused-2 : inRange (shape c) ≡ true → (eqb (length pool) (poolBytes (shape c)) && eqb (length table) (tableWords (shape c))) ≡ false
-      → record { refusal = 2; pool = pool; table = table } ≡ layoutOf (capacities c) pool table
-  unfolding layoutOf layoutAs layoutIf
+      → record { refusal = 2; pool = pool; table = table } ≡ layoutOf (shape c) pool table
+  unfolding layoutOf layoutIf
   refused-2 h g = rw (h, g)
 
   pub fitting : (eqb (length pool) (poolBytes (shape c)) && eqb (length table) (tableWords (shape c))) ≡ true
@@ -154,6 +217,6 @@ module _ (c : Capacities) (pool table : List ℕ) where
 
   pub laid : (pool′ table′ : List ℕ) → inRange (shape c) ≡ true → (eqb (length pool) (poolBytes (shape c)) && eqb (length table) (tableWords (shape c))) ≡ true
       → pool′ ≡ stateToBytes (emptyState (shape c)) → table′ ≡ stateToWords (shape c) (emptyState (shape c))
-      → record { refusal = 0; pool = pool′; table = table′ } ≡ layoutOf (capacities c) pool table
-  unfolding layoutOf layoutAs layoutIf
+      → record { refusal = 0; pool = pool′; table = table′ } ≡ layoutOf (shape c) pool table
+  unfolding layoutOf layoutIf
   laid pool′ table′ h g p t = rw (h, g, p, t)

@@ -1,13 +1,15 @@
 -- Laws of `Each`: what holds of every element.
-use mathlib.Core.Path.{_≡_, refl}
-use mathlib.Core.Bool.{Bool, true, false, cond}
+use mathlib.Core.Path.{_≡_, refl, sym, subst}
+use mathlib.Core.Bool.{Bool, true, false, cond, false≢true}
 use mathlib.Core.List.{List, [], _∷_, _++_, map}
 use Prim.Native.Nat.{ℕ, zero, suc, _<_, suc-le-suc}
 use native.Mathlib.Nat.{not-suc-le-zero, le-of-suc-le-suc, zero-lt-suc}
 use native.Mathlib.Omega.{arith}
 use lib.ListN.{length, getD, set, take, drop, replicate}
 use lib.Seq.{sets}
-use Rattle.lists.specs.Lists.{counted, every, keep}
+use lib.Dec.{eqb}
+use borrow.Author.Tests.{eqb-true}
+use Rattle.lists.specs.Lists.{counted, every, keep, isIn}
 use Rattle.lists.specs.Rows.{joined, rows}
 use Rattle.lists.specs.Each.{Each}
 use Rattle.lists.proofs.Tests.{every-head, every-tail}
@@ -42,6 +44,16 @@ module _ {ℓ} {A : Type ℓ} (P : A → Type 0) where
   each-drop zero xs h = h
   each-drop (suc k) [] h = tt
   each-drop (suc k) (x ∷ xs) h = each-drop k xs (h .1)
+
+-- a number that is in the list
+pub each-in : (P : ℕ → Type 0) (n : ℕ) (xs : List ℕ) → isIn n xs ≡ true → Each P xs → P n
+unfolding isIn
+each-in P n [] h e = absurd (false≢true h)
+each-in P n (x ∷ xs) h e = go (eqb n x) refl h (λ g. each-in P n xs g (e .1))
+  where
+    go : (b : Bool) → eqb n x ≡ b → cond b true (isIn n xs) ≡ true → (isIn n xs ≡ true → P n) → P n
+    go true q h f = subst P (sym (eqb-true n x q)) (e .0)
+    go false q h f = f h
 
 -- what follows from what holds
 pub each-weaken {ℓ} : {A : Type ℓ} (P Q : A → Type 0) → ((x : A) → P x → Q x) → (xs : List A) → Each P xs → Each Q xs

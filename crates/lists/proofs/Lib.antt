@@ -12,6 +12,7 @@ pub mod Cuts
 pub mod Slices
 pub mod Copies
 pub mod Parts
+pub mod Places
 pub mod Uptos
 pub mod Overs
 pub mod Masks

@@ -1,16 +1,18 @@
 -- A part put among parts, and the first found.
 use mathlib.Core.Path.{_≡_, ap, refl, subst}
-use mathlib.Core.Bool.{Bool, true}
+use mathlib.Core.Bool.{Bool, true, cond}
 use mathlib.Core.List.{List, [], _++_, _∷_, append-assoc, map}
 use mathlib.Core.Option.{some}
 use Prim.Native.Nat.{_*_, _+_, _<_, _≤_, suc, zero, ℕ}
 use native.Mathlib.Nat.{le-of-suc-le-suc, not-suc-le-zero, suc-mul, zero-mul}
+use native.Mathlib.Numerals.{add-one}
 use native.Mathlib.Omega.{arith}
 use lib.ListN.{drop, getD, length, length-drop, set, take}
 use lib.Seq.{drop-at, drop-drop, length-take-le, take-add, take-at}
 use Rattle.lists.specs.Lists.{firstFrom}
 use Rattle.lists.specs.Rows.{parts}
 use Rattle.lists.proofs.First.{Lowest, first-lowest}
+use Rattle.lists.proofs.Slices.{drop-next}
 
 pub getD-any {ℓ} : {A : Type ℓ} (l : List A) (k : ℕ) (d e : A) → k < length l → getD l k d ≡ getD l k e
 getD-any [] k d e h = absurd (not-suc-le-zero h)
@@ -38,6 +40,12 @@ first-found d f xs k e =
     let w : Lowest f d 0 xs (some k) = subst (Lowest f d 0 xs) e (first-lowest f d 0 xs) in
     let z : w .0 ≡ k = omega arith in
     (rw z at (w .2), rw z at (w .3))
+
+-- the search at element k
+pub first-step : {A : Type 0} (f : A → Bool) (d : A) (xs : List A) (k : ℕ) → k < length xs
+    → firstFrom f k (drop k xs) ≡ cond (f (getD xs k d)) (some k) (firstFrom f (k + 1) (drop (k + 1) xs))
+unfolding firstFrom
+first-step f d xs k h = rw (drop-next xs k d h, add-one k)
 
 -- one function after another
 pub map-then {ℓ κ μ} : {A : Type ℓ} {B : Type κ} {C : Type μ} (f : A → C) (g : B → C) (h : A → B) → ((x : A) → f x ≡ g (h x)) → (xs : List A) → map f xs ≡ map g (map h xs)

@@ -1,7 +1,7 @@
 -- Laws of tests: `cond`, `allOf`, `every`.
-use mathlib.Core.Path.{_≡_, refl, sym}
+use mathlib.Core.Path.{_≡_, refl, sym, ap, _∙_}
 use mathlib.Core.Bool.{Bool, true, false, cond, not, _||_, false≢true}
-use mathlib.Core.List.{List, [], _∷_}
+use mathlib.Core.List.{List, [], _∷_, _++_}
 use Prim.Native.Nat.{ℕ, zero, suc, _<_}
 use native.Mathlib.Nat.{not-suc-le-zero, le-of-suc-le-suc}
 use lib.ListN.{length, getD, set, replicate}
@@ -58,6 +58,19 @@ unfolding allOf
 all-true [] h = refl
 all-true (b ∷ bs) h = rw (h .0) (all-true bs (h .1))
 
+-- one that does not hold
+pub all-false : (bs : List Bool) (i : ℕ) → getD bs i true ≡ false → allOf bs ≡ false
+unfolding allOf
+all-false [] i h = absurd (false≢true (sym h))
+all-false (b ∷ bs) zero h = rw h
+all-false (b ∷ bs) (suc i) h = ap (λ (t : Bool). cond b t false) (all-false bs i h) ∙ cond-never b
+
+-- where all others hold, the last decides
+pub all-last : (bs : List Bool) (b : Bool) → Each (λ (x : Bool). x ≡ true) bs → allOf (bs ++ (b ∷ [])) ≡ b
+unfolding allOf
+all-last [] b h = cond-self b
+all-last (c ∷ cs) b h = rw (h .0) (all-last cs b (h .1))
+
 -- ---- every
 
 pub every-head {ℓ} : {A : Type ℓ} (f : A → Bool) (x : A) (xs : List A) → every f (x ∷ xs) ≡ true → f x ≡ true
@@ -72,6 +85,13 @@ pub every-at : {A : Type 0} (f : A → Bool) (d : A) (xs : List A) → every f x
 every-at f d [] h i b = absurd (not-suc-le-zero b)
 every-at f d (x ∷ xs) h zero b = every-head f x xs h
 every-at f d (x ∷ xs) h (suc i) b = every-at f d xs (every-tail f x xs h) i (le-of-suc-le-suc b)
+
+-- one that does not pass
+pub every-not {ℓ} : {A : Type ℓ} (f : A → Bool) (d : A) (xs : List A) (i : ℕ) → i < length xs → f (getD xs i d) ≡ false → every f xs ≡ false
+unfolding every
+every-not f d [] i h e = absurd (not-suc-le-zero h)
+every-not f d (x ∷ xs) zero h e = rw e
+every-not f d (x ∷ xs) (suc i) h e = ap (λ (t : Bool). cond (f x) t false) (every-not f d xs i (le-of-suc-le-suc h) e) ∙ cond-never (f x)
 
 pub every-set {ℓ} : {A : Type ℓ} (f : A → Bool) (xs : List A) (k : ℕ) (y : A) → every f xs ≡ true → f y ≡ true → every f (set xs k y) ≡ true
 unfolding every

@@ -41,6 +41,15 @@ unfolding walk
 walk-map out a f g [] = refl
 walk-map out a f g (p ∷ ps) = rw (mask-odd f p ps, mask-half f p ps, walk-map out a f g ps)
 
+-- ---- a mask beside its list, from element i on
+
+module _ {ℓ} {A : Type ℓ} (f : A → Bool) (xs : List A) (i : ℕ) (d : A) (h : i < length xs) where
+  pub mask-here : maskOf f (drop i xs) % 2 ≡ cond (f (getD xs i d)) 1 0
+  mask-here = rw (drop-next xs i d h) (mask-odd f (getD xs i d) (drop (i + 1) xs))
+
+  pub mask-after : maskOf f (drop i xs) / 2 ≡ maskOf f (drop (i + 1) xs)
+  mask-after = rw (drop-next xs i d h) (mask-half f (getD xs i d) (drop (i + 1) xs))
+
 -- ---- Walked
 
 cons-head {ℓ} : {A : Type ℓ} (d : A) {x y : A} {xs ys : List A} → x ∷ xs ≡ y ∷ ys → x ≡ y

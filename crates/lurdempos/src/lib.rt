@@ -7,10 +7,11 @@ ghost use Rattle.tills.specs.Answers.{listingAnswer};
 ghost use Rattle.restore.specs.Answers.{restoreAnswer};
 ghost use Rattle.retire.specs.Answers.{retireAnswer};
 ghost use Rattle.tally.specs.Answers.{tallyAnswer};
-ghost use Rattle.lurdempos.specs.Boundary.{theFive};
+ghost use Rattle.lurdempos.specs.Boundary.{theEight};
 use backup::BackedUp;
 use layout::Capacities;
 use layout::TableLength;
+use numbers::Measures;
 use restore::Restored;
 use retire::Retired;
 use tally::Tally;
@@ -28,8 +29,11 @@ pub extern "C" fn lurdempos_table_length(
     blocks: u32,
     records: u32,
     cells: u32,
+    block_bytes: u32,
+    segment_blocks: u32,
+    rebuild_percent: u32,
 ) -> TableLength
-    ensures { λ r. ⌜ lengthAnswer r ≡ tableLengthOf (theFive tills versions blocks records cells) ⌝ }
+    ensures { λ r. ⌜ lengthAnswer r ≡ tableLengthOf (theEight tills versions blocks records cells «block_bytes» «segment_blocks» «rebuild_percent») ⌝ }
 {
     store::table_length(Capacities {
         tills: tills,
@@ -37,6 +41,11 @@ pub extern "C" fn lurdempos_table_length(
         blocks: blocks,
         records: records,
         cells: cells,
+        measures: Measures {
+            bytes: block_bytes as usize,
+            blocks: segment_blocks as usize,
+            percent: rebuild_percent,
+        },
     })
 }
 
@@ -49,8 +58,11 @@ pub extern "C" fn lurdempos_lay_out(
     blocks: u32,
     records: u32,
     cells: u32,
+    block_bytes: u32,
+    segment_blocks: u32,
+    rebuild_percent: u32,
 ) -> LaidOut
-    ensures { λ r. ⌜ layoutAnswer (r .refusal) (now (pool .exit)) (now (table .exit)) ≡ layoutOf (theFive tills versions blocks records cells) (now (pool .entry)) (now (table .entry)) ⌝ }
+    ensures { λ r. ⌜ layoutAnswer (r .refusal) (now (pool .exit)) (now (table .exit)) ≡ layoutOf (theEight tills versions blocks records cells «block_bytes» «segment_blocks» «rebuild_percent») (now (pool .entry)) (now (table .entry)) ⌝ }
 {
     let refusal = store::lay_out(
         pool,
@@ -61,6 +73,11 @@ pub extern "C" fn lurdempos_lay_out(
             blocks: blocks,
             records: records,
             cells: cells,
+            measures: Measures {
+                bytes: block_bytes as usize,
+                blocks: segment_blocks as usize,
+                percent: rebuild_percent,
+            },
         },
     );
     LaidOut { refusal: refusal }

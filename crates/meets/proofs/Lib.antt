@@ -1,3 +1,4 @@
 pub mod Shelf
 pub mod Slots
 pub mod Pointers
+pub mod Records

@@ -12,9 +12,10 @@ use Rattle.lists.specs.Lists.{every}
 use Rattle.lists.specs.Rows.{rows, fill, parts, joined}
 use Rattle.lists.proofs.Cuts.{parts-rows}
 use Rattle.lists.proofs.Each.{each-at, each-drop, each-weaken}
+use Rattle.lists.proofs.Places.{row-room}
 use Rattle.lists.proofs.Rows.{Wide, wide-all, length-rows, fill-split, drop-rows, row-append}
 use Rattle.lists.proofs.Tests.{every-head, every-tail, clause, every-at}
-use Rattle.model.specs.Measures.{partsFor, Capacities, shapeFor, tillWords, headerWords}
+use Rattle.model.specs.Measures.{Capacities, Shape, partsFor, tillWords, recordWords, headerWords}
 use Rattle.model.specs.Records.{positionAt}
 use Rattle.model.specs.Sound.{nextPointers, isNull, leads, areTraceable, isSound, isTill}
 use Rattle.model.specs.State.{Shelf, Version, Pointer, nullPointer, direct, indirect, State, Till, Segment}
@@ -22,33 +23,29 @@ use Rattle.model.specs.Table.{versionIn, versionToWords, tillToWords, versionsI
 use Rattle.laws.proofs.Fits.{record-in, held-in, TillFits, VersionFits, pointer-in}
 use Rattle.laws.proofs.RoundTrip.{length-version, version-back, length-till}
 use Rattle.shelf.specs.Fits.{Fits}
-use Rattle.trace.specs.Versions.{pointersAt, LeadsTo, Traceable, Direct}
+use Rattle.trace.specs.Versions.{noVersion, pointersAt, LeadsTo, Traceable, Direct}
 use Rattle.slots.proofs.Slots.{till-long}
 use Rattle.meets.proofs.Shelf.{fits, few-versions, few-blocks, wordsOf, words-length}
 
-none-pointers : versionIn 64 [] .pointers ≡ []
-unfolding versionIn partsFor
-none-pointers = refl
-
 -- ---- pointers that lead somewhere
 
-module _ (shelf : Shelf) (eight : (k : ℕ) → length (getD (shelf .records) k []) ≤ 8) where
+module _ (n : ℕ) (shelf : Shelf) (most : (k : ℕ) → length (getD (shelf .records) k []) ≤ n) where
   next-length : (vs : List Version) → length (nextPointers vs) ≡ length (pointersAt vs 0)
   unfolding nextPointers
-  next-length [] = ap length (sym none-pointers)
+  next-length [] = refl
   next-length (v ∷ vs) = refl
 
   one-leads : (ps : List Pointer) (p : Pointer) → leads shelf ps p ≡ true → LeadsTo (length ps) p
   unfolding LeadsTo
   one-leads ps nullPointer e = tt
   one-leads ps (direct k i) e = tt
-  one-leads ps (indirect n) e = pointer-in ps n e
+  one-leads ps (indirect k) e = pointer-in ps k e
 
-  one-fits : (next : List Pointer) (p : Pointer) → leads shelf next p ≡ true → Fits (length (shelf .records) * 19) p
+  one-fits : (next : List Pointer) (p : Pointer) → leads shelf next p ≡ true → Fits n (length (shelf .records) * recordWords n) p
   unfolding Fits positionAt
   one-fits next nullPointer e = tt
-  one-fits next (direct k i) e = (omega (arith, record-in (shelf .records) k i e), omega (arith, held-in (getD (shelf .records) k []) i e, eight k))
-  one-fits next (indirect n) e = tt
+  one-fits next (direct k i) e = (row-room k (length (shelf .records)) (recordWords n) (record-in (shelf .records) k i e), omega (arith, held-in (getD (shelf .records) k []) i e, most k))
+  one-fits next (indirect k) e = tt
 
   -- of each pointer, and past the end
   by-place : (P : Pointer → Type 0) → P nullPointer → (f : Pointer → Bool) → ((p : Pointer) → f p ≡ true → P p) → (ps : List Pointer) → every f ps ≡ true
@@ -60,17 +57,17 @@ module _ (shelf : Shelf) (eight : (k : ℕ) → length (getD (shelf .records) k 
   module _ (bytes b : ℕ) where
     all-lead : (vs : List Version) → areTraceable bytes b shelf vs ≡ true → (i j : ℕ) → LeadsTo (length (pointersAt vs (suc i))) (getD (pointersAt vs i) j nullPointer)
     unfolding areTraceable
-    all-lead [] e i j = subst (λ (ps : List Pointer). LeadsTo (length ps) (getD ps j nullPointer)) (sym none-pointers) (unfold LeadsTo in tt)
+    all-lead [] e i j = unfold LeadsTo in tt
     all-lead (v ∷ vs) e zero j =
-        subst (λ (n : ℕ). LeadsTo n (getD (v .pointers) j nullPointer)) (next-length vs)
+        subst (λ (l : ℕ). LeadsTo l (getD (v .pointers) j nullPointer)) (next-length vs)
         (by-place (LeadsTo (length (nextPointers vs))) (unfold LeadsTo in tt) (leads shelf (nextPointers vs)) (one-leads (nextPointers vs)) (v .pointers) (clause _ 1 e) j)
     all-lead (v ∷ vs) e (suc i) j = all-lead vs (clause _ 3 e) i j
 
-    all-fit : (vs : List Version) → areTraceable bytes b shelf vs ≡ true → (i j : ℕ) → Fits (length (shelf .records) * 19) (getD (pointersAt vs i) j nullPointer)
+    all-fit : (vs : List Version) → areTraceable bytes b shelf vs ≡ true → (i j : ℕ) → Fits n (length (shelf .records) * recordWords n) (getD (pointersAt vs i) j nullPointer)
     unfolding areTraceable
-    all-fit [] e i j = subst (λ (ps : List Pointer). Fits (length (shelf .records) * 19) (getD ps j nullPointer)) (sym none-pointers) (unfold Fits in tt)
+    all-fit [] e i j = unfold Fits in tt
     all-fit (v ∷ vs) e zero j =
-        by-place (Fits (length (shelf .records) * 19)) (unfold Fits in tt) (leads shelf (nextPointers vs)) (one-fits (nextPointers vs)) (v .pointers) (clause _ 1 e) j
+        by-place (Fits n (length (shelf .records) * recordWords n)) (unfold Fits in tt) (leads shelf (nextPointers vs)) (one-fits (nextPointers vs)) (v .pointers) (clause _ 1 e) j
     all-fit (v ∷ vs) e (suc i) j = all-fit vs (clause _ 3 e) i j
 
     -- the newer ones are traceable too
@@ -82,7 +79,16 @@ module _ (shelf : Shelf) (eight : (k : ℕ) → length (getD (shelf .records) k 
 
 -- ---- a sound store's till
 
-module _ (c : Capacities) (st : State) (sound : isSound (shapeFor c) st ≡ true) (t : ℕ) (ht : t < length (st .tills)) where
+module _ (s : Shape) (st : State) (sound : isSound s st ≡ true) (t : ℕ) (ht : t < length (st .tills)) where
+  abbrev c : Capacities
+  c = s .capacities
+
+  abbrev bytes : ℕ
+  bytes = s .measures .blockBytes
+
+  abbrev n : ℕ
+  n = s .measures .segmentBlocks
+
   abbrev b : ℕ
   b = c .blocks
 
@@ -92,26 +98,26 @@ module _ (c : Capacities) (st : State) (sound : isSound (shapeFor c) st ≡ true
   abbrev pub till : Till
   till = getD (st .tills) t noTill
 
-  traceable : areTraceable 64 b (st .shelf) (till .versions) ≡ true
+  traceable : areTraceable bytes b (st .shelf) (till .versions) ≡ true
   unfolding isSound isTill
-  traceable = clause _ 1 (every-at (isTill (shapeFor c) (st .shelf)) noTill (st .tills) (clause _ 4 sound) t ht)
+  traceable = clause _ 1 (every-at (isTill s (st .shelf)) noTill (st .tills) (clause _ 4 sound) t ht)
 
-  pub till-fits : TillFits (shapeFor c) till
-  till-fits = each-at (TillFits (shapeFor c)) noTill (st .tills) (fits c st sound .tills) t ht
+  pub till-fits : TillFits s till
+  till-fits = each-at (TillFits s) noTill (st .tills) (fits s st sound .tills) t ht
 
-  eight : (k : ℕ) → length (getD (st .shelf .records) k []) ≤ 8
-  eight k = go (st .shelf .records) (fits c st sound .records) k
+  positions-most : (k : ℕ) → length (getD (st .shelf .records) k []) ≤ n
+  positions-most k = go (st .shelf .records) (fits s st sound .records) k
     where
-      go : (segs : List Segment) → Each (λ (s : Segment). length s ≡ 8) segs → (k : ℕ) → length (getD segs k []) ≤ 8
+      go : (segs : List Segment) → Each (λ (g : Segment). length g ≡ n) segs → (k : ℕ) → length (getD segs k []) ≤ n
       go [] e k = omega arith
-      go (s ∷ segs) e zero = omega (arith, e .0)
-      go (s ∷ segs) e (suc k) = go segs (e .1) k
+      go (g ∷ segs) e zero = omega (arith, e .0)
+      go (g ∷ segs) e (suc k) = go segs (e .1) k
 
   -- its words among the table's
-  pub till-row : take (tillWords (c .versions) b) (drop (headerWords + t * tillWords (c .versions) b) (stateToWords (shapeFor c) st)) ≡ tillToWords (c .versions) b till
+  pub till-row : take (tillWords (c .versions) b) (drop (headerWords + t * tillWords (c .versions) b) (stateToWords s st)) ≡ tillToWords (c .versions) b till
   unfolding stateToWords headerToWords
   till-row =
-      ap (take (tillWords (c .versions) b)) (sym (drop-drop (t * tillWords (c .versions) b) 8 (stateToWords (shapeFor c) st)))
+      ap (take (tillWords (c .versions) b)) (sym (drop-drop (t * tillWords (c .versions) b) 8 (stateToWords s st)))
       ∙ row-append (tillToWords (c .versions) b) (tillWords (c .versions) b) noTill (st .tills)
       (wide-all (tillToWords (c .versions) b) (tillWords (c .versions) b) (length-till (c .versions) b) (st .tills)) (rows recordToWords (st .shelf .records)) t ht
 
@@ -120,11 +126,11 @@ module _ (c : Capacities) (st : State) (sound : isSound (shapeFor c) st ≡ true
       → (7 + b ≤ length (tillToWords (c .versions) b till)) × (0 < getD (tillToWords (c .versions) b till) 1 0) × (b ≤ 1024)
   sound-oldest h =
       let (room, some) = till-long (c .versions) b till (tillToWords (c .versions) b till) h (till-fits .most) refl in
-      (room, some, few-blocks c st sound)
+      (room, some, few-blocks s st sound)
 
   -- each pointer of a version names what is there
-  pub pointers-fit : (i j : ℕ) → Fits (length (st .shelf .records) * 19) (getD (pointersAt (till .versions) i) j nullPointer)
-  pointers-fit i j = all-fit (st .shelf) eight 64 b (till .versions) traceable i j
+  pub pointers-fit : (i j : ℕ) → Fits n (length (st .shelf .records) * recordWords n) (getD (pointersAt (till .versions) i) j nullPointer)
+  pointers-fit i j = all-fit n (st .shelf) positions-most bytes b (till .versions) traceable i j
 
   -- the versions from the i-th oldest on
   module _ (i : ℕ) (hi : i < length (till .versions)) where
@@ -134,8 +140,8 @@ module _ (c : Capacities) (st : State) (sound : isSound (shapeFor c) st ≡ true
     pub held-versions : length vs ≡ length (till .versions) - i
     held-versions = length-drop i (till .versions)
 
-    vs-fit : Each (VersionFits (shapeFor c)) vs
-    vs-fit = each-drop (VersionFits (shapeFor c)) i (till .versions) (till-fits .versions)
+    vs-fit : Each (VersionFits s) vs
+    vs-fit = each-drop (VersionFits s) i (till .versions) (till-fits .versions)
 
     wide : (us : List Version) → Wide (versionToWords b) (3 + b) us
     wide us = wide-all (versionToWords b) (3 + b) (length-version b) us
@@ -157,45 +163,45 @@ module _ (c : Capacities) (st : State) (sound : isSound (shapeFor c) st ≡ true
         ∙ ap (λ (l : List ℕ). l ++ rest) (drop-rows (versionToWords b) (3 + b) i (till .versions) (wide (till .versions))))
         ∙ take-at (rows (versionToWords b) vs) rest (length vs * (3 + b)) lv
 
-    pub slots-read : versionsIn 64 b (length vs) (rows (versionToWords b) vs) ≡ vs
+    pub slots-read : versionsIn bytes b (length vs) (rows (versionToWords b) vs) ≡ vs
     unfolding versionsIn
     slots-read =
-        ap (λ (ws : List ℕ). map (versionIn 64) (parts (3 + b) (length vs) ws)) (sym (append-nil (rows (versionToWords b) vs)))
-        ∙ parts-rows (versionToWords b) (versionIn 64) (3 + b) vs (wide vs) (each-weaken (VersionFits (shapeFor c)) _ (version-back (shapeFor c)) vs vs-fit) []
+        ap (λ (ws : List ℕ). map (versionIn bytes) (parts (3 + b) (length vs) ws)) (sym (append-nil (rows (versionToWords b) vs)))
+        ∙ parts-rows (versionToWords b) (versionIn bytes) (3 + b) vs (wide vs) (each-weaken (VersionFits s) _ (version-back s) vs vs-fit) []
 
-    most-blocks : (us : List Version) → Each (VersionFits (shapeFor c)) us → (j : ℕ) → length (pointersAt us j) ≤ b
-    most-blocks [] e j = omega (arith, ap length none-pointers)
+    most-blocks : (us : List Version) → Each (VersionFits s) us → (j : ℕ) → length (pointersAt us j) ≤ b
+    most-blocks [] e j = omega arith
     most-blocks (u ∷ us) e zero = e .0 .most
     most-blocks (u ∷ us) e (suc j) = most-blocks us (e .1) j
 
-    pub sound-traceable : Traceable b (length vs) (rows (versionToWords b) vs)
+    pub sound-traceable : Traceable bytes b (length vs) (rows (versionToWords b) vs)
     sound-traceable = record {
       rows = length-rows (versionToWords b) (3 + b) vs (wide vs);
       some = omega (arith, held-versions);
-      few = omega (arith, held-versions, till-fits .most, few-versions c st sound);
-      small = few-blocks c st sound;
+      few = omega (arith, held-versions, till-fits .most, few-versions s st sound);
+      small = few-blocks s st sound;
       fits = subst (λ (us : List Version). (j : ℕ) → length (pointersAt us j) ≤ b) (sym slots-read) (most-blocks vs vs-fit);
       leads =
           subst (λ (us : List Version). (k j : ℕ) → LeadsTo (length (pointersAt us (suc k))) (getD (pointersAt us k) j nullPointer)) (sym slots-read)
-          (all-lead (st .shelf) eight 64 b vs (traceable-from (st .shelf) eight 64 b i (till .versions) traceable));
+          (all-lead n (st .shelf) positions-most bytes b vs (traceable-from n (st .shelf) positions-most bytes b i (till .versions) traceable));
     }
 
-    pub sound-direct : Direct b (length vs) (rows (versionToWords b) vs) (length (wordsOf c st sound))
+    pub sound-direct : Direct n bytes b (length vs) (rows (versionToWords b) vs) (length (wordsOf s st sound))
     sound-direct = record {
       fit =
-          subst (λ (us : List Version). (k j : ℕ) → Fits (length (wordsOf c st sound)) (getD (pointersAt us k) j nullPointer)) (sym slots-read)
-          (subst (λ (n : ℕ). (k j : ℕ) → Fits n (getD (pointersAt vs k) j nullPointer)) (sym (words-length c st sound))
-          (all-fit (st .shelf) eight 64 b vs (traceable-from (st .shelf) eight 64 b i (till .versions) traceable)));
+          subst (λ (us : List Version). (k j : ℕ) → Fits n (length (wordsOf s st sound)) (getD (pointersAt us k) j nullPointer)) (sym slots-read)
+          (subst (λ (l : ℕ). (k j : ℕ) → Fits n l (getD (pointersAt vs k) j nullPointer)) (sym (words-length s st sound))
+          (all-fit n (st .shelf) positions-most bytes b vs (traceable-from n (st .shelf) positions-most bytes b i (till .versions) traceable)));
     }
 
     -- the first version's length, and as many pointers as it has blocks
-    first : (us : List Version) → 0 < length us → Each (VersionFits (shapeFor c)) us
-        → (getD (rows (versionToWords b) us) 1 0 ≡ getD us 0 (versionIn 64 []) .length) × (length (pointersAt us 0) ≡ partsFor 64 (getD us 0 (versionIn 64 []) .length))
+    first : (us : List Version) → 0 < length us → Each (VersionFits s) us
+        → (getD (rows (versionToWords b) us) 1 0 ≡ getD us 0 noVersion .length) × (length (pointersAt us 0) ≡ partsFor bytes (getD us 0 noVersion .length))
     unfolding joined versionToWords
     first [] h e = absurd (omega arith)
     first (u ∷ us) h e = (refl, e .0 .blocks)
 
-    pub sound-blocks : length (pointersAt (versionsIn 64 b (length vs) (rows (versionToWords b) vs)) 0) ≡ partsFor 64 (getD (rows (versionToWords b) vs) 1 0)
+    pub sound-blocks : length (pointersAt (versionsIn bytes b (length vs) (rows (versionToWords b) vs)) 0) ≡ partsFor bytes (getD (rows (versionToWords b) vs) 1 0)
     sound-blocks =
-        let (l, n) = first vs (omega (arith, held-versions)) vs-fit in
-        ap (λ (us : List Version). length (pointersAt us 0)) slots-read ∙ n ∙ ap (partsFor 64) (sym l)
+        let (l, m) = first vs (omega (arith, held-versions)) vs-fit in
+        ap (λ (us : List Version). length (pointersAt us 0)) slots-read ∙ m ∙ ap (partsFor bytes) (sym l)

@@ -1,5 +1,5 @@
--- "A day at the box": the starred cases 1 to 10, and rows for what the page says beside them, as lists of calls with what they answer and leave.
--- One theorem, `day-holds`, proved by computing the calls' definitions on real 64-byte blocks.
+-- "A day at the box": the starred cases 1 to 10, rows for what the page says beside them, and rows at other measures, as lists of calls with what they answer and leave.
+-- One theorem, `day-holds`, proved by computing the calls' definitions on real blocks.
 use Prim.Native.Nat.{ℕ, _+_, _*_}
 use mathlib.Core.Path.{_≡_, refl}
 use mathlib.Core.Bool.{Bool, true, _&&_}
@@ -9,7 +9,7 @@ use lib.Dec.{eqb}
 use Rattle.lists.specs.Lists.{counted, every, keep, count, total, firstFrom, allOf, sameNumbers, isIn, distinct, allZero, largest}
 use Rattle.lists.specs.Rows.{joined, parts, chunks, fill, rows}
 use Rattle.lists.specs.Masks.{maskOf}
-use Rattle.model.specs.Measures.{isWithin, inRange, partsFor, tableWords, poolBytes, Capacities, Shape, shapeFor, headerWords, slotWords, recordWords, recordsAt}
+use Rattle.model.specs.Measures.{isWithin, areMeasures, inRange, partsFor, tableWords, poolBytes, isBase, Measures, Capacities, Shape, baseMeasures, headerWords, slotWords, recordWords, recordsAt}
 use Rattle.model.specs.Image.{zeroBlock, blockFrom, blocksFrom, imageBlocks, segmentsFrom, imageSegments}
 use Rattle.model.specs.Records.{freeSegment, isFree, cellsOf, namedCells, cellAt, positionAt, equals}
 use Rattle.model.specs.Runs.{freeCells, better, scan, findRun}
@@ -17,16 +17,16 @@ use Rattle.model.specs.Place.{pointersTo, newPositions, nonNull, share, 
 use Rattle.model.specs.Turn.{target, turn, turning}
 use Rattle.model.specs.Sweep.{lower, lowerAll, release, moved, clearCells, freeRecord, strikeOnly, compact, removeFrom, sweepRecord, sweepFrom, sweep}
 use Rattle.model.specs.Trace.{hopsVia, endVia, hops, endOf, blockAt, tracedBlock, tracedBlocks, imageOf, longestChain}
-use Rattle.model.specs.Table.{pointerWord, recordToWords, versionToWords, tillToWords, headerToWords, stateToWords, stateToBytes, shapeOf, pointerOf, wordToPointer, positionOf, positionsIn, segmentIn, recordsIn, cellsIn, shelfIn, versionIn, versionsIn, tillIn, tillsIn, stateIn}
+use Rattle.model.specs.Table.{pointerWord, recordToWords, versionToWords, tillToWords, measureWord, headerToWords, stateToWords, stateToBytes, measuresIn, shapeOf, pointerOf, wordToPointer, positionOf, positionsIn, segmentIn, recordsIn, cellsIn, shelfIn, versionIn, versionsIn, tillIn, tillsIn, stateIn}
 use Rattle.model.specs.Sound.{isShaped, hasLength, isNumbered, isUsed, hasCells, nextPointers, endsZero, areTraceable, isTill, allPointers, areCounted, allCounted, areFilled, isSound, ifSound, hasLengths, storeAs, storeOf}
-use Rattle.model.specs.Calls.{tableLengthOf, emptyTill, emptyState, layoutIf, layoutAs, layoutOf, tillOf, heldFrom, withTill, newestPointers, withNewestPointers, tillWith, fileIn, placeAndFile, backupAnswer, backupIn, backupOf, restoreRefusal, restoreFrom, restoreIn, restoreOf, dropOldest, isOldest, isEmpty, retireAnswer, retireIn, retireOf, oldestNumber, newestNumber, listingRefusal, listTill, listingIn, listingOf, tallyIn, tallyOf, LengthAnswer, LayoutAnswer, BackupAnswer, RestoreAnswer, RetireAnswer, ListingAnswer, TallyAnswer}
+use Rattle.model.specs.Calls.{tableLengthOf, emptyTill, emptyState, layoutIf, layoutOf, tillOf, heldFrom, withTill, newestPointers, withNewestPointers, tillWith, fileIn, placeAndFile, backupAnswer, backupIn, backupOf, restoreRefusal, restoreFrom, restoreIn, restoreOf, dropOldest, isOldest, isEmpty, retireAnswer, retireIn, retireOf, oldestNumber, newestNumber, listingRefusal, listTill, listingIn, listingOf, tallyIn, tallyOf, LengthAnswer, LayoutAnswer, BackupAnswer, RestoreAnswer, RetireAnswer, ListingAnswer, TallyAnswer}
 use Rattle.model.specs.State.{Pointer, nullPointer, direct, indirect, nullPosition, held, removed, Segment, Version}
 use Rattle.model.specs.Calls as Calls
 
 -- A call with what it answers, or a fact of the buffers as the calls before it left them. Slots and records are read as words.
 data Step : Type 0 where
-  tableLength : (capacities : Capacities) (refusal words : ℕ) → Step
-  layout : (capacities : Capacities) (refusal : ℕ) → Step
+  tableLength : (capacities : Shape) (refusal words : ℕ) → Step
+  layout : (capacities : Shape) (refusal : ℕ) → Step
   backup : (till : ℕ) (image : List ℕ) (refusal version : ℕ) → Step
   restore : (till version : ℕ) (output : List ℕ) (refusal length hops : ℕ) (after : List ℕ) → Step
   retire : (till version refusal length : ℕ) → Step
@@ -36,67 +36,74 @@ data Step : Type 0 where
   slotIs : (i : ℕ) (version : Version) → Step
   recordIs : (k : ℕ) (positions : Segment) → Step
   poolIs : (pool : List ℕ) → Step
+  -- the header's last three words
+  settingsAre : (words : List ℕ) → Step
   -- a word of the table is overwritten, for stores that no call leaves
   overwrite : (at word : ℕ) → Step
 
 -- a store's capacities, and the steps from its laying out
 record Row : Type 0 where
-  capacities : Capacities
+  capacities : Shape
   steps : List Step
 
-slotAt : Capacities → ℕ → ℕ
-slotAt c i = headerWords + 4 + i * slotWords (c .blocks)
+slotAt : Shape → ℕ → ℕ
+slotAt s i = headerWords + 4 + i * slotWords (s .capacities .blocks)
 
-recordAt : Capacities → ℕ → ℕ
-recordAt c k = recordsAt (c .tills) (c .versions) (c .blocks) + k * recordWords 8
+recordAt : Shape → ℕ → ℕ
+recordAt s k = recordsAt (s .capacities .tills) (s .capacities .versions) (s .capacities .blocks) + k * recordWords (s .measures .segmentBlocks)
 
 -- `n` elements from place `at` are those of the list
 isAt : List ℕ → ℕ → ℕ → List ℕ → Bool
 isAt xs at n ys = sameNumbers (take n (drop at xs)) ys
 
-holdsFrom : Capacities → List Step → List ℕ → List ℕ → Bool
-holdsFrom c [] pool table = true
-holdsFrom c (tableLength d n w ∷ steps) pool table =
+holdsFrom : Shape → List Step → List ℕ → List ℕ → Bool
+holdsFrom s [] pool table = true
+holdsFrom s (tableLength d n w ∷ steps) pool table =
     let a : LengthAnswer = tableLengthOf d in
-    eqb (a .refusal) n && eqb (a .words) w && holdsFrom c steps pool table
-holdsFrom c (layout d n ∷ steps) pool table =
+    eqb (a .refusal) n && eqb (a .words) w && holdsFrom s steps pool table
+holdsFrom s (layout d n ∷ steps) pool table =
     let a : LayoutAnswer = layoutOf d pool table in
-    eqb (a .refusal) n && holdsFrom c steps (a .pool) (a .table)
-holdsFrom c (backup t image n v ∷ steps) pool table =
+    eqb (a .refusal) n && holdsFrom s steps (a .pool) (a .table)
+holdsFrom s (backup t image n v ∷ steps) pool table =
     let a : BackupAnswer = backupOf pool table t image in
-    eqb (a .refusal) n && eqb (a .version) v && holdsFrom c steps (a .pool) (a .table)
-holdsFrom c (restore t v output n l h after ∷ steps) pool table =
+    eqb (a .refusal) n && eqb (a .version) v && holdsFrom s steps (a .pool) (a .table)
+holdsFrom s (restore t v output n l h after ∷ steps) pool table =
     let a : RestoreAnswer = restoreOf pool table t v output in
-    eqb (a .refusal) n && eqb (a .length) l && eqb (a .hops) h && sameNumbers (a .output) after && holdsFrom c steps pool table
-holdsFrom c (retire t v n l ∷ steps) pool table =
+    eqb (a .refusal) n && eqb (a .length) l && eqb (a .hops) h && sameNumbers (a .output) after && holdsFrom s steps pool table
+holdsFrom s (retire t v n l ∷ steps) pool table =
     let a : RetireAnswer = retireOf pool table t v in
-    eqb (a .refusal) n && eqb (a .length) l && holdsFrom c steps (a .pool) (a .table)
-holdsFrom c (listing t r o n l ∷ steps) pool table =
+    eqb (a .refusal) n && eqb (a .length) l && holdsFrom s steps (a .pool) (a .table)
+holdsFrom s (listing t r o n l ∷ steps) pool table =
     let a : ListingAnswer = listingOf pool table t in
-    eqb (a .refusal) r && eqb (a .oldest) o && eqb (a .newest) n && eqb (a .last) l && holdsFrom c steps pool table
-holdsFrom c (tally r k s n ∷ steps) pool table =
+    eqb (a .refusal) r && eqb (a .oldest) o && eqb (a .newest) n && eqb (a .last) l && holdsFrom s steps pool table
+holdsFrom s (tally r k u n ∷ steps) pool table =
     let a : TallyAnswer = tallyOf pool table in
-    eqb (a .refusal) r && eqb (a .cells) k && eqb (a .records) s && eqb (a .counts) n && holdsFrom c steps pool table
-holdsFrom c (slotIs i v ∷ steps) pool table =
-    isAt table (slotAt c i) (slotWords (c .blocks)) (versionToWords (c .blocks) v) && holdsFrom c steps pool table
-holdsFrom c (recordIs k seg ∷ steps) pool table =
-    isAt table (recordAt c k) (recordWords 8) (recordToWords seg) && holdsFrom c steps pool table
-holdsFrom c (poolIs bytes ∷ steps) pool table = sameNumbers pool bytes && holdsFrom c steps pool table
-holdsFrom c (overwrite at word ∷ steps) pool table = holdsFrom c steps pool (set table at word)
+    eqb (a .refusal) r && eqb (a .cells) k && eqb (a .records) u && eqb (a .counts) n && holdsFrom s steps pool table
+holdsFrom s (slotIs i v ∷ steps) pool table =
+    isAt table (slotAt s i) (slotWords (s .capacities .blocks)) (versionToWords (s .capacities .blocks) v) && holdsFrom s steps pool table
+holdsFrom s (recordIs k seg ∷ steps) pool table =
+    isAt table (recordAt s k) (recordWords (s .measures .segmentBlocks)) (recordToWords seg) && holdsFrom s steps pool table
+holdsFrom s (poolIs bytes ∷ steps) pool table = sameNumbers pool bytes && holdsFrom s steps pool table
+holdsFrom s (settingsAre words ∷ steps) pool table = isAt table 5 3 words && holdsFrom s steps pool table
+holdsFrom s (overwrite at word ∷ steps) pool table = holdsFrom s steps pool (set table at word)
 
 -- from buffers of ones, which an accepted lay out clears
 holds : Row → Bool
 unfolding holdsFrom
 holds row =
-    let s : Shape = shapeFor (row .capacities) in
-    let a : LayoutAnswer = layoutOf (row .capacities) (replicate (poolBytes s) 1) (replicate (tableWords s) 1) in
+    let s : Shape = row .capacities in
+    let a : LayoutAnswer = layoutOf s (replicate (poolBytes s) 1) (replicate (tableWords s) 1) in
     eqb (a .refusal) 0 && holdsFrom (row .capacities) (row .steps) (a .pool) (a .table)
 
 -- ---- the stores and images of the cases
 
+-- at the measures of the page
+atBase : Capacities → Shape
+atBase c = record { measures = baseMeasures; capacities = c }
+
 -- 1 till, 4 versions, 16 blocks per image, 8 records
-box : ℕ → Capacities
-box cells = record { tills = 1; versions = 4; blocks = 16; records = 8; cells = cells }
+box : ℕ → Shape
+box cells = atBase (record { tills = 1; versions = 4; blocks = 16; records = 8; cells = cells })
 
 -- a letter is a block filled with it; 0 is a block of zeros
 blocks : List ℕ → List ℕ
@@ -292,7 +299,7 @@ beside =
     }
     -- a run of three cells below one of two: the shorter one that is long enough is taken
     ∷ record {
-      capacities = record { tills = 4; versions = 2; blocks = 8; records = 8; cells = 7 };
+      capacities = atBase (record { tills = 4; versions = 2; blocks = 8; records = 8; cells = 7 });
       steps =
           backup 0 (blocks (letters 65 3)) 0 1
           ∷ backup 1 (blocks (81 ∷ [])) 0 1
@@ -343,7 +350,7 @@ beside =
     }
     -- two tills on one record: what one lets go of stays for the other
     ∷ record {
-      capacities = record { tills = 2; versions = 2; blocks = 8; records = 2; cells = 16 };
+      capacities = atBase (record { tills = 2; versions = 2; blocks = 8; records = 2; cells = 16 });
       steps =
           backup 0 (blocks ABCDEFGH) 0 1
           ∷ backup 1 (blocks ABCDEFGH) 0 1
@@ -370,7 +377,7 @@ beside =
     -- ---- refusals, in their order
     -- neither a record nor a run: 14; nothing is altered, also where a segment before was placed
     ∷ record {
-      capacities = record { tills = 1; versions = 2; blocks = 16; records = 1; cells = 8 };
+      capacities = atBase (record { tills = 1; versions = 2; blocks = 16; records = 1; cells = 8 });
       steps =
           backup 0 (blocks (ABCDEFGH ++ IJKLMNOP)) 14 0
           ∷ poolIs (zeros 512)
@@ -383,12 +390,12 @@ beside =
     }
     -- table length 1; lay out 1 before 2; backup 3, 4, 11
     ∷ record {
-      capacities = record { tills = 1; versions = 1; blocks = 1; records = 1; cells = 1 };
+      capacities = atBase (record { tills = 1; versions = 1; blocks = 1; records = 1; cells = 1 });
       steps =
           tableLength (box 32) 0 240
-          ∷ tableLength (record { tills = 1; versions = 65; blocks = 1; records = 1; cells = 1 }) 1 0
-          ∷ layout (record { tills = 17; versions = 1; blocks = 1; records = 1; cells = 1 }) 1
-          ∷ layout (record { tills = 1; versions = 1; blocks = 1; records = 1; cells = 2 }) 2
+          ∷ tableLength (atBase (record { tills = 1; versions = 65; blocks = 1; records = 1; cells = 1 })) 1 0
+          ∷ layout (atBase (record { tills = 17; versions = 1; blocks = 1; records = 1; cells = 1 })) 1
+          ∷ layout (atBase (record { tills = 1; versions = 1; blocks = 1; records = 1; cells = 2 })) 2
           ∷ backup 1 [] 3 0
           ∷ backup 0 [] 4 0
           ∷ backup 0 (replicate 65 7) 4 0
@@ -417,7 +424,7 @@ beside =
     }
     -- the last number given is 65,535: 12, and 11 before it; word 8 is till 0's last number
     ∷ record {
-      capacities = record { tills = 1; versions = 1; blocks = 1; records = 1; cells = 1 };
+      capacities = atBase (record { tills = 1; versions = 1; blocks = 1; records = 1; cells = 1 });
       steps =
           overwrite 8 65535
           ∷ listing 0 0 0 0 65535
@@ -445,17 +452,134 @@ beside =
     }
     ∷ []
 
-day-holds : every holds (theDay ++ beside) ≡ true
-unfolding theDay beside case1 case2 case3 case4 case5 case6 v512 to8 run8 letters ABCDEFGH ABCDEFGZ AIJKLMNO ABIJKLMN IJKLMNOP QRSTUVWX zeros blocks box holds
+-- ---- other measures
+
+-- the box with its blocks' bytes, blocks per segment and rebuild percentage
+boxOf : ℕ → ℕ → ℕ → ℕ → ℕ → Shape
+boxOf bytes segment percent blocks cells = record {
+  measures = record { blockBytes = bytes; segmentBlocks = segment; rebuildPercent = percent };
+  capacities = record { tills = 1; versions = 4; blocks = blocks; records = 8; cells = cells };
+}
+
+otherMeasures : List Row
+otherMeasures =
+    -- 0 percent: one of eight positions goes, and the others are always copied together
+    record {
+      capacities = boxOf 64 8 0 16 32;
+      steps =
+          settingsAre (64 ∷ 8 ∷ 0 ∷ [])
+          ∷ backup 0 (blocks ABCDEFGH) 0 1
+          ∷ backup 0 (blocks AIJKLMNO) 0 2
+          ∷ recordIs 0 (removed ∷ counted (λ c. held c 1) 16 7)
+          ∷ poolIs (zeros 512 ++ (blocks AIJKLMNO ++ (drop 64 (blocks ABCDEFGH) ++ zeros (64 * 9))))
+          ∷ tally 0 15 2 15
+          ∷ [];
+    }
+    -- 100 percent: seven of eight go, and the last one stays where it is
+    ∷ record {
+      capacities = boxOf 64 8 100 16 32;
+      steps =
+          backup 0 (blocks ABCDEFGH) 0 1
+          ∷ backup 0 (blocks ABCDEFGZ) 0 2
+          ∷ recordIs 0 (replicate 7 removed ++ (held 7 1 ∷ []))
+          ∷ poolIs (zeros (64 * 7) ++ (blocks (72 ∷ []) ++ (blocks ABCDEFGZ ++ zeros (64 * 16))))
+          ∷ tally 0 9 2 9
+          ∷ [];
+    }
+    -- segments of four blocks: the second one's record has two null positions; in the next image the first is shared and the second is not
+    ∷ record {
+      capacities = boxOf 64 4 20 16 16;
+      steps =
+          backup 0 (blocks (letters 65 6)) 0 1
+          ∷ recordIs 0 (counted (λ c. held c 1) 0 4)
+          ∷ recordIs 1 (held 4 1 ∷ held 5 1 ∷ nullPosition ∷ nullPosition ∷ [])
+          ∷ backup 0 (blocks (letters 65 5 ++ (71 ∷ []))) 0 2
+          ∷ recordIs 0 (counted (λ c. held c 1) 0 4)
+          ∷ recordIs 1 (removed ∷ held 8 1 ∷ nullPosition ∷ nullPosition ∷ [])
+          ∷ recordIs 2 (held 6 1 ∷ held 7 1 ∷ nullPosition ∷ nullPosition ∷ [])
+          ∷ slotIs 0 (record { number = 1; length = 384; pointers = counted indirect 0 5 ++ (direct 1 1 ∷ []) })
+          ∷ restore 0 1 (zeros 384) 0 384 1 (blocks (letters 65 6))
+          ∷ tally 0 7 3 7
+          ∷ [];
+    }
+    -- segments of sixteen: one record for the whole image
+    ∷ record {
+      capacities = boxOf 64 16 20 16 40;
+      steps =
+          backup 0 (blocks (letters 65 16)) 0 1
+          ∷ recordIs 0 (counted (λ c. held c 1) 0 16)
+          ∷ tally 0 16 1 16
+          ∷ backup 0 (blocks (letters 65 15 ++ (90 ∷ []))) 0 2
+          ∷ recordIs 0 (replicate 15 removed ++ (held 32 1 ∷ []))
+          ∷ tally 0 17 2 17
+          ∷ [];
+    }
+    -- blocks of 512 bytes: 1,000 bytes are two of them, and 2,049 bytes too many for four
+    ∷ record {
+      capacities = boxOf 512 4 20 4 4;
+      steps =
+          settingsAre (512 ∷ 4 ∷ 20 ∷ [])
+          ∷ backup 0 (replicate 2049 65) 4 0
+          ∷ backup 0 (replicate 512 65 ++ replicate 488 66) 0 1
+          ∷ poolIs (replicate 512 65 ++ (replicate 488 66 ++ zeros (24 + 1024)))
+          ∷ restore 0 1 (zeros 1000) 0 1000 0 (replicate 512 65 ++ replicate 488 66)
+          ∷ tally 0 2 1 2
+          ∷ backup 0 (replicate 512 65 ++ replicate 488 66) 0 2
+          ∷ slotIs 0 (record { number = 1; length = 1000; pointers = indirect 0 ∷ indirect 1 ∷ [] })
+          ∷ restore 0 1 (zeros 1000) 0 1000 1 (replicate 512 65 ++ replicate 488 66)
+          ∷ tally 0 2 1 2
+          ∷ [];
+    }
+    -- 64, 8 and 20 are zeros in the header, and not written out; no table has 96 bytes, 5 blocks or 101 percent
+    ∷ record {
+      capacities = box 8;
+      steps =
+          settingsAre (zeros 3)
+          ∷ backup 0 (blocks ABCDEFGH) 0 1
+          ∷ overwrite 5 64
+          ∷ overwrite 6 8
+          ∷ overwrite 7 20
+          ∷ tally 10 0 0 0
+          ∷ overwrite 7 21
+          ∷ tally 0 8 1 8
+          ∷ overwrite 7 101
+          ∷ tally 10 0 0 0
+          ∷ overwrite 7 21
+          ∷ overwrite 6 5
+          ∷ tally 10 0 0 0
+          ∷ overwrite 6 8
+          ∷ overwrite 5 96
+          ∷ tally 10 0 0 0
+          ∷ overwrite 5 0
+          ∷ tally 10 0 0 0
+          ∷ [];
+    }
+    -- a value outside: 1
+    ∷ record {
+      capacities = box 8;
+      steps =
+          tableLength (boxOf 512 16 100 128 8) 0 816
+          ∷ tableLength (boxOf 512 16 100 129 8) 1 0
+          ∷ tableLength (boxOf 96 8 20 16 8) 1 0
+          ∷ tableLength (boxOf 64 5 20 16 8) 1 0
+          ∷ tableLength (boxOf 64 8 101 16 8) 1 0
+          ∷ layout (boxOf 64 32 20 16 8) 1
+          ∷ layout (boxOf 128 8 20 16 8) 2
+          ∷ [];
+    }
+    ∷ []
+
+day-holds : every holds (theDay ++ (beside ++ otherMeasures)) ≡ true
+unfolding theDay beside otherMeasures boxOf case1 case2 case3 case4 case5 case6 v512 to8 run8 letters ABCDEFGH ABCDEFGZ AIJKLMNO ABIJKLMN IJKLMNOP QRSTUVWX zeros blocks atBase box holds
     holdsFrom isAt slotAt recordAt
-    counted every keep count total firstFrom allOf sameNumbers isIn distinct allZero largest joined parts chunks fill maskOf isWithin inRange partsFor
+    counted every keep count total firstFrom allOf sameNumbers isIn distinct allZero largest joined parts chunks fill maskOf isWithin areMeasures inRange partsFor
     tableWords poolBytes zeroBlock blockFrom blocksFrom imageBlocks segmentsFrom imageSegments freeSegment isFree cellsOf namedCells cellAt positionAt
     equals freeCells better scan findRun pointersTo newPositions nonNull share write writeRun writeRecord shareOrWrite placeSegment afterSome
     placeNext placeAll target turn turning lower lowerAll release moved clearCells freeRecord strikeOnly compact removeFrom sweepRecord sweepFrom
     sweep hopsVia endVia hops endOf blockAt tracedBlock tracedBlocks imageOf longestChain pointerWord recordToWords versionToWords tillToWords
-    headerToWords stateToWords stateToBytes shapeOf pointerOf wordToPointer positionOf positionsIn segmentIn recordsIn cellsIn shelfIn versionIn
+    isBase measureWord headerToWords stateToWords stateToBytes measuresIn shapeOf pointerOf wordToPointer positionOf positionsIn segmentIn recordsIn cellsIn shelfIn versionIn
     versionsIn tillIn tillsIn stateIn isShaped hasLength isNumbered isUsed hasCells nextPointers endsZero areTraceable isTill allPointers areCounted
-    allCounted areFilled isSound ifSound hasLengths storeAs storeOf emptyTill emptyState layoutIf layoutAs layoutOf tillOf heldFrom withTill
+    allCounted areFilled isSound ifSound hasLengths storeAs storeOf emptyTill emptyState layoutIf layoutOf tillOf heldFrom withTill
     newestPointers withNewestPointers tillWith fileIn placeAndFile Calls.backup backupAnswer backupIn backupOf restoreRefusal restoreFrom
     Calls.restore restoreIn restoreOf dropOldest isOldest isEmpty Calls.retire retireAnswer retireIn retireOf oldestNumber newestNumber listingRefusal
     listTill listingIn listingOf tallyIn tallyOf tableLengthOf

@@ -7,7 +7,7 @@ use mathlib.Core.Option.{Option, none, some}
 use lib.ListN.{length, getD, set, take, drop, replicate}
 use lib.Dec.{eqb, ltb, leb}
 use Rattle.lists.specs.Lists.{count, total}
-use Rattle.model.specs.Measures.{Measures, Capacities, Shape, shapeFor, inRange, tableWords, poolBytes}
+use Rattle.model.specs.Measures.{Shape, inRange, tableWords, poolBytes}
 use Rattle.model.specs.State.{Block, Pointer, Shelf, Version, Till, State, Outcome, refused, done}
 use Rattle.model.specs.Image.{zeroBlock, imageBlocks, imageSegments}
 use Rattle.model.specs.Records.{freeSegment, isFree, namedCells, countOf}
@@ -24,8 +24,8 @@ pub record LengthAnswer : Type 0 where
   pub refusal : ℕ
   pub words : ℕ
 
-unfoldable pub tableLengthOf : Capacities → LengthAnswer
-tableLengthOf c = cond (inRange (shapeFor c)) (record { refusal = 0; words = tableWords (shapeFor c) }) (record { refusal = 1; words = 0 })
+unfoldable pub tableLengthOf : Shape → LengthAnswer
+tableLengthOf s = cond (inRange s) (record { refusal = 0; words = tableWords s }) (record { refusal = 1; words = 0 })
 
 -- ---- lay out: 1, 2
 
@@ -51,12 +51,9 @@ layoutIf false fit s pool table = record { refusal = 1; pool = pool; table = tab
 layoutIf true false s pool table = record { refusal = 2; pool = pool; table = table }
 layoutIf true true s pool table = record { refusal = 0; pool = stateToBytes (emptyState s); table = stateToWords s (emptyState s) }
 
-unfoldable pub layoutAs : Shape → List ℕ → List ℕ → LayoutAnswer
-layoutAs s pool table =
+unfoldable pub layoutOf : Shape → List ℕ → List ℕ → LayoutAnswer
+layoutOf s pool table =
     layoutIf (inRange s) (eqb (length pool) (poolBytes s) && eqb (length table) (tableWords s)) s pool table
-
-unfoldable pub layoutOf : Capacities → List ℕ → List ℕ → LayoutAnswer
-layoutOf c pool table = layoutAs (shapeFor c) pool table
 
 -- ---- tills and versions
 

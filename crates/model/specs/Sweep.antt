@@ -89,7 +89,7 @@ compact m shelf k seg (some run) = record {
   cells = clearCells (m .blockBytes) (sets (shelf .cells) (run .start) (map (cellAt shelf) (cellsOf (keep stays seg)))) (cellsOf seg);
 }
 
--- Of its positions `r` are to go and `s` are held. 100 × r < 20 × s is the page's 5 × r < s. The record's old cells still count as occupied in
+-- Of its positions `r` are to go and `s` are held. At 20 percent 100 × r < 20 × s is 01's 5 × r < s. The record's old cells still count as occupied in
 -- `findRun`, which sees the shelf as it is before the removal.
 unfoldable pub removeFrom : Measures → Shelf → ℕ → Segment → ℕ → ℕ → Shelf
 removeFrom m shelf k seg r s =

@@ -1,15 +1,17 @@
 -- The words of a table and the bytes of a pool for a state, and the state that words and bytes are read as. docs/FORMAT.md has the picture.
---   header    tills, versions, blocks, records, cells, 0, 0, 0
+--   header    tills, versions, blocks, records, cells; block bytes, blocks per segment, rebuild percentage, or 0, 0, 0 for 64, 8, 20
 --   till      last number, held versions, 0, 0; then a slot for each version that the till can hold, the oldest first, unused ones zero
 --   slot      number, length, 0; then a pointer word for each block that an image can have, unused ones zero
 --   record    mask of held positions, mask of removed ones, 0; a cell word for each position; a count word for each position
 --   pointer   0; or 2^24 + record * 16 + position; or 2 * 2^24 + block
 use Prim.Native.Nat.{ℕ, zero, suc, _+_, _*_, _/_, _%_, min}
+use mathlib.Core.Bool.{cond}
 use mathlib.Core.List.{List, [], _∷_, _++_, map}
 use lib.ListN.{length, getD, take, drop}
+use Rattle.lists.specs.Lists.{allZero}
 use Rattle.lists.specs.Rows.{joined, rows, parts, chunks, fill}
 use Rattle.lists.specs.Masks.{maskOf}
-use Rattle.model.specs.Measures.{Measures, Capacities, Shape, baseMeasures, headerWords, slotWords, tillWords, recordWords, recordsAt, partsFor}
+use Rattle.model.specs.Measures.{Measures, Capacities, Shape, baseMeasures, isBase, headerWords, slotWords, tillWords, recordWords, recordsAt, partsFor}
 use Rattle.model.specs.State.{Block, Pointer, nullPointer, direct, indirect, Position, nullPosition, held, removed, Segment, Shelf, Version, Till, State}
 use Rattle.model.specs.Records.{isHeld, isRemoved, cellOf, countOf}
 
@@ -35,9 +37,17 @@ versionToWords b v = v .number ∷ v .length ∷ 0 ∷ fill b (map pointerWord (
 unfoldable pub tillToWords : ℕ → ℕ → Till → List ℕ
 tillToWords v b t = t .last ∷ length (t .versions) ∷ 0 ∷ 0 ∷ fill (v * slotWords b) (rows (versionToWords b) (t .versions))
 
+-- The word of a measure `n`. A table from before the measures could be chosen has zeros, and so has every table with those measures.
+unfoldable pub measureWord : Measures → ℕ → ℕ
+measureWord m n = cond (isBase m) 0 n
+
 unfoldable pub headerToWords : Shape → List ℕ
 headerToWords s =
-    s .capacities .tills ∷ s .capacities .versions ∷ s .capacities .blocks ∷ s .capacities .records ∷ s .capacities .cells ∷ 0 ∷ 0 ∷ 0 ∷ []
+    s .capacities .tills ∷ s .capacities .versions ∷ s .capacities .blocks ∷ s .capacities .records ∷ s .capacities .cells
+    ∷ measureWord (s .measures) (s .measures .blockBytes)
+    ∷ measureWord (s .measures) (s .measures .segmentBlocks)
+    ∷ measureWord (s .measures) (s .measures .rebuildPercent)
+    ∷ []
 
 unfoldable pub stateToWords : Shape → State → List ℕ
 stateToWords s st =
@@ -49,10 +59,15 @@ stateToBytes st = joined (st .shelf .cells)
 
 -- ---- from words. All of this is total: it reads something from any words, and `storeOf` tells whether they are those of what was read.
 
--- The capacities that the header gives. The base has one set of measures.
+-- from the header's last three words
+unfoldable pub measuresIn : ℕ → ℕ → ℕ → Measures
+measuresIn bytes n percent =
+    cond (allZero (bytes ∷ n ∷ percent ∷ [])) baseMeasures (record { blockBytes = bytes; segmentBlocks = n; rebuildPercent = percent })
+
+-- what the header gives
 unfoldable pub shapeOf : List ℕ → Shape
 shapeOf table = record {
-  measures = baseMeasures;
+  measures = measuresIn (getD table 5 0) (getD table 6 0) (getD table 7 0);
   capacities = record {
     tills = getD table 0 0;
     versions = getD table 1 0;

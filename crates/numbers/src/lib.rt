@@ -1,9 +1,96 @@
-// Cell, block and record numbers, each its own type so that none serves for another; pointers; and the measures of blocks and segments.
+// Cell, block and record numbers, each its own type so that none serves for another; pointers; and a store's measures.
 ghost use mathlib.Core.Path.{_≡_};
-ghost use Prim.Native.Nat.{_*_, _+_, _≤_, _<_};
-ghost use Rattle.model.specs.Measures.{baseMeasures};
+ghost use Prim.Native.Nat.{_*_, _+_, _/_, _≤_, _<_};
+ghost use Rattle.model.specs.Measures.{baseMeasures, isBase, recordWords, partsFor};
 ghost use Rattle.model.specs.State.{nullPointer, direct, indirect};
-ghost use Rattle.model.specs.Table.{pointerWord};
+ghost use Rattle.model.specs.Table.{pointerWord, measureWord, measuresIn};
+ghost use Rattle.laws.specs.Ranges.{Measured};
+ghost use Rattle.numbers.specs.Measures.{measuresOf};
+
+// A block's bytes, a segment's blocks, and the percentage from which a removal copies together.
+pub struct Measures {
+    pub bytes: usize,
+    pub blocks: usize,
+    pub percent: u32,
+}
+
+impl Measures {
+    // Those of a store from before they could be chosen.
+    pub fn base() -> Measures
+        ensures { λ r. ⌜ (measuresOf r ≡ baseMeasures) × Measured (measuresOf r) ⌝ }
+    {
+        Measures {
+            bytes: 64,
+            blocks: 8,
+            percent: 20,
+        }
+    }
+
+    // From the header's last three words. Zeros stand for the base's.
+    pub fn of_words(bytes: u32, blocks: u32, percent: u32) -> Measures
+        ensures { λ r. ⌜ measuresOf r ≡ measuresIn bytes blocks percent ⌝ }
+    {
+        if bytes != 0 {
+            return Measures::chosen(bytes, blocks, percent);
+        }
+        if blocks != 0 {
+            return Measures::chosen(bytes, blocks, percent);
+        }
+        if percent != 0 {
+            return Measures::chosen(bytes, blocks, percent);
+        }
+        Measures::base()
+    }
+
+    pub fn chosen(bytes: u32, blocks: u32, percent: u32) -> Measures
+        ensures { λ r. ⌜ measuresOf r ≡ record { blockBytes = bytes; segmentBlocks = blocks; rebuildPercent = percent } ⌝ }
+    {
+        Measures {
+            bytes: bytes as usize,
+            blocks: blocks as usize,
+            percent: percent,
+        }
+    }
+
+    fn is_base(self) -> bool
+        ensures { λ r. ⌜ r ≡ isBase (measuresOf self) ⌝ }
+    {
+        if self.bytes != 64 {
+            return false;
+        }
+        if self.blocks != 8 {
+            return false;
+        }
+        self.percent == 20
+    }
+
+    // The header's word of one of them.
+    pub fn word(self, n: u32) -> u32
+        ensures { λ r. ⌜ r ≡ measureWord (measuresOf self) n ⌝ }
+    {
+        if self.is_base() {
+            return 0;
+        }
+        n
+    }
+
+    // A segment's bytes.
+    pub fn segment_bytes(self) -> usize
+        requires { ⌜ (self .bytes ≤ 512) × (self .blocks ≤ 16) ⌝ }
+        ensures { λ r. ⌜ (r ≡ self .blocks * self .bytes) × (r ≤ 8192) ⌝ }
+    {
+        self.blocks * self.bytes
+    }
+
+    // How many segments hold an image of a length.
+    pub fn segments(self, length: usize) -> usize
+        requires { ⌜ Measured (measuresOf self) × (length ≤ 4294967295) ⌝ }
+        ensures { λ r. ⌜ r ≡ partsFor (self .blocks * self .bytes) length ⌝ }
+    {
+        let width = self.segment_bytes();
+        parts(length + (width - 1), width)
+    }
+}
 
 // A cell number counts places in the pool.
 pub struct Cell(pub u32);
@@ -30,7 +117,7 @@ impl Pointer {
 
     // To a held position of a record.
     pub fn direct(k: RecordNumber, position: u32) -> Pointer
-        requires { ⌜ (k .0 ≤ 4096) × (position < 8) ⌝ }
+        requires { ⌜ (k .0 ≤ 4096) × (position < 16) ⌝ }
         ensures { λ r. ⌜ r .0 ≡ pointerWord (direct (k .0) position) ⌝ }
     {
         let n = k.0;
@@ -48,31 +135,85 @@ impl Pointer {
 }
 
 impl Block {
+    // Of the base measures, for code that knows no others.
     pub const BYTES: usize = 64;
 
+    // The most that can be.
+    pub const MOST_BYTES: usize = 512;
+
     // The block's first byte in an image.
-    pub fn byte(self) -> usize
-        requires { ⌜ self .0 ≤ 65536 ⌝ }
-        ensures { λ r. ⌜ r ≡ self .0 * baseMeasures .blockBytes ⌝ }
+    pub fn byte(self, bytes: usize) -> usize
+        requires { ⌜ bytes ≤ 512 ⌝ }
+        ensures { λ r. ⌜ r ≡ self .0 * bytes ⌝ }
     {
         let n = self.0;
-        n as usize * Block::BYTES
+        n as usize * bytes
     }
 }
 
 impl Segment {
+    // Of the base measures, for code that knows no others.
     pub const BLOCKS: usize = 8;
 
     pub const BYTES: usize = 512;
+
+    // The most that can be.
+    pub const MOST_BLOCKS: usize = 16;
 }
 
 impl Cell {
     // The cell's first byte in the pool.
-    pub fn byte(self) -> usize
-        requires { ⌜ self .0 ≤ 65536 ⌝ }
-        ensures { λ r. ⌜ r ≡ self .0 * baseMeasures .blockBytes ⌝ }
+    pub fn byte(self, bytes: usize) -> usize
+        requires { ⌜ bytes ≤ 512 ⌝ }
+        ensures { λ r. ⌜ r ≡ self .0 * bytes ⌝ }
     {
         let n = self.0;
-        n as usize * Block::BYTES
+        n as usize * bytes
     }
+}
+
+impl RecordNumber {
+    // The most that can be: no record has this number.
+    pub const MOST: u32 = 4096;
+
+    // The record's first word, where records have so many positions.
+    pub fn word(self, positions: usize) -> usize
+        requires { ⌜ positions ≤ 16 ⌝ }
+        ensures { λ r. ⌜ r ≡ self .0 * recordWords positions ⌝ }
+    {
+        let n = self.0;
+        n as usize * row_words(positions)
+    }
+}
+
+// How many words a record of so many positions has: the two masks, a zero, the cells, the counts.
+pub fn row_words(positions: usize) -> usize
+    requires { ⌜ positions ≤ 16 ⌝ }
+    ensures { λ r. ⌜ (r ≡ recordWords positions) × (r ≤ 35) ⌝ }
+{
+    3 + 2 * positions
+}
+
+// How many parts of a width there are in a length: cells in a pool.
+pub fn parts(length: usize, width: usize) -> usize
+    requires { ⌜ 0 < width ⌝ }
+    ensures { λ r. ⌜ r ≡ length / width ⌝ }
+{
+    length / width
+}
+
+// How many records of so many positions there are in so many words.
+pub fn rows(words: usize, positions: usize) -> usize
+    requires { ⌜ positions ≤ 16 ⌝ }
+    ensures { λ r. ⌜ r ≡ words / recordWords positions ⌝ }
+{
+    parts(words, row_words(positions))
+}
+
+// How many parts of a width hold a length: blocks of an image.
+pub fn parts_for(width: usize, length: usize) -> usize
+    requires { ⌜ (0 < width) × (width ≤ 512) × (length ≤ 4294967295) ⌝ }
+    ensures { λ r. ⌜ r ≡ partsFor width length ⌝ }
+{
+    parts(length + (width - 1), width)
 }

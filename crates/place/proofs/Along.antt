@@ -2,105 +2,120 @@
 use mathlib.Core.Path.{_∙_, _≡_, ap, ap₂, refl, subst, sym}
 use mathlib.Core.Bool.{Bool}
 use mathlib.Core.List.{List, [], _++_, _∷_, append-assoc, map, map-append}
-use Prim.Native.Nat.{_*_, _+_, _-_, _/_, _<_, _≤_, suc, zero, ℕ}
+use Prim.Native.Nat.{_*_, _+_, _-_, _<_, _≤_, suc, zero, ℕ}
+use native.Mathlib.Nat.{zero-mul}
 use native.Mathlib.Numerals.{add-one}
 use native.Mathlib.Omega.{arith}
 use lib.ListN.{drop, getD, length, length-append, length-drop, length-set, set, take}
 use lib.Seq.{getD-set-other, getD-set-same, length-take-le, take-all, take-at}
-use Rattle.lists.specs.Walk.{placed}
+use Rattle.lists.proofs.Places.{row-next, row-room}
 use Rattle.model.specs.Image.{blocksFrom, imageSegments, segmentsFrom}
-use Rattle.model.specs.Measures.{baseMeasures, partsFor}
+use Rattle.model.specs.Measures.{Measures}
 use Rattle.model.specs.Place.{Placed, afterSome, placeAll, placeNext, placeSegment}
 use Rattle.model.specs.Runs.{freeCells}
 use Rattle.model.specs.State.{Block, Outcome, Pointer, Shelf, done, refused}
 use Rattle.model.specs.Table.{pointerWord, recordsIn, shelfIn}
+use Rattle.laws.proofs.Measures.{parts-few, parts-least}
+use Rattle.laws.specs.Ranges.{Measured}
+use Rattle.numbers.proofs.Products.{segment-some}
+use Rattle.shelf.specs.Stored.{Countable, Stored, Told}
+use Rattle.shelf.proofs.Read.{records-of, shelf-read, stored-again}
 use Rattle.place_one.specs.Did.{Did, Done}
 use Rattle.place_seek.specs.Seek.{RestFree}
-use Rattle.place_undo.specs.Undo.{Holds, Steps, undoMark, undoUpto}
-use Rattle.place_words.specs.Marks.{mark}
-use Rattle.place_words.specs.Stored.{Stored, Wf, bytesOf, wordsOf}
-use Rattle.place_words.proofs.Reading.{shelf-records}
-use Rattle.place_words.proofs.Storing.{Back, pool-back, stored-back, words-back}
-use Rattle.place.specs.All.{DidAll, segmentsIn}
+use Rattle.place_undo.specs.Undo.{undoRecord, undoUpto}
+use Rattle.place.specs.All.{DidAll, placedIn, segmentsIn}
+use Rattle.place.proofs.Keeping.{counts-wider, placed-counts, placed-exact}
 use Rattle.place.proofs.Rest.{rest-after}
-use Rattle.place.proofs.Wider.{stored-wider, wf-wider}
 
--- ---- marks
+-- ---- the records of the placings
 
-upto-set : (placed : List ℕ) (j k m : ℕ) (s : Shelf) → k ≤ j → undoUpto (set placed j m) k s ≡ undoUpto placed k s
+upto-set : (m : Measures) (placed : List ℕ) (j k r : ℕ) (s : Shelf) → k ≤ j → undoUpto m (set placed j r) k s ≡ undoUpto m placed k s
 unfolding undoUpto
-upto-set placed j zero m s h = refl
-upto-set placed j (suc k) m s h =
-    rw (getD-set-other placed j k m 0 (λ e. omega arith)) (upto-set placed j k m (undoMark s (getD placed k 0)) (omega arith))
+upto-set m placed j zero r s h = refl
+upto-set m placed j (suc k) r s h =
+    rw (getD-set-other placed j k r 0 (λ e. omega arith)) (upto-set m placed j k r (undoRecord m s (getD placed k 0)) (omega arith))
 
-steps-set : (placed : List ℕ) (j k m : ℕ) (s : Shelf) → k ≤ j → Steps placed k s → Steps (set placed j m) k s
-unfolding Steps
-steps-set placed j zero m s h p = tt
-steps-set placed j (suc k) m s h p =
-    rw (getD-set-other placed j k m 0 (λ e. omega arith)) (p .0, p .1, steps-set placed j k m (undoMark s (getD placed k 0)) (omega arith) (p .2))
+-- one placing more
+upto-more : (m : Measures) (placed : List ℕ) (j r : ℕ) → j < length placed → (s t : Shelf) → undoRecord m t r ≡ s → undoUpto m (set placed j r) (j + 1) t ≡ undoUpto m placed j s
+unfolding undoUpto
+upto-more m placed j r h s t e = rw (add-one j, getD-set-same placed j r 0 h, e) (upto-set m placed j j r s (omega arith))
 
-module _ (placed : List ℕ) (j m : ℕ) (h : j < length placed) (s t : Shelf) (e : undoMark t m ≡ s) where
-  upto-more : undoUpto (set placed j m) (j + 1) t ≡ undoUpto placed j s
-  unfolding undoUpto
-  upto-more = rw (add-one j, getD-set-same placed j m 0 h, e) (upto-set placed j j m s (omega arith))
+-- ---- the words: w in place of the n from `at` on
 
-  steps-more : m ≤ length (t .records) → Wf 4294967295 s → Steps placed j s → Steps (set placed j m) (j + 1) t
-  unfolding Steps
-  steps-more l wf p = rw (add-one j, getD-set-same placed j m 0 h, e) (l, wf, steps-set placed j j m s (omega arith) p)
+module _ (words w : List ℕ) (at n : ℕ) (h : at + n ≤ length words) (e : length w ≡ n) where
+  words-more : take (at + n) (take at words ++ (w ++ drop n (drop at words))) ≡ take at words ++ w
+  words-more =
+      let p : length (take at words ++ w) ≡ at + n = rw (length-append (take at words) w) (omega (arith, length-take-le at words (omega arith))) in
+      ap (take (at + n)) (sym (append-assoc (take at words) w (drop n (drop at words)))) ∙ take-at (take at words ++ w) (drop n (drop at words)) (at + n) p
 
--- ---- the words
-
-words-more : (words w : List ℕ) (j : ℕ) → j * 8 + 8 ≤ length words → length w ≡ 8
-    → take ((j + 1) * 8) (take (j * 8) words ++ (w ++ drop 8 (drop (j * 8) words))) ≡ take (j * 8) words ++ w
-words-more words w j h e =
-    let p : (j + 1) * 8 ≡ length (take (j * 8) words ++ w) = rw (length-append (take (j * 8) words) w) (omega (arith, length-take-le (j * 8) words (omega arith))) in
-    ap (take ((j + 1) * 8)) (sym (append-assoc (take (j * 8) words) w (drop 8 (drop (j * 8) words)))) ∙ take-at (take (j * 8) words ++ w) (drop 8 (drop (j * 8) words)) ((j + 1) * 8) (sym p)
+  words-same : length (take at words ++ (w ++ drop n (drop at words))) ≡ length words
+  words-same =
+      length-append (take at words) (w ++ drop n (drop at words))
+      ∙ (let y : length (take at words) + length (w ++ drop n (drop at words)) ≡ length words =
+      omega (arith, length-append w (drop n (drop at words)), length-take-le at words (omega arith), length-drop n (drop at words), length-drop at words) in y)
 
 -- ---- the segments
 
-segments-next : (image : List ℕ) (at n : ℕ) → 0 < n → segmentsFrom 64 8 image at n ≡ blocksFrom 64 image at 8 ∷ segmentsFrom 64 8 image (at + 512) (n - 1)
+-- of n segments j are done: the next one, and those after it
+segments-next : (bytes k : ℕ) (image : List ℕ) (at n j : ℕ) → j < n → segmentsFrom bytes k image at (n - j) ≡ blocksFrom bytes image at k ∷ segmentsFrom bytes k image (at + k * bytes) (n - (j + 1))
 unfolding segmentsFrom
-segments-next image at zero h = absurd (omega arith)
-segments-next image at (suc n) h = let e : suc n - 1 ≡ n = omega arith in rw e
+segments-next bytes k image at n j h = let e : n - j ≡ suc (n - (j + 1)) = omega arith in rw e
 
 all-refused : (n : ℕ) (segs : List (List Block)) → placeAll (refused n) segs ≡ refused n
 unfolding placeAll placeNext
 all-refused n [] = refl
 all-refused n (seg ∷ segs) = all-refused n segs
 
+module _ (m : Measures) (image : List ℕ) (ok : Measured m) where
+  abbrev width : ℕ
+  width = m .segmentBlocks * m .blockBytes
+
+  some-width : 256 ≤ width
+  some-width = segment-some (m .segmentBlocks) (m .blockBytes) (ok .someBlocks) (ok .someBytes)
+
+  -- at most 256
+  pub few-segments : length image ≤ 65536 → segmentsIn m image ≤ 256
+  few-segments h = parts-least width (length image) 256 (omega (arith, some-width)) (omega (arith, some-width))
+
+  -- each begins within the image
+  pub segment-begins : length image ≤ 65536 → (j : ℕ) → j < segmentsIn m image → j * width < 65536
+  segment-begins h j l = omega (arith, parts-few width (length image) (omega (arith, some-width)), row-room j (segmentsIn m image) width l)
+
 -- `j` segments are placed
-pub record Along (image : List ℕ) (pool₀ ws₀ : List ℕ) (free₀ : List Bool) (placed₀ words₀ : List ℕ) (n used : ℕ) (pool ws : List ℕ) (free : List Bool) (placed words : List ℕ) (from j : ℕ) : Type 0 where
+pub record Along (m : Measures) (image pool₀ ws₀ : List ℕ) (free₀ : List Bool) (placed₀ words₀ : List ℕ) (n used : ℕ) (pool ws : List ℕ) (free : List Bool) (placed words : List ℕ) (from first j : ℕ) : Type 0 where
   pub within : j ≤ n
-  pub begins : from ≡ j * 512
+  pub all : n ≡ segmentsIn m image
+  pub begins : from ≡ j * (m .segmentBlocks * m .blockBytes)
+  pub starts : first ≡ j * m .segmentBlocks
   pub pointers : List Pointer
-  pub stored : Stored 4294967295 pool ws
-  pub wf : Wf (2147483648 + j) (shelfIn baseMeasures pool ws)
-  pub cells : free ≡ freeCells (shelfIn baseMeasures pool ws)
-  pub rest : RestFree (used + j) (shelfIn baseMeasures pool ws .records)
-  pub written : take (j * 8) words ≡ map pointerWord pointers
-  pub left : placeAll (done (record { shelf = shelfIn baseMeasures pool ws; pointers = pointers })) (segmentsFrom 64 8 image from (n - j)) ≡ placeAll (done (record { shelf = shelfIn baseMeasures pool₀ ws₀; pointers = [] })) (imageSegments 64 8 image)
-  pub steps : Steps placed j (shelfIn baseMeasures pool ws)
-  pub back : undoUpto placed j (shelfIn baseMeasures pool ws) ≡ shelfIn baseMeasures pool₀ ws₀
+  pub stored : Stored m pool ws
+  pub counts : Countable (2147483648 + j) (recordsIn (m .segmentBlocks) ws)
+  pub cells : free ≡ freeCells (shelfIn m pool ws)
+  pub rest : RestFree (used + j) (recordsIn (m .segmentBlocks) ws)
+  pub written : take first words ≡ map pointerWord pointers
+  pub left : placeAll (done (record { shelf = shelfIn m pool ws; pointers = pointers })) (segmentsFrom (m .blockBytes) (m .segmentBlocks) image from (n - j)) ≡ placedIn m image pool₀ ws₀
+  pub back : undoUpto m placed j (shelfIn m pool ws) ≡ shelfIn m pool₀ ws₀
   pub samePool : length pool ≡ length pool₀
   pub sameTable : length ws ≡ length ws₀
   pub sameFree : length free ≡ length free₀
   pub samePlaced : length placed ≡ length placed₀
   pub sameWords : length words ≡ length words₀
 
-pub along-start : (image pool ws : List ℕ) (free : List Bool) (placed words : List ℕ) (n used : ℕ) → n ≡ segmentsIn image → Stored 2147483648 pool ws → free ≡ freeCells (shelfIn baseMeasures pool ws) → RestFree used (recordsIn 8 ws)
-    → Along image pool ws free placed words n used pool ws free placed words 0 0
-unfolding Steps undoUpto imageSegments partsFor shelfIn
-along-start image pool ws free placed words n used e st c r = record {
+pub along-start : (m : Measures) (image pool ws : List ℕ) (free : List Bool) (placed words : List ℕ) (n used : ℕ) → n ≡ segmentsIn m image → Stored m pool ws → Countable 2147483648 (recordsIn (m .segmentBlocks) ws)
+    → free ≡ freeCells (shelfIn m pool ws) → RestFree used (recordsIn (m .segmentBlocks) ws) → Along m image pool ws free placed words n used pool ws free placed words 0 0 0
+unfolding undoUpto imageSegments
+along-start m image pool ws free placed words n used e st k c r = record {
   within = omega arith;
-  begins = refl;
+  all = e;
+  begins = sym (zero-mul (m .segmentBlocks * m .blockBytes));
+  starts = sym (zero-mul (m .segmentBlocks));
   pointers = [];
-  stored = stored-wider 2147483648 4294967295 pool ws (omega arith) (omega arith) st;
-  wf = wf-wider 2147483648 (2147483648 + 0) (shelfIn baseMeasures pool ws) (omega arith) (st .wf);
+  stored = st;
+  counts = counts-wider 2147483648 _ k (2147483648 + 0) (omega arith);
   cells = c;
-  rest = λ k h l. r k (omega arith) l;
+  rest = λ j h l. r j (omega arith) l;
   written = refl;
-  left = let z : n - 0 ≡ (length image + 511) / 512 = omega arith in rw z;
-  steps = tt;
+  left = let z : n - 0 ≡ segmentsIn m image = omega arith in rw z;
   back = refl;
   samePool = refl;
   sameTable = refl;
@@ -109,95 +124,84 @@ along-start image pool ws free placed words n used e st c r = record {
   sameWords = refl;
 }
 
-module _ {image pool₀ ws₀ : List ℕ} {free₀ : List Bool} {placed₀ words₀ : List ℕ} {n used : ℕ} {pool ws : List ℕ} {free : List Bool} {placed words : List ℕ} {from j : ℕ}
-    (a : Along image pool₀ ws₀ free₀ placed₀ words₀ n used pool ws free placed words from j) where
+module _ {m : Measures} {image pool₀ ws₀ : List ℕ} {free₀ : List Bool} {placed₀ words₀ : List ℕ} {n used : ℕ} {pool ws : List ℕ} {free : List Bool} {placed words : List ℕ} {from first j : ℕ}
+    (a : Along m image pool₀ ws₀ free₀ placed₀ words₀ n used pool ws free placed words from first j) where
   abbrev s : Shelf
-  s = shelfIn baseMeasures pool ws
+  s = shelfIn m pool ws
 
-  abbrev all : Outcome Placed
-  all = placeAll (done (record { shelf = shelfIn baseMeasures pool₀ ws₀; pointers = [] })) (imageSegments 64 8 image)
+  abbrev k : ℕ
+  k = m .segmentBlocks
+
+  abbrev seg : List Block
+  seg = blocksFrom (m .blockBytes) image from k
 
   -- one more
-  step-left : (h : j < n) → placeAll (afterSome (a .pointers) (placeSegment s (blocksFrom 64 image from 8))) (segmentsFrom 64 8 image (from + 512) (n - (j + 1))) ≡ all
+  step-left : j < n → placeAll (afterSome (a .pointers) (placeSegment s seg)) (segmentsFrom (m .blockBytes) k image (from + k * m .blockBytes) (n - (j + 1))) ≡ placedIn m image pool₀ ws₀
   unfolding placeAll placeNext
-  step-left h =
-      let z : n - j - 1 ≡ n - (j + 1) = omega arith in
-      (rw (segments-next image from (n - j) (omega arith), z) at (a .left))
+  step-left h = rw (segments-next (m .blockBytes) k image from n j h) at (a .left)
 
-  module _ (h : j < n) (most : n ≤ 128) (hp : length placed₀ ≡ 128) (hw : length words₀ ≡ n * 8) where
-    pub along-step : (r mark : ℕ) (pool′ ws′ : List ℕ) (free′ : List Bool) (w : List ℕ) → length pool′ ≡ length pool → length ws′ ≡ length ws → length free′ ≡ length free → length w ≡ 8
-        → Did s (placeSegment s (blocksFrom 64 image from 8)) r mark pool ws pool′ ws′ free′ w → r ≡ 0
-        → Along image pool₀ ws₀ free₀ placed₀ words₀ n used pool′ ws′ free′ (set placed j mark) (take (j * 8) words ++ (w ++ drop 8 (drop (j * 8) words))) (from + 512) (j + 1)
+  -- room for the next segment's pointers
+  pub along-room : j < n → length words₀ ≡ segmentsIn m image * k → first + k ≤ length words
+  along-room h hw = omega (arith, hw, a .starts, a .sameWords, ap (λ (x : ℕ). x * k) (a .all), row-room j n k h)
+
+  module _ (h : j < n) (hp : j < length placed₀) (hw : length words₀ ≡ segmentsIn m image * k) (width : ℕ) (ew : width ≡ k * m .blockBytes) where
+    pub along-step : (r i : ℕ) (pool′ ws′ : List ℕ) (free′ : List Bool) (w : List ℕ) → length pool′ ≡ length pool → length ws′ ≡ length ws → length free′ ≡ length free → length w ≡ k
+        → Did m s (placeSegment s seg) r i pool ws pool′ ws′ free′ w → r ≡ 0
+        → Along m image pool₀ ws₀ free₀ placed₀ words₀ n used pool′ ws′ free′ (set placed j i) (take first words ++ (w ++ drop k (drop first words))) (from + width) (first + k) (j + 1)
     unfolding afterSome
-    along-step r mark pool′ ws′ free′ w np nw nf lw d z = go (placeSegment s (blocksFrom 64 image from 8)) refl d
+    along-step r i pool′ ws′ free′ w np nw nf lw d z = go (placeSegment s seg) refl d
       where
-        go : (o : Outcome Placed) → placeSegment s (blocksFrom 64 image from 8) ≡ o → Did s o r mark pool ws pool′ ws′ free′ w
-            → Along image pool₀ ws₀ free₀ placed₀ words₀ n used pool′ ws′ free′ (set placed j mark) (take (j * 8) words ++ (w ++ drop 8 (drop (j * 8) words))) (from + 512) (j + 1)
-        go (refused k) e q = absurd (omega (arith, q .0, q .1))
+        go : (o : Outcome Placed) → placeSegment s seg ≡ o → Did m s o r i pool ws pool′ ws′ free′ w
+            → Along m image pool₀ ws₀ free₀ placed₀ words₀ n used pool′ ws′ free′ (set placed j i) (take first words ++ (w ++ drop k (drop first words))) (from + width) (first + k) (j + 1)
+        go (refused x) e q = absurd (omega (arith, q .0, q .1))
         go (done p) e q =
-            let f : Done s p mark pool′ ws′ free′ w = q .1 in
-            let wf : Wf (2147483648 + j + 1) (p .shelf) = f .keeps (2147483648 + j) (omega arith) (a .wf) in
-            let b : Back 4294967295 (p .shelf) pool′ ws′ = stored-back 4294967295 (p .shelf) pool′ ws′ (omega arith) (wf-wider (2147483648 + j + 1) 4294967295 (p .shelf) (omega arith) wf) (f .bytes) (f .table) in
-            let lengthBack : length (p .shelf .records) ≡ length (s .records) = records-same p b in
-            let lo : j * 8 + 8 ≤ length words = omega (arith, a .sameWords) in
+            let f : Done m s p i pool′ ws′ free′ w = q .1 in
+            let b : shelfIn m pool′ ws′ ≡ p .shelf = shelf-read m (a .stored .measured) pool′ ws′ (p .shelf) (f .told) in
+            let br : recordsIn k ws′ ≡ p .shelf .records = sym (records-of m pool′ ws′) ∙ ap (λ (x : Shelf). x .records) b in
+            let lo : first + k ≤ length words = along-room h hw in
             record {
               within = omega arith;
-              begins = omega (arith, a .begins);
+              all = a .all;
+              begins = omega (arith, a .begins, row-next j (k * m .blockBytes));
+              starts = omega (arith, a .starts, row-next j k);
               pointers = a .pointers ++ p .pointers;
-              stored = b .stored;
-              wf = rw (b .shelf) (let y : 2147483648 + j + 1 ≡ 2147483648 + (j + 1) = omega arith in subst (λ (x : ℕ). Wf x (p .shelf)) y wf);
-              cells = f .cells ∙ ap freeCells (sym (b .shelf));
-              rest = rw (b .shelf) (λ k l m. rest-after s (blocksFrom 64 image from 8) (used + j) (a .rest) p e k (omega arith) m);
-              written = words-more words w j lo lw ∙ ap₂ (λ (x y : List ℕ). x ++ y) (a .written) (f .pointers) ∙ sym (map-append pointerWord (a .pointers) (p .pointers));
-              left = rw (b .shelf) (rw e at (step-left h));
-              steps = rw (b .shelf) (steps-more placed j mark (omega (arith, a .samePlaced)) s (p .shelf) (f .undo) (omega (arith, f .small)) (a .stored .wf) (a .steps));
-              back = rw (b .shelf) (upto-more placed j mark (omega (arith, a .samePlaced)) s (p .shelf) (f .undo) ∙ a .back);
+              stored = stored-again m pool ws pool′ ws′ (p .shelf) (a .stored) (f .told) (placed-exact s (a .stored .exact) seg p e) np nw;
+              counts =
+                  let y : 2147483648 + j + 1 ≡ 2147483648 + (j + 1) = omega arith in
+                  rw br (subst (λ (x : ℕ). Countable x (p .shelf .records)) y (placed-counts (2147483648 + j) s (omega arith) (rw (records-of m pool ws) (a .counts)) seg p e));
+              cells = f .cells ∙ ap freeCells (sym b);
+              rest = rw br (λ x l y. rest-after s seg (used + j) (rw (records-of m pool ws) (a .rest)) p e x (omega arith) y);
+              written = words-more words w first k lo lw ∙ ap₂ (λ (x y : List ℕ). x ++ y) (a .written) (f .pointers) ∙ sym (map-append pointerWord (a .pointers) (p .pointers));
+              left = rw (b, ew) (rw e at (step-left h));
+              back = rw b (upto-more m placed j i (omega (arith, a .samePlaced)) s (p .shelf) (f .undo) ∙ a .back);
               samePool = np ∙ a .samePool;
               sameTable = nw ∙ a .sameTable;
               sameFree = nf ∙ a .sameFree;
-              samePlaced = length-set placed j mark ∙ a .samePlaced;
-              sameWords = same-words lo lw ∙ a .sameWords;
+              samePlaced = length-set placed j i ∙ a .samePlaced;
+              sameWords = words-same words w first k lo lw ∙ a .sameWords;
             }
-          where
-            records-same : (p : Placed) → Back 4294967295 (p .shelf) pool′ ws′ → length (p .shelf .records) ≡ length (s .records)
-            records-same p b =
-                sym (ap (λ (x : Shelf). length (x .records)) (b .shelf)) ∙ shelf-records pool′ ws′ ∙ ap (λ (x : ℕ). x / 19) nw ∙ sym (shelf-records pool ws)
 
-            same-words : j * 8 + 8 ≤ length words → length w ≡ 8 → length (take (j * 8) words ++ (w ++ drop 8 (drop (j * 8) words))) ≡ length words
-            same-words lo lw =
-                length-append (take (j * 8) words) (w ++ drop 8 (drop (j * 8) words))
-                ∙ (let y : length (take (j * 8) words) + length (w ++ drop 8 (drop (j * 8) words)) ≡ length words =
-                omega (arith, length-append w (drop 8 (drop (j * 8) words)), length-take-le (j * 8) words (omega arith), length-drop 8 (drop (j * 8) words), length-drop (j * 8) words) in y)
+  -- refused: the buffers are as they were before this segment
+  pub along-stop : j < n → (r i : ℕ) (pool′ ws′ : List ℕ) (free′ : List Bool) (w : List ℕ) → Did m s (placeSegment s seg) r i pool ws pool′ ws′ free′ w → (r ≡ 0 → ⊥)
+      → (pool′ ≡ pool) × (ws′ ≡ ws) × (placedIn m image pool₀ ws₀ ≡ refused r)
+  unfolding afterSome
+  along-stop h r i pool′ ws′ free′ w d z = go (placeSegment s seg) refl d
+    where
+      go : (o : Outcome Placed) → placeSegment s seg ≡ o → Did m s o r i pool ws pool′ ws′ free′ w → (pool′ ≡ pool) × (ws′ ≡ ws) × (placedIn m image pool₀ ws₀ ≡ refused r)
+      go (refused x) e q =
+          (q .2, q .3, sym (rw e at (step-left h)) ∙ all-refused x (segmentsFrom (m .blockBytes) k image (from + k * m .blockBytes) (n - (j + 1))) ∙ ap {B = Outcome Placed} (λ (y : ℕ). refused y) (sym (q .0)))
+      go (done p) e q = absurd (z (q .0))
 
-    -- refused
-    pub along-stop : (r mark : ℕ) (pool′ ws′ : List ℕ) (free′ : List Bool) (w : List ℕ)
-        → Did s (placeSegment s (blocksFrom 64 image from 8)) r mark pool ws pool′ ws′ free′ w → (r ≡ 0 → ⊥)
-        → Stored 4294967295 pool′ ws′ × Steps placed j (shelfIn baseMeasures pool′ ws′) × (undoUpto placed j (shelfIn baseMeasures pool′ ws′) ≡ shelfIn baseMeasures pool₀ ws₀) × (all ≡ refused r)
-    unfolding afterSome
-    along-stop r mark pool′ ws′ free′ w d z = go (placeSegment s (blocksFrom 64 image from 8)) refl d
-      where
-        go : (o : Outcome Placed) → placeSegment s (blocksFrom 64 image from 8) ≡ o → Did s o r mark pool ws pool′ ws′ free′ w
-            → Stored 4294967295 pool′ ws′ × Steps placed j (shelfIn baseMeasures pool′ ws′) × (undoUpto placed j (shelfIn baseMeasures pool′ ws′) ≡ shelfIn baseMeasures pool₀ ws₀) × (all ≡ refused r)
-        go (refused k) e q =
-            rw (q .2, q .3) (a .stored, a .steps, a .back, sym (rw e at (step-left h)) ∙ all-refused k (segmentsFrom 64 8 image (from + 512) (n - (j + 1))) ∙ ap {B = Outcome Placed} (λ (x : ℕ). refused x) (sym (q .0)))
-        go (done p) e q = absurd (z (q .0))
+  -- and those before it are taken back
+  pub along-undone : Stored m pool₀ ws₀ → (r : ℕ) (pool′ ws′ pool″ ws″ words′ : List ℕ) → pool′ ≡ pool → ws′ ≡ ws → placedIn m image pool₀ ws₀ ≡ refused r
+      → Told m pool″ ws″ (undoUpto m placed j (shelfIn m pool′ ws′)) → DidAll m (placedIn m image pool₀ ws₀) r pool₀ ws₀ pool″ ws″ words′
+  along-undone st r pool′ ws′ pool″ ws″ words′ ep ew f t =
+      let d : Told m pool″ ws″ (shelfIn m pool₀ ws₀) = rw (ep, ew, a .back) at t in
+      rw f (refl, d .cells .joins ∙ sym (st .told .cells .joins), d .records .words ∙ sym (st .told .records .words))
 
-  pub along-undone : Stored 2147483648 pool₀ ws₀ → (r : ℕ) (t : Shelf) (pool′ ws′ words′ : List ℕ) → t ≡ shelfIn baseMeasures pool₀ ws₀ → all ≡ refused r → Holds t pool′ ws′ → DidAll all r pool₀ ws₀ pool′ ws′ words′
-  unfolding shelfIn
-  along-undone st r t pool′ ws′ words′ e f q =
-      rw f (refl, q .bytes ∙ ap (λ (x : Shelf). bytesOf (x .cells)) e ∙ sym (pool-back st), q .table ∙ ap (λ (x : Shelf). wordsOf (x .records)) e ∙ sym (words-back st))
-
-  pub along-end : j ≡ n → length words₀ ≡ n * 8 → DidAll all 0 pool₀ ws₀ pool ws words
-  unfolding segmentsFrom placeAll shelfIn
+  pub along-end : j ≡ n → length words₀ ≡ segmentsIn m image * k → DidAll m (placedIn m image pool₀ ws₀) 0 pool₀ ws₀ pool ws words
+  unfolding segmentsFrom placeAll
   along-end e hw =
       let z : n - j ≡ 0 = omega arith in
-      let f : done (record { shelf = s; pointers = a .pointers }) ≡ all = rw z at (a .left) in
-      rw (← f) (
-        refl,
-        record {
-          bytes = pool-back (a .stored);
-          table = words-back (a .stored);
-          pointers = sym (take-all (j * 8) words (omega (arith, a .sameWords))) ∙ a .written;
-          wf = a .stored .wf;
-        },
-      )
+      let f : done (record { shelf = s; pointers = a .pointers }) ≡ placedIn m image pool₀ ws₀ = rw z at (a .left) in
+      rw (← f) (refl, record { told = a .stored .told; pointers = sym (take-all first words (omega (arith, a .starts, a .sameWords, ap (λ (x : ℕ). x * k) (e ∙ a .all)))) ∙ a .written })

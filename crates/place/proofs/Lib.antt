@@ -1,5 +1,5 @@
 -- Laws of placing all segments.
-pub mod Wider
+pub mod Keeping
+pub mod Marked
 pub mod Rest
 pub mod Along
-pub mod Marked

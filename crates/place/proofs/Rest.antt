@@ -1,20 +1,20 @@
 -- A segment takes at most one of the records that are free up to the last.
 use mathlib.Core.Path.{_∙_, _≡_, refl, subst, sym}
-use mathlib.Core.Bool.{Bool, cond, false, false≢true, true}
+use mathlib.Core.Bool.{Bool, false, false≢true, true}
 use mathlib.Core.List.{List, [], _∷_, map}
-use mathlib.Core.Option.{Option, none, some}
+use mathlib.Core.Option.{some}
 use Prim.Native.Nat.{_+_, _<_, _≤_, ℕ}
 use native.Mathlib.Omega.{arith}
 use lib.Dec.{eqb, ltb}
 use lib.ListN.{getD, length, length-set, set}
 use lib.Seq.{getD-set-other, getD-set-same}
 use borrow.Author.Tests.{eqb-false, eqb-true, ltb-false, ltb-true}
-use Rattle.lists.specs.Lists.{allZero, every, firstFrom}
+use Rattle.lists.specs.Lists.{every, firstFrom}
 use Rattle.lists.proofs.First.{Lowest, first-lowest}
-use Rattle.model.specs.Place.{Placed, oneMore, placeSegment, share, shareOrWrite, write, writeRecord, writeRun}
-use Rattle.model.specs.Records.{equals, isFree}
-use Rattle.model.specs.Runs.{Run}
-use Rattle.model.specs.State.{Block, Outcome, Segment, Shelf, done, held, nullPointer, nullPosition, refused, removed}
+use Rattle.model.specs.Place.{Placed, newPositions, oneMore, placeSegment, share, write}
+use Rattle.model.specs.Records.{isFree}
+use Rattle.model.specs.State.{Block, Segment, Shelf, done, held, nullPosition, removed}
+use Rattle.laws.proofs.Segments.{IfDone, segment-cases}
 use Rattle.place_seek.specs.Seek.{RestFree}
 
 free-more : (ps : Segment) → isFree ps ≡ true → isFree (map oneMore ps) ≡ true
@@ -50,37 +50,10 @@ module _ (u : ℕ) (rs : List Segment) (r : RestFree u rs) where
       go true q = absurd (false≢true (sym (w .4 u (omega (arith, ltb-true u k q, w .1))) ∙ r u (omega arith) (omega (arith, ltb-true u k q, w .1, w .2))))
       go false q = omega (arith, ltb-false u k q)
 
-module _ (s : Shelf) (seg : List Block) (u : ℕ) (r : RestFree u (s .records)) where
-  abbrev After : Outcome Placed → Type 0
-  After (refused n) = Unit {0}
-  After (done p) = RestFree (u + 1) (p .shelf .records)
-
-  after-share : (k : ℕ) → After (done (share s seg k))
-  unfolding share
-  after-share k = rest-set u (s .records) r k (map oneMore (getD (s .records) k [])) (λ h l. free-more (getD (s .records) k []) (r k (omega arith) l))
-
-  after-run : (k : ℕ) → k ≤ u → (run : Option Run) → After (writeRun s seg k run)
-  unfolding writeRun write
-  after-run k h none = tt
-  after-run k h (some run) = rest-set u (s .records) r k _ (λ g l. absurd (omega arith))
-
-  after-record : (o : Option ℕ) → firstFrom isFree 0 (s .records) ≡ o → After (writeRecord s seg o)
-  unfolding writeRecord
-  after-record none e = tt
-  after-record (some k) e = after-run k (lowest-free u (s .records) r k e) _
-
-  after-found : (o : Option ℕ) → After (shareOrWrite s seg o)
-  unfolding shareOrWrite
-  after-found none = after-record (firstFrom isFree 0 (s .records)) refl
-  after-found (some k) = after-share k
-
-  after : After (placeSegment s seg)
-  unfolding placeSegment
-  after = go (every allZero seg)
-    where
-      go : (t : Bool) → After (cond t (done (record { shelf = s; pointers = map (λ b. nullPointer) seg })) (shareOrWrite s seg (firstFrom (equals s seg) 0 (s .records))))
-      go true = λ j h l. r j (omega arith) l
-      go false = after-found (firstFrom (equals s seg) 0 (s .records))
-
-  pub rest-after : (p : Placed) → placeSegment s seg ≡ done p → RestFree (u + 1) (p .shelf .records)
-  rest-after p e = subst After e after
+pub rest-after : (s : Shelf) (seg : List Block) (u : ℕ) → RestFree u (s .records) → (p : Placed) → placeSegment s seg ≡ done p → RestFree (u + 1) (p .shelf .records)
+unfolding share write
+rest-after s seg u r p e =
+    subst (IfDone (λ (q : Placed). RestFree (u + 1) (q .shelf .records))) e
+    (segment-cases (λ q. RestFree (u + 1) (q .shelf .records)) s seg (λ z j h l. r j (omega arith) l)
+    (λ ne k f. rest-set u (s .records) r k (map oneMore (getD (s .records) k [])) (λ h l. free-more (getD (s .records) k []) (r k (omega arith) l)))
+    (λ ne k f run q. rest-set u (s .records) r k (newPositions (run .start) seg) (λ h l. absurd (omega (arith, lowest-free u (s .records) r k f)))))

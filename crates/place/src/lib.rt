@@ -1,16 +1,12 @@
 // All segments of an image are placed, or none.
 ghost use mathlib.Core.Path.{_≡_};
 ghost use mathlib.Core.Bool.{true};
-ghost use mathlib.Core.List.{[]};
-ghost use Prim.Native.Nat.{ℕ, _+_, _*_, _/_, _≤_, _<_};
 ghost use lib.ListN.{length, replicate};
-ghost use Rattle.model.specs.Measures.{baseMeasures};
-ghost use Rattle.model.specs.State.{done};
-ghost use Rattle.model.specs.Image.{imageSegments};
 ghost use Rattle.model.specs.Runs.{freeCells};
-ghost use Rattle.model.specs.Place.{placeAll};
-ghost use Rattle.model.specs.Table.{shelfIn};
-ghost use Rattle.place.specs.All.{AllReady, DidAll};
+ghost use Rattle.model.specs.Table.{cellsIn, shelfIn};
+ghost use Rattle.numbers.specs.Measures.{measuresOf};
+ghost use Rattle.place.specs.All.{AllReady, DidAll, placedIn};
+use numbers::Measures;
 
 // With the free cells known. Each segment takes at most one record more, so the search for an equal one need not look at all.
 fn place_segments(
@@ -20,17 +16,19 @@ fn place_segments(
     free: &mut [bool],
     placed: &mut [u32],
     words: &mut [u32],
+    m: Measures,
 ) -> u32
-    requires { ⌜ AllReady (now image) (now pool) (now records) (now words) × (now free ≡ freeCells (shelfIn baseMeasures (now pool) (now records))) × (length (now placed) ≡ 128) ⌝ }
-    ensures { λ r. ⌜ DidAll (placeAll (done (record { shelf = shelfIn baseMeasures (now (pool .entry)) (now (records .entry)); pointers = [] })) (imageSegments 64 8 (now (image .entry)))) r (now (pool .entry)) (now (records .entry)) (now (pool .exit)) (now (records .exit)) (now (words .exit)) ⌝ }
+    requires { ⌜ AllReady (measuresOf m) (now image) (now pool) (now records) (now words) × (now free ≡ freeCells (shelfIn (measuresOf m) (now pool) (now records))) × (length (now placed) ≡ 256) ⌝ }
+    ensures { λ r. ⌜ DidAll (measuresOf m) (placedIn (measuresOf m) (now (image .entry)) (now (pool .entry)) (now (records .entry))) r (now (pool .entry)) (now (records .entry)) (now (pool .exit)) (now (records .exit)) (now (words .exit)) ⌝ }
 {
-    let n = (image.len() + 511) / 512;
-    let used = place_seek::used_records(records);
+    let width = m.segment_bytes();
+    let n = m.segments(image.len());
+    let used = place_seek::used_records(records, m.blocks);
     let mut from: usize = 0;
+    let mut first: usize = 0;
     let mut j: usize = 0;
     while j < n {
-        let first = j * 8;
-        let end = first + 8;
+        let end = first + m.blocks;
         let most = used + j;
         let p = place_one::place_segment(
             image,
@@ -40,14 +38,17 @@ fn place_segments(
             most,
             free,
             &mut words[first..end],
+            m,
         );
         let refusal = p.refusal;
         if refusal != 0 {
-            place_undo::undo_all(pool, records, placed, j);
+            place_undo::undo_all(pool, records, placed, j, m);
             return refusal;
         }
-        placed[j] = p.record;
-        from = from + 512;
+        let number = p.record;
+        placed[j] = number.0;
+        from = from + width;
+        first = end;
         j = j + 1;
     }
     0
@@ -61,12 +62,13 @@ fn place_marked(
     free: &mut [bool],
     placed: &mut [u32],
     words: &mut [u32],
+    m: Measures,
 ) -> u32
-    requires { ⌜ AllReady (now image) (now pool) (now records) (now words) × (now free ≡ replicate (length (now pool) / 64) true) × (length (now placed) ≡ 128) ⌝ }
-    ensures { λ r. ⌜ DidAll (placeAll (done (record { shelf = shelfIn baseMeasures (now (pool .entry)) (now (records .entry)); pointers = [] })) (imageSegments 64 8 (now (image .entry)))) r (now (pool .entry)) (now (records .entry)) (now (pool .exit)) (now (records .exit)) (now (words .exit)) ⌝ }
+    requires { ⌜ AllReady (measuresOf m) (now image) (now pool) (now records) (now words) × (now free ≡ replicate (length (cellsIn (m .bytes) (now pool))) true) × (length (now placed) ≡ 256) ⌝ }
+    ensures { λ r. ⌜ DidAll (measuresOf m) (placedIn (measuresOf m) (now (image .entry)) (now (pool .entry)) (now (records .entry))) r (now (pool .entry)) (now (records .entry)) (now (pool .exit)) (now (records .exit)) (now (words .exit)) ⌝ }
 {
-    place_seek::take_all(records, free);
-    place_segments(image, pool, records, free, placed, words)
+    place_seek::take_all(records, free, m.blocks);
+    place_segments(image, pool, records, free, placed, words, m)
 }
 
 // With room for as many cells as a pool can have.
@@ -77,20 +79,27 @@ fn place_within(
     free: &mut [bool],
     placed: &mut [u32],
     words: &mut [u32],
+    m: Measures,
 ) -> u32
-    requires { ⌜ AllReady (now image) (now pool) (now records) (now words) × (now free ≡ replicate 32768 true) × (length (now placed) ≡ 128) ⌝ }
-    ensures { λ r. ⌜ DidAll (placeAll (done (record { shelf = shelfIn baseMeasures (now (pool .entry)) (now (records .entry)); pointers = [] })) (imageSegments 64 8 (now (image .entry)))) r (now (pool .entry)) (now (records .entry)) (now (pool .exit)) (now (records .exit)) (now (words .exit)) ⌝ }
+    requires { ⌜ AllReady (measuresOf m) (now image) (now pool) (now records) (now words) × (now free ≡ replicate 32768 true) × (length (now placed) ≡ 256) ⌝ }
+    ensures { λ r. ⌜ DidAll (measuresOf m) (placedIn (measuresOf m) (now (image .entry)) (now (pool .entry)) (now (records .entry))) r (now (pool .entry)) (now (records .entry)) (now (pool .exit)) (now (records .exit)) (now (words .exit)) ⌝ }
 {
-    let cells = pool.len() / 64;
-    place_marked(image, pool, records, &mut free[..cells], placed, words)
+    let cells = numbers::parts(pool.len(), m.bytes);
+    place_marked(image, pool, records, &mut free[..cells], placed, words, m)
 }
 
 // Step 1 of a backup. A refusal takes back what it placed.
-pub fn place_all(image: &[u8], pool: &mut [u8], records: &mut [u32], words: &mut [u32]) -> u32
-    requires { ⌜ AllReady (now image) (now pool) (now records) (now words) ⌝ }
-    ensures { λ r. ⌜ DidAll (placeAll (done (record { shelf = shelfIn baseMeasures (now (pool .entry)) (now (records .entry)); pointers = [] })) (imageSegments 64 8 (now (image .entry)))) r (now (pool .entry)) (now (records .entry)) (now (pool .exit)) (now (records .exit)) (now (words .exit)) ⌝ }
+pub fn place_all(
+    image: &[u8],
+    pool: &mut [u8],
+    records: &mut [u32],
+    words: &mut [u32],
+    m: Measures,
+) -> u32
+    requires { ⌜ AllReady (measuresOf m) (now image) (now pool) (now records) (now words) ⌝ }
+    ensures { λ r. ⌜ DidAll (measuresOf m) (placedIn (measuresOf m) (now (image .entry)) (now (pool .entry)) (now (records .entry))) r (now (pool .entry)) (now (records .entry)) (now (pool .exit)) (now (records .exit)) (now (words .exit)) ⌝ }
 {
     let mut free = [true; 32768];
-    let mut placed = [0u32; 128];
-    place_within(image, pool, records, &mut free, &mut placed, words)
+    let mut placed = [0u32; 256];
+    place_within(image, pool, records, &mut free, &mut placed, words, m)
 }

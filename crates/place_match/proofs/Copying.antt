@@ -1,71 +1,100 @@
 -- A segment's blocks that are not null, marked and copied one after the other.
-use mathlib.Core.Path.{_∙_, _≡_, ap, sym}
-use mathlib.Core.List.{List, _∷_}
-use Prim.Native.Nat.{_%_, _*_, _+_, _-_, _/_, _<_, _≤_, ℕ}
+use mathlib.Core.Path.{_∙_, _≡_, ap, refl, sym}
+use mathlib.Core.List.{List}
+use Prim.Native.Nat.{_%_, _*_, _+_, _-_, _/_, _<_, _≤_, suc, zero, ℕ}
+use native.Mathlib.Nat.{mul-le-mul, suc-mul}
 use native.Mathlib.Omega.{arith}
 use lib.ListN.{length}
 use lib.Seq.{sets}
 use Rattle.lists.specs.Lists.{keep}
 use Rattle.lists.specs.Masks.{maskOf}
+use Rattle.lists.proofs.Places.{row-in}
 use Rattle.model.specs.Image.{blockFrom, blocksFrom}
 use Rattle.model.specs.Place.{nonNull}
 use Rattle.model.specs.State.{Block}
 use Rattle.model.specs.Table.{cellsIn}
+use Rattle.laws.proofs.Image.{blocks-next}
+use Rattle.shelf.proofs.Inside.{cells-count}
 use Rattle.place_words.specs.Marks.{kept, mark, marks}
 use Rattle.place_words.proofs.Marks.{kept-count, kept-next, marks-div, marks-mod}
-use Rattle.place_words.proofs.Reading.{blocks-next}
+
+-- where the blocks of a segment begin
+pub block-low : (from bytes n i : ℕ) → from ≤ 65536 → bytes ≤ 512 → n ≤ 16 → i ≤ n → from + i * bytes ≤ 73728
+block-low from bytes n i f b h l =
+    let k : i ≤ 16 = omega arith in
+    let p : i * bytes ≤ 8192 = mul-le-mul k b in
+    omega arith
+
+-- one block back
+pub block-back : (k w : ℕ) → 0 < k → k * w ≡ (k - 1) * w + w
+block-back zero w h = absurd (omega arith)
+block-back (suc k) w h = let e : suc k - 1 ≡ k = omega arith in rw e (suc-mul k w)
 
 -- ---- marks
 
 -- one block more, at the front
-pub marks-front : (image : List ℕ) (at i m : ℕ) → 0 < i → i ≤ 8 → m ≡ marks (blocksFrom 64 image (at + i * 64) (8 - i))
-    → mark (blockFrom 64 image (at + (i - 1) * 64)) + 2 * m ≡ marks (blocksFrom 64 image (at + (i - 1) * 64) (8 - (i - 1)))
+pub marks-front : (bytes : ℕ) (image : List ℕ) (at n i m : ℕ) → 0 < i → i ≤ n → m ≡ marks (blocksFrom bytes image (at + bytes) (n - i))
+    → mark (blockFrom bytes image at) + 2 * m ≡ marks (blocksFrom bytes image at (n - (i - 1)))
 unfolding maskOf
-marks-front image at i m h l e =
-    let p : at + (i - 1) * 64 + 64 ≡ at + i * 64 = omega arith in
-    let q : 8 - (i - 1) - 1 ≡ 8 - i = omega arith in
-    rw (blocks-next image (at + (i - 1) * 64) (8 - (i - 1)) (omega arith), p, q, ← e)
+marks-front bytes image at n i m h l e =
+    let q : n - (i - 1 + 1) ≡ n - i = omega arith in
+    rw (blocks-next bytes image at n (i - 1) (omega arith), q, ← e)
 
--- the block at position i, and those after it
-split : (image : List ℕ) (at i : ℕ) → i < 8 → blocksFrom 64 image at (8 - i) ≡ blockFrom 64 image at ∷ blocksFrom 64 image (at + 64) (8 - (i + 1))
-split image at i h = let z : 8 - i - 1 ≡ 8 - (i + 1) = omega arith in blocks-next image at (8 - i) (omega arith) ∙ rw z
+-- none at first
+pub marks-end : (bytes : ℕ) (image : List ℕ) (at n : ℕ) → 0 ≡ marks (blocksFrom bytes image at (n - n))
+unfolding blocksFrom maskOf
+marks-end bytes image at n = let z : n - n ≡ 0 = omega arith in rw z
 
-module _ (image : List ℕ) (m at i : ℕ) (h : i < 8) (e : m ≡ marks (blocksFrom 64 image at (8 - i))) where
-  pub bit-first : m % 2 ≡ mark (blockFrom 64 image at)
-  bit-first = rw (e, split image at i h) (marks-mod (blockFrom 64 image at) _)
+-- of n blocks i are done
+module _ (bytes : ℕ) (image : List ℕ) (n m at i : ℕ) (h : i < n) (e : m ≡ marks (blocksFrom bytes image at (n - i))) where
+  pub bit-first : m % 2 ≡ mark (blockFrom bytes image at)
+  bit-first = rw (e, blocks-next bytes image at n i h) (marks-mod (blockFrom bytes image at) _)
 
-  pub bits-rest : m / 2 ≡ marks (blocksFrom 64 image (at + 64) (8 - (i + 1)))
-  bits-rest = rw (e, split image at i h) (marks-div (blockFrom 64 image at) _)
+  pub bits-rest : m / 2 ≡ marks (blocksFrom bytes image (at + bytes) (n - (i + 1)))
+  bits-rest = rw (e, blocks-next bytes image at n i h) (marks-div (blockFrom bytes image at) _)
 
 -- ---- copies
 
 -- i blocks are copied, and what is left to do gives the whole
-pub record Copied (image cs₀ : List ℕ) (all : List Block) (pool : List ℕ) (m cell at i : ℕ) : Type 0 where
-  pub within : i ≤ 8
-  pub mask : m ≡ marks (blocksFrom 64 image at (8 - i))
-  pub room : cell + length (nonNull (blocksFrom 64 image at (8 - i))) ≤ length pool / 64
-  pub same : length pool ≡ length cs₀
-  pub left : sets (cellsIn 64 pool) cell (nonNull (blocksFrom 64 image at (8 - i))) ≡ all
+pub record Copied (bytes : ℕ) (image pool₀ : List ℕ) (n : ℕ) (all : List Block) (pool : List ℕ) (m cell at i : ℕ) : Type 0 where
+  pub within : i ≤ n
+  pub mask : m ≡ marks (blocksFrom bytes image at (n - i))
+  pub room : cell + length (nonNull (blocksFrom bytes image at (n - i))) ≤ length (cellsIn bytes pool₀)
+  pub same : length pool ≡ length pool₀
+  pub left : sets (cellsIn bytes pool) cell (nonNull (blocksFrom bytes image at (n - i))) ≡ all
 
-module _ {image pool₀ pool : List ℕ} {all : List Block} {m cell at i : ℕ} (p : Copied image pool₀ all pool m cell at i) (h : i < 8) where
-  pub copied-bit : m % 2 ≡ mark (blockFrom 64 image at)
-  copied-bit = bit-first image m at i h (p .mask)
+pub copied-start : (bytes : ℕ) (image pool : List ℕ) (n m cell at : ℕ) → m ≡ marks (blocksFrom bytes image at n) → cell + length (nonNull (blocksFrom bytes image at n)) ≤ length (cellsIn bytes pool)
+    → Copied bytes image pool n (sets (cellsIn bytes pool) cell (nonNull (blocksFrom bytes image at n))) pool m cell at 0
+copied-start bytes image pool n m cell at e r =
+    let z : n - 0 ≡ n = omega arith in
+    record { within = omega arith; mask = rw z e; room = rw z r; same = refl; left = rw z }
 
-  pub copied-room : m % 2 ≡ 1 → cell < length pool / 64
-  copied-room e = omega (arith, p .room, ap (λ (l : List Block). length (nonNull l)) (split image at i h), kept-count (blockFrom 64 image at) (blocksFrom 64 image (at + 64) (8 - (i + 1))), copied-bit)
+module _ {bytes : ℕ} {image pool₀ : List ℕ} {n : ℕ} {all : List Block} {pool : List ℕ} {m cell at i : ℕ} (p : Copied bytes image pool₀ n all pool m cell at i) (h : i < n) where
+  abbrev b : Block
+  b = blockFrom bytes image at
 
-  pub copied-step : (next : List ℕ) → length next ≡ length pool → cellsIn 64 next ≡ sets (cellsIn 64 pool) cell (kept (m % 2) (blockFrom 64 image at))
-      → Copied image pool₀ all next (m / 2) (cell + m % 2) (at + 64) (i + 1)
-  copied-step next n e = record {
+  copied-bit : m % 2 ≡ mark b
+  copied-bit = bit-first bytes image n m at i h (p .mask)
+
+  -- the stored blocks that are left
+  copied-count : length (nonNull (blocksFrom bytes image at (n - i))) ≡ m % 2 + length (nonNull (blocksFrom bytes image (at + bytes) (n - (i + 1))))
+  copied-count = ap (λ (l : List Block). length (nonNull l)) (blocks-next bytes image at n i h) ∙ kept-count b _ ∙ rw copied-bit
+
+  pub copied-room : 0 < bytes → m % 2 ≡ 1 → cell * bytes + bytes ≤ length pool
+  copied-room z e = omega (arith, p .same, row-in (length pool₀) bytes z cell (omega (arith, p .room, copied-count, cells-count bytes pool₀)))
+
+  pub copied-step : (next : List ℕ) → length next ≡ length pool → cellsIn bytes next ≡ sets (cellsIn bytes pool) cell (kept (m % 2) b)
+      → Copied bytes image pool₀ n all next (m / 2) (cell + m % 2) (at + bytes) (i + 1)
+  copied-step next l e = record {
     within = omega arith;
-    mask = bits-rest image m at i h (p .mask);
-    room = rw n (omega (arith, p .room, ap (λ (l : List Block). length (nonNull l)) (split image at i h), kept-count (blockFrom 64 image at) (blocksFrom 64 image (at + 64) (8 - (i + 1))), copied-bit));
-    same = n ∙ p .same;
-    left = rw (e, copied-bit) (sym (kept-next (cellsIn 64 pool) cell (blockFrom 64 image at) _) ∙ ap (λ (l : List Block). sets (cellsIn 64 pool) cell (nonNull l)) (sym (split image at i h)) ∙ p .left);
+    mask = bits-rest bytes image n m at i h (p .mask);
+    room = omega (arith, p .room, copied-count);
+    same = l ∙ p .same;
+    left = rw (e, copied-bit) (sym (kept-next (cellsIn bytes pool) cell b _) ∙ ap (λ (l : List Block). sets (cellsIn bytes pool) cell (nonNull l)) (sym (blocks-next bytes image at n i h)) ∙ p .left);
   }
 
-pub copied-end : {image pool₀ pool : List ℕ} {all : List Block} {m cell at i : ℕ} → Copied image pool₀ all pool m cell at i → 8 ≤ i → cellsIn 64 pool ≡ all
+pub copied-end : {bytes : ℕ} {image pool₀ : List ℕ} {n : ℕ} {all : List Block} {pool : List ℕ} {m cell at i : ℕ} → Copied bytes image pool₀ n all pool m cell at i → n ≤ i → cellsIn bytes pool ≡ all
 unfolding nonNull keep blocksFrom
-copied-end {image} {pool₀} {pool} {all} {m} {cell} {at} {i} p h =
-    let z : 8 - i ≡ 0 = omega arith in
+copied-end {n = n} {i = i} p h =
+    let z : n - i ≡ 0 = omega arith in
     rw z at (p .left)

@@ -1,70 +1,95 @@
 -- Whether a record equals a segment of the image, position by position.
-use mathlib.Core.Path.{_∙_, _≡_, ap, refl}
+use mathlib.Core.Path.{_∙_, _≡_, ap, refl, sym}
 use mathlib.Core.Bool.{Bool, cond, false, false≢true, not, true}
 use mathlib.Core.List.{List, [], _∷_}
 use mathlib.Core.Option.{none}
-use Prim.Native.Nat.{_%_, _+_, _-_, _/_, _<_, _≤_, suc, zero, zero-le, ℕ}
+use Prim.Native.Nat.{_%_, _*_, _+_, _-_, _/_, _<_, _≤_, suc, zero, zero-le, ℕ}
 use native.Mathlib.Omega.{arith}
 use lib.Dec.{eqb}
-use lib.ListN.{drop, getD, length}
+use lib.ListN.{drop, getD, length, take}
 use Rattle.lists.specs.Lists.{allZero, firstFrom, sameNumbers}
 use Rattle.lists.specs.Masks.{maskOf}
-use Rattle.lists.proofs.Slices.{drop-end}
+use Rattle.lists.proofs.Masks.{bit-false}
+use Rattle.lists.proofs.Slices.{drop-end, drop-next}
 use Rattle.lists.proofs.Tests.{cond-true}
+use Rattle.lists.proofs.Walks.{mask-after, mask-here}
 use Rattle.model.specs.Image.{blockFrom, blocksFrom}
-use Rattle.model.specs.Records.{cellAt, equals, holds, isFree, isHeld, isRemoved}
-use Rattle.model.specs.State.{Block, Segment, Shelf, held, nullPosition, removed}
-use Rattle.model.specs.Table.{positionOf, positionsIn, recordToWords, segmentIn}
+use Rattle.model.specs.Records.{cellAt, cellOf, equals, holds, isFree, isHeld, isRemoved}
+use Rattle.model.specs.State.{Block, Position, Segment, Shelf, held, nullPosition, removed}
+use Rattle.model.specs.Table.{cellsIn, recordToWords}
+use Rattle.laws.proofs.Image.{blocks-next}
+use Rattle.shelf.proofs.Inside.{cell-bytes}
 use Rattle.place_words.specs.Marks.{mark, marks}
-use Rattle.place_words.specs.Words.{RowSays}
 use Rattle.place_seek.specs.Seek.{RestFree}
 use Rattle.place_seek.proofs.Seeking.{free-masks}
 use Rattle.place_words.proofs.Marks.{mark-bit}
-use Rattle.place_words.proofs.Reading.{blocks-next, cell-word, cellWords, countWords, length-cells, length-counts, positions-next}
+use Rattle.place_words.proofs.Reading.{cell-word, held-word, removed-word}
 
 -- ---- what is left to compare
 
--- what is left to compare at position i
-unfoldable pub rest : Shelf → List ℕ → List ℕ → ℕ → ℕ → ℕ → Bool
-rest shelf image row h at i = equals shelf (blocksFrom 64 image at (8 - i)) (positionsIn h 0 (drop i (cellWords row)) (drop i (countWords row)))
+none-removed : (seg : Segment) → maskOf isRemoved seg ≡ 0 → (i : ℕ) → isRemoved (getD seg i nullPosition) ≡ false
+unfolding maskOf
+none-removed [] e i = refl
+none-removed (p ∷ seg) e zero = bit-false (isRemoved p) (omega arith)
+none-removed (p ∷ seg) e (suc i) = none-removed seg (omega arith) i
 
-module _ (shelf : Shelf) (image row : List ℕ) (w : length row ≡ 19) where
-  pub rest-start : (at h : ℕ) → h ≡ getD row 0 0 → getD row 1 0 ≡ 0 → rest shelf image row h at 0 ≡ equals shelf (blocksFrom 64 image at 8) (segmentIn 8 row)
-  unfolding rest segmentIn cellWords countWords
-  rest-start at h e f = let z : 8 - 0 ≡ 8 = omega arith in rw (z, e, f)
+-- i positions are equal: what is left decides
+pub record EqualTo (s : Shelf) (bytes : ℕ) (image : List ℕ) (from n : ℕ) (seg : Segment) (h at i : ℕ) : Type 0 where
+  pub mask : h ≡ maskOf isHeld (drop i seg)
+  pub whole : maskOf isRemoved seg ≡ 0
+  pub left : equals s (blocksFrom bytes image at (n - i)) (drop i seg) ≡ equals s (blocksFrom bytes image from n) seg
 
-  rest-step : (h at i : ℕ) → i < 8
-      → rest shelf image row h at i
-      ≡ cond (holds shelf (positionOf (h % 2) 0 (getD row (3 + i) 0) (getD (countWords row) i 0)) (blockFrom 64 image at)) (rest shelf image row (h / 2) (at + 64) (i + 1)) false
-  unfolding rest equals
-  rest-step h at i l =
-      let z : 8 - i - 1 ≡ 8 - (i + 1) = omega arith in
-      rw (blocks-next image at (8 - i) (omega arith), positions-next h 0 i (cellWords row) (countWords row) (omega (arith, length-cells row w)) (omega (arith, length-counts row w)), cell-word row w i l, z)
+pub equal-start : (s : Shelf) (bytes : ℕ) (image : List ℕ) (from n : ℕ) (seg : Segment) (row : List ℕ) → row ≡ recordToWords seg → getD row 1 0 ≡ 0 → EqualTo s bytes image from n seg (getD row 0 0) from 0
+equal-start s bytes image from n seg row e z = record {
+  mask = ap (λ (l : List ℕ). getD l 0 0) e ∙ held-word seg;
+  whole = sym (ap (λ (l : List ℕ). getD l 1 0) e ∙ removed-word seg) ∙ z;
+  left = let y : n - 0 ≡ n = omega arith in rw y;
+}
 
-  pub rest-yes : (h at i : ℕ) → i < 8 → ((n : ℕ) → true ≡ holds shelf (positionOf (h % 2) 0 (getD row (3 + i) 0) n) (blockFrom 64 image at))
-      → rest shelf image row h at i ≡ rest shelf image row (h / 2) (at + 64) (i + 1)
-  rest-yes h at i l e = rest-step h at i l ∙ rw (← e (getD (countWords row) i 0))
+module _ {s : Shelf} {bytes : ℕ} {image : List ℕ} {from n : ℕ} {seg : Segment} {h at i : ℕ} (t : EqualTo s bytes image from n seg h at i) (sz : length seg ≡ n) where
+  module _ (l : i < n) (row : List ℕ) (e : row ≡ recordToWords seg) where
+    abbrev p : Position
+    p = getD seg i nullPosition
 
-  pub rest-no : (h at i : ℕ) → i < 8 → ((n : ℕ) → false ≡ holds shelf (positionOf (h % 2) 0 (getD row (3 + i) 0) n) (blockFrom 64 image at))
-      → rest shelf image row h at i ≡ false
-  rest-no h at i l e = rest-step h at i l ∙ rw (← e (getD (countWords row) i 0))
+    -- what is answered of position i, from its two bits and its cell word
+    pub equal-here : (r : Bool) → ((p : Position) → h % 2 ≡ cond (isHeld p) 1 0 → getD row (3 + i) 0 ≡ cellOf p → isRemoved p ≡ false → r ≡ holds s p (blockFrom bytes image at))
+        → r ≡ holds s p (blockFrom bytes image at)
+    equal-here r f =
+        f p (rw (t .mask) (mask-here isHeld seg i nullPosition (omega arith))) (rw e (cell-word seg i (omega arith))) (none-removed seg (t .whole) i)
 
-  pub rest-end : (h at i : ℕ) → 8 ≤ i → rest shelf image row h at i ≡ true
-  unfolding rest equals blocksFrom positionsIn
-  rest-end h at i l =
-      let z : 8 - i ≡ 0 = omega arith in
-      rw (z, drop-end (cellWords row) i (omega (arith, length-cells row w)))
+    step : equals s (blocksFrom bytes image at (n - i)) (drop i seg) ≡ cond (holds s p (blockFrom bytes image at)) (equals s (blocksFrom bytes image (at + bytes) (n - (i + 1))) (drop (i + 1) seg)) false
+    unfolding equals
+    step = rw (blocks-next bytes image at n i l, drop-next seg i nullPosition (omega arith))
+
+    pub equal-yes : true ≡ holds s p (blockFrom bytes image at) → EqualTo s bytes image from n seg (h / 2) (at + bytes) (i + 1)
+    equal-yes q = record { mask = rw (t .mask) (mask-after isHeld seg i nullPosition (omega arith)); whole = t .whole; left = sym (step ∙ rw (← q)) ∙ t .left }
+
+    pub equal-no : false ≡ holds s p (blockFrom bytes image at) → false ≡ equals s (blocksFrom bytes image from n) seg
+    equal-no q = sym (step ∙ rw (← q)) ∙ t .left
+
+  pub equal-end : n ≤ i → true ≡ equals s (blocksFrom bytes image from n) seg
+  unfolding equals blocksFrom
+  equal-end l =
+      let z : n - i ≡ 0 = omega arith in
+      rw (z, drop-end seg i (omega arith)) at (t .left)
 
 -- ---- what a position holds
 
-module _ (shelf : Shelf) (h c n : ℕ) (b : Block) where
-  pub holds-held : h ≡ 1 → holds shelf (positionOf h 0 c n) b ≡ sameNumbers (cellAt shelf c) b
-  unfolding positionOf
-  holds-held e = rw e
+module _ (s : Shelf) (b : Block) (h c : ℕ) where
+  pub holds-held : (p : Position) → h ≡ cond (isHeld p) 1 0 → c ≡ cellOf p → h ≡ 1 → holds s p b ≡ sameNumbers (cellAt s c) b
+  holds-held nullPosition e q o = absurd (omega arith)
+  holds-held (held d n) e q o = rw q
+  holds-held removed e q o = absurd (omega arith)
 
-  pub holds-null : h < 2 → (h ≡ 1 → ⊥) → holds shelf (positionOf h 0 c n) b ≡ allZero b
-  unfolding positionOf
-  holds-null l d = let z : h ≡ 0 = omega arith in rw z
+  pub holds-null : (p : Position) → h ≡ cond (isHeld p) 1 0 → isRemoved p ≡ false → (h ≡ 1 → ⊥) → holds s p b ≡ allZero b
+  holds-null nullPosition e q o = refl
+  holds-null (held d n) e q o = absurd (o e)
+  holds-null removed e q o = absurd (false≢true (sym q))
+
+-- a cell's block, from its bytes
+pub cell-same : (s : Shelf) (bytes : ℕ) (pool : List ℕ) (c : ℕ) → s .cells ≡ cellsIn bytes pool → 0 < bytes → c * bytes + bytes ≤ length pool → cellAt s c ≡ take bytes (drop (c * bytes) pool)
+unfolding cellAt
+cell-same s bytes pool c e z room = ap (λ (l : List Block). getD l c []) e ∙ cell-bytes bytes pool c z room
 
 pub null-bit : (b : Block) → eqb (mark b) 0 ≡ allZero b
 null-bit b = go (allZero b)
@@ -99,23 +124,19 @@ module _ (shelf : Shelf) where
       omega (arith, mark-bit b)
   equal-more (b ∷ bs) (removed ∷ ps) e = absurd (false≢true e)
 
-  module _ (bs : List Block) (row : List ℕ) (s : RowSays row) where
-    unequal : (equals shelf bs (segmentIn 8 row) ≡ true → ⊥) → false ≡ equals shelf bs (segmentIn 8 row)
-    unequal n = go (equals shelf bs (segmentIn 8 row)) refl
+  module _ (bs : List Block) (seg : Segment) (row : List ℕ) (s : row ≡ recordToWords seg) where
+    unequal : (equals shelf bs seg ≡ true → ⊥) → false ≡ equals shelf bs seg
+    unequal n = go (equals shelf bs seg) refl
       where
-        go : (t : Bool) → equals shelf bs (segmentIn 8 row) ≡ t → false ≡ t
+        go : (t : Bool) → equals shelf bs seg ≡ t → false ≡ t
         go true e = absurd (n e)
         go false e = refl
 
-    pub lost : (getD row 1 0 ≡ 0 → ⊥) → false ≡ equals shelf bs (segmentIn 8 row)
-    unfolding recordToWords
-    lost n = unequal (λ e. n (ap (λ (l : List ℕ). getD l 1 0) s ∙ equal-whole bs (segmentIn 8 row) e))
+    pub lost : (getD row 1 0 ≡ 0 → ⊥) → false ≡ equals shelf bs seg
+    lost n = unequal (λ e. n (ap (λ (l : List ℕ). getD l 1 0) s ∙ removed-word seg ∙ equal-whole bs seg e))
 
-    pub lacking : (m : ℕ) → m ≡ marks bs → getD row 0 0 < m → false ≡ equals shelf bs (segmentIn 8 row)
-    unfolding recordToWords
-    lacking m q l =
-        let h : getD row 0 0 ≡ maskOf isHeld (segmentIn 8 row) = ap (λ (l : List ℕ). getD l 0 0) s in
-        unequal (λ e. omega (arith, equal-more bs (segmentIn 8 row) e))
+    pub lacking : (m : ℕ) → m ≡ marks bs → getD row 0 0 < m → false ≡ equals shelf bs seg
+    lacking m q l = unequal (λ e. omega (arith, equal-more bs seg e, ap (λ (l : List ℕ). getD l 0 0) s, held-word seg))
 
   -- ---- a free record equals no segment that is not null
 

@@ -1,39 +1,60 @@
 // The lowest whole record that equals a segment of the image; a segment's blocks that are not null: their mask, and their copies in consecutive cells.
 ghost use mathlib.Core.Path.{_≡_};
-ghost use Prim.Native.Nat.{ℕ, _+_, _*_, _/_, _≤_, _<_};
-ghost use lib.ListN.{length, take, drop};
+ghost use mathlib.Core.Bool.{false, cond};
+ghost use Prim.Native.Nat.{ℕ, _+_, _*_, _%_, _≤_, _<_};
+ghost use lib.ListN.{length, getD};
 ghost use lib.Seq.{sets};
 ghost use Rattle.lists.specs.Lists.{firstFrom};
-ghost use Rattle.model.specs.Measures.{baseMeasures};
-ghost use Rattle.model.specs.State.{Shelf};
+ghost use Rattle.model.specs.Measures.{recordWords};
+ghost use Rattle.model.specs.State.{Position, Segment, Shelf};
 ghost use Rattle.model.specs.Image.{blockFrom, blocksFrom};
-ghost use Rattle.model.specs.Records.{holds, equals};
+ghost use Rattle.model.specs.Records.{isHeld, isRemoved, cellOf, holds, equals};
 ghost use Rattle.model.specs.Place.{nonNull};
-ghost use Rattle.model.specs.Table.{positionOf, segmentIn, recordsIn, cellsIn, shelfIn};
-ghost use Rattle.place_words.specs.Words.{asOption, RowFits, RowSays, Sized};
+ghost use Rattle.model.specs.Table.{recordToWords, recordsIn, cellsIn, shelfIn};
+ghost use Rattle.numbers.specs.Measures.{measuresOf};
+ghost use Rattle.shelf.specs.Stored.{Stored};
+ghost use Rattle.place_words.specs.Words.{asOption};
 ghost use Rattle.place_words.specs.Marks.{mark, marks, kept};
 ghost use Rattle.place_seek.specs.Seek.{RestFree};
 use numbers::Block;
 use numbers::Cell;
+use numbers::Measures;
+use numbers::RecordNumber;
 
 // Whether a position that is not removed holds the image's block at a byte. The bit is the block's mark.
-fn position_holds(image: &[u8], at: usize, bit: u32, pool: &[u8], held: u32, cell: Cell) -> bool
-    requires { ⌜ (at ≤ 131072) × (bit ≡ mark (blockFrom 64 (now image) at)) × (held < 2) × (cell .0 < length (now pool) / 64) × (length (now pool) / 64 ≤ 32768) ⌝ }
-    ensures { λ r. ⌜ ((s : Shelf) (n : ℕ) → s .cells ≡ cellsIn 64 (now (pool .entry)) → r ≡ holds s (positionOf held 0 (cell .0) n) (blockFrom 64 (now (image .entry)) at)) ⌝ }
+fn position_holds(
+    image: &[u8],
+    at: usize,
+    bit: u32,
+    pool: &[u8],
+    held: u32,
+    cell: Cell,
+    bytes: usize,
+) -> bool
+    requires { ⌜ (at ≤ 131072) × (bit ≡ mark (blockFrom bytes (now image) at)) × (held < 2) × (cell .0 * bytes + bytes ≤ length (now pool)) × (64 ≤ bytes) × (bytes ≤ 512) × (bytes % 64 ≡ 0) ⌝ }
+    ensures { λ r. ⌜ ((s : Shelf) (p : Position) → s .cells ≡ cellsIn bytes (now (pool .entry)) → held ≡ cond (isHeld p) 1 0 → cell .0 ≡ cellOf p → isRemoved p ≡ false → r ≡ holds s p (blockFrom bytes (now (image .entry)) at)) ⌝ }
 {
     if held == 1 {
-        let from = cell.byte();
-        let end = from + Block::BYTES;
-        return blocks::block_same(image, at, &pool[from..end]);
+        let from = cell.byte(bytes);
+        let end = from + bytes;
+        return blocks::block_same(image, at, &pool[from..end], bytes);
     }
     bit == 0
 }
 
 // Whether a record equals the segment of the image that begins at a byte, whose mask is given. A record that has lost a position equals none, and
 // one whose held mask is less than the segment's lacks a block: neither is compared.
-fn record_equals(image: &[u8], from: usize, mask: u32, pool: &[u8], row: &[u32]) -> bool
-    requires { ⌜ (from ≤ 65536) × (mask ≡ marks (blocksFrom 64 (now image) from 8)) × (length (now row) ≡ 19) × (length (now pool) / 64 ≤ 32768) × RowFits (length (now pool) / 64) (now row) × RowSays (now row) ⌝ }
-    ensures { λ r. ⌜ ((s : Shelf) → s .cells ≡ cellsIn 64 (now (pool .entry)) → r ≡ equals s (blocksFrom 64 (now (image .entry)) from 8) (segmentIn 8 (now (row .entry)))) ⌝ }
+fn record_equals(
+    image: &[u8],
+    from: usize,
+    mask: u32,
+    pool: &[u8],
+    row: &[u32],
+    bytes: usize,
+    n: usize,
+) -> bool
+    requires { ⌜ (from ≤ 65536) × (mask ≡ marks (blocksFrom bytes (now image) from n)) × (length (now row) ≡ recordWords n) × ((i : ℕ) → i < n → getD (now row) (3 + i) 0 * bytes + bytes ≤ length (now pool)) × (64 ≤ bytes) × (bytes ≤ 512) × (bytes % 64 ≡ 0) × (n ≤ 16) ⌝ }
+    ensures { λ r. ⌜ ((s : Shelf) (seg : Segment) → s .cells ≡ cellsIn bytes (now (pool .entry)) → length seg ≡ n → now (row .entry) ≡ recordToWords seg → r ≡ equals s (blocksFrom bytes (now (image .entry)) from n) seg) ⌝ }
 {
     if row[1] != 0 {
         return false;
@@ -45,14 +66,14 @@ fn record_equals(image: &[u8], from: usize, mask: u32, pool: &[u8], row: &[u32])
     let mut m = mask;
     let mut at = from;
     let mut i: usize = 0;
-    while i < 8 {
+    while i < n {
         let cell = row[3 + i];
-        if !position_holds(image, at, m % 2, pool, held % 2, Cell(cell)) {
+        if !position_holds(image, at, m % 2, pool, held % 2, Cell(cell), bytes) {
             return false;
         }
         held = held / 2;
         m = m / 2;
-        at = at + 64;
+        at = at + bytes;
         i = i + 1;
     }
     true
@@ -67,79 +88,98 @@ pub fn match_record(
     pool: &[u8],
     records: &[u32],
     used: usize,
-) -> usize
-    requires { ⌜ (from ≤ 65536) × (mask ≡ marks (blocksFrom 64 (now image) from 8)) × Sized (now pool) (now records) × (0 < mask) ⌝ }
-    requires { ⌜ ((k : ℕ) → k < length (now records) / 19 → RowSays (take 19 (drop (k * 19) (now records)))) ⌝ }
-    requires { ⌜ RestFree used (recordsIn 8 (now records)) ⌝ }
-    ensures { λ r. ⌜ (asOption (length (now (records .entry)) / 19) r ≡ firstFrom (equals (shelfIn baseMeasures (now (pool .entry)) (now (records .entry))) (blocksFrom 64 (now (image .entry)) from 8)) 0 (recordsIn 8 (now (records .entry)))) × (r ≤ length (now (records .entry)) / 19) ⌝ }
+    m: Measures,
+) -> RecordNumber
+    requires { ⌜ (from ≤ 65536) × (mask ≡ marks (blocksFrom (m .bytes) (now image) from (m .blocks))) × (0 < mask) × Stored (measuresOf m) (now pool) (now records) × RestFree used (recordsIn (m .blocks) (now records)) ⌝ }
+    ensures { λ r. ⌜ (asOption (length (recordsIn (m .blocks) (now (records .entry)))) (r .0) ≡ firstFrom (equals (shelfIn (measuresOf m) (now (pool .entry)) (now (records .entry))) (blocksFrom (m .bytes) (now (image .entry)) from (m .blocks))) 0 (recordsIn (m .blocks) (now (records .entry)))) × (r .0 ≤ length (recordsIn (m .blocks) (now (records .entry)))) ⌝ }
 {
-    let count = records.len() / 19;
+    let width = numbers::row_words(m.blocks);
+    let count = numbers::rows(records.len(), m.blocks);
     let stop = blocks::least(used, count);
+    let mut at: usize = 0;
     let mut k: usize = 0;
     while k < stop {
-        let start = k * 19;
-        let end = start + 19;
-        if record_equals(image, from, mask, pool, &records[start..end]) {
-            return k;
+        let end = at + width;
+        if record_equals(
+            image,
+            from,
+            mask,
+            pool,
+            &records[at..end],
+            m.bytes,
+            m.blocks,
+        ) {
+            return RecordNumber(k as u32);
         }
+        at = end;
         k = k + 1;
     }
-    count
+    RecordNumber(count as u32)
 }
 
 // 0 for a block that is all zero, else 1.
-fn block_mark(image: &[u8], at: usize) -> u32
-    requires { ⌜ at ≤ 131072 ⌝ }
-    ensures { λ r. ⌜ r ≡ mark (blockFrom 64 (now (image .entry)) at) ⌝ }
+fn block_mark(image: &[u8], at: usize, bytes: usize) -> u32
+    requires { ⌜ (at ≤ 131072) × (bytes ≤ 512) ⌝ }
+    ensures { λ r. ⌜ r ≡ mark (blockFrom bytes (now (image .entry)) at) ⌝ }
 {
-    if blocks::block_zero(image, at) {
+    if blocks::block_zero(image, at, bytes) {
         return 0;
     }
     1
 }
 
-// The mask of the segment's blocks that are not null.
-pub fn segment_mask(image: &[u8], from: usize) -> u32
-    requires { ⌜ from ≤ 65536 ⌝ }
-    ensures { λ r. ⌜ (r ≡ marks (blocksFrom 64 (now (image .entry)) from 8)) × (r < 256) ⌝ }
+// The mask of the segment's blocks that are not null, from the last block on.
+pub fn segment_mask(image: &[u8], from: usize, bytes: usize, n: usize) -> u32
+    requires { ⌜ (from ≤ 65536) × (bytes ≤ 512) × (n ≤ 16) ⌝ }
+    ensures { λ r. ⌜ (r ≡ marks (blocksFrom bytes (now (image .entry)) from n)) × (r < 65536) ⌝ }
 {
     let mut m: u32 = 0;
-    let mut i: usize = 8;
+    let mut at = from + Block(n as u32).byte(bytes);
+    let mut i = n;
     while 0 < i {
         i = i - 1;
-        m = block_mark(image, from + i * 64) + 2 * m;
+        at = at - bytes;
+        m = block_mark(image, at, bytes) + 2 * m;
     }
     m
 }
 
-// The same for a cell of the pool, where the bit is set.
-fn copy_if(bit: u32, image: &[u8], at: usize, pool: &mut [u8], cell: Cell)
-    requires { ⌜ (at ≤ 131072) × (bit < 2) × (bit ≡ 1 → cell .0 < length (now pool) / 64) × (cell .0 ≤ 32768) ⌝ }
-    ensures { λ _. ⌜ cellsIn 64 (now (pool .exit)) ≡ sets (cellsIn 64 (now (pool .entry))) (cell .0) (kept bit (blockFrom 64 (now (image .entry)) at)) ⌝ }
+// The image's block at a byte goes into a cell, where the bit is set.
+fn copy_if(bit: u32, image: &[u8], at: usize, pool: &mut [u8], cell: Cell, bytes: usize)
+    requires { ⌜ (at ≤ 131072) × (bit < 2) × (bit ≡ 1 → cell .0 * bytes + bytes ≤ length (now pool)) × (0 < bytes) × (bytes ≤ 512) ⌝ }
+    ensures { λ _. ⌜ cellsIn bytes (now (pool .exit)) ≡ sets (cellsIn bytes (now (pool .entry))) (cell .0) (kept bit (blockFrom bytes (now (image .entry)) at)) ⌝ }
 {
     if bit == 0 {
         return;
     }
-    let start = cell.byte();
-    let end = start + Block::BYTES;
-    blocks::put_block(image, at, &mut pool[start..end]);
+    let start = cell.byte(bytes);
+    let end = start + bytes;
+    blocks::put_block(image, at, &mut pool[start..end], bytes);
 }
 
 // The segment's blocks that are not null go into consecutive cells.
-pub fn copy_blocks(image: &[u8], from: usize, pool: &mut [u8], first: Cell, mask: u32)
-    requires { ⌜ (from ≤ 65536) × (length (now pool) / 64 ≤ 32768) × (mask ≡ marks (blocksFrom 64 (now image) from 8)) × (first .0 + length (nonNull (blocksFrom 64 (now image) from 8)) ≤ length (now pool) / 64) ⌝ }
-    ensures { λ _. ⌜ cellsIn 64 (now (pool .exit)) ≡ sets (cellsIn 64 (now (pool .entry))) (first .0) (nonNull (blocksFrom 64 (now (image .entry)) from 8)) ⌝ }
+pub fn copy_blocks(
+    image: &[u8],
+    from: usize,
+    pool: &mut [u8],
+    first: Cell,
+    mask: u32,
+    bytes: usize,
+    n: usize,
+)
+    requires { ⌜ (from ≤ 65536) × (mask ≡ marks (blocksFrom bytes (now image) from n)) × (first .0 + length (nonNull (blocksFrom bytes (now image) from n)) ≤ length (cellsIn bytes (now pool))) × (length (cellsIn bytes (now pool)) ≤ 32768) × (0 < bytes) × (bytes ≤ 512) × (n ≤ 16) ⌝ }
+    ensures { λ _. ⌜ cellsIn bytes (now (pool .exit)) ≡ sets (cellsIn bytes (now (pool .entry))) (first .0) (nonNull (blocksFrom bytes (now (image .entry)) from n)) ⌝ }
 {
     let mut m = mask;
     let mut cell = first.0;
     let mut at = from;
     let mut i: usize = 0;
-    while i < 8 {
+    while i < n {
         let bit = m % 2;
-        copy_if(bit, image, at, pool, Cell(cell));
+        copy_if(bit, image, at, pool, Cell(cell), bytes);
         cell = cell + bit;
         m = m / 2;
-        at = at + 64;
+        at = at + bytes;
         i = i + 1;
     }
 }

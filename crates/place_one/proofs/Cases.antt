@@ -3,18 +3,16 @@ use mathlib.Core.Path.{_∙_, _≡_, ap, ap₂, refl, sym}
 use mathlib.Core.Bool.{Bool, cond, false, not, true}
 use mathlib.Core.List.{List, [], _∷_, map}
 use mathlib.Core.Option.{none, some}
-use Prim.Native.Nat.{_%_, _*_, _+_, _/_, _<_, ℕ}
+use Prim.Native.Nat.{_*_, _+_, _<_, ℕ}
 use native.Mathlib.Omega.{arith}
 use lib.ListN.{length}
 use lib.Count.{ones, ones-step}
 use Rattle.lists.specs.Lists.{allZero, every, firstFrom, keep}
 use Rattle.lists.specs.Masks.{maskOf}
-use Rattle.lists.specs.Walk.{placed, walk}
 use Rattle.model.specs.Place.{nonNull, placeSegment, share, shareOrWrite, write, writeRecord, writeRun}
 use Rattle.model.specs.Records.{equals, isFree}
 use Rattle.model.specs.Runs.{Run, findRun, freeCells, scan}
 use Rattle.model.specs.State.{Block, Shelf, done, nullPointer, refused}
-use Rattle.model.specs.Table.{pointerWord}
 use Rattle.place_words.specs.Marks.{mark, marks}
 use Rattle.place_words.proofs.Marks.{kept-count, marks-div, marks-mod}
 
@@ -80,14 +78,3 @@ module _ (s : Shelf) (seg : List Block) where
           → placeSegment s seg ≡ done (write s seg k run)
       unfolding placeSegment shareOrWrite writeRecord writeRun findRun
       place-write k run e f = rw (null-no seg n, no, e, f)
-
--- ---- the words of a null segment's pointers
-
-pub null-words : (m a : ℕ) (seg : List Block) (xs : List ℕ) → m ≡ 0 → length xs ≡ length seg → placed m a xs ≡ map pointerWord (map (λ b. nullPointer) seg)
-unfolding walk pointerWord
-null-words m a [] [] z e = refl
-null-words m a [] (x ∷ xs) z e = absurd (omega arith)
-null-words m a (b ∷ seg) [] z e = absurd (omega arith)
-null-words m a (b ∷ seg) (x ∷ xs) z e =
-    let r : m % 2 ≡ 0 = omega arith in
-    rw (r, null-words (m / 2) (a + 1) seg xs (omega arith) (omega arith))

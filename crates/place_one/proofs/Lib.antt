@@ -1,5 +1,5 @@
 -- Laws of placing one segment.
 pub mod Cases
-pub mod Keeping
+pub mod Undone
 pub mod Done
 pub mod Need

@@ -1,4 +1,4 @@
--- What a placing asks for.
+-- What placing a segment asks for.
 use mathlib.Core.Path.{_≡_}
 use mathlib.Core.Bool.{Bool}
 use mathlib.Core.List.{List}
@@ -7,25 +7,27 @@ use Prim.Native.Nat.{_<_, _≤_, ℕ}
 use lib.ListN.{length}
 use Rattle.lists.specs.Lists.{firstFrom}
 use Rattle.model.specs.Image.{blocksFrom}
-use Rattle.model.specs.Measures.{baseMeasures}
+use Rattle.model.specs.Measures.{Measures}
 use Rattle.model.specs.Records.{equals}
 use Rattle.model.specs.Runs.{freeCells}
 use Rattle.model.specs.Table.{recordsIn, shelfIn}
 use Rattle.place_words.specs.Marks.{marks}
-use Rattle.place_words.specs.Stored.{Stored}
+use Rattle.shelf.specs.Stored.{Countable, Stored}
 
-pub record Ready (from : ℕ) (pool ws : List ℕ) (free : List Bool) (words : List ℕ) : Type 0 where
+-- every count can be raised once more, and `words` has room for the segment's pointers
+pub record Ready (m : Measures) (from : ℕ) (pool ws : List ℕ) (free : List Bool) (words : List ℕ) : Type 0 where
   pub begins : from ≤ 65536
-  pub stored : Stored 4294967295 pool ws
-  pub cells : free ≡ freeCells (shelfIn baseMeasures pool ws)
-  pub eight : length words ≡ 8
+  pub stored : Stored m pool ws
+  pub counts : Countable 4294967295 (recordsIn (m .segmentBlocks) ws)
+  pub cells : free ≡ freeCells (shelfIn m pool ws)
+  pub room : length words ≡ m .segmentBlocks
 
 -- the mask is that of a segment that is not null
-pub record Masked (image : List ℕ) (from mask : ℕ) : Type 0 where
-  pub is : mask ≡ marks (blocksFrom 64 image from 8)
+pub record Masked (m : Measures) (image : List ℕ) (from mask : ℕ) : Type 0 where
+  pub is : mask ≡ marks (blocksFrom (m .blockBytes) image from (m .segmentBlocks))
   pub some : 0 < mask
-  pub small : mask < 256
 
 -- no record serves the segment
-abbrev pub Unmatched : List ℕ → ℕ → List ℕ → List ℕ → Type 0
-Unmatched image from pool ws = firstFrom (equals (shelfIn baseMeasures pool ws) (blocksFrom 64 image from 8)) 0 (recordsIn 8 ws) ≡ none
+abbrev pub Unmatched : Measures → List ℕ → ℕ → List ℕ → List ℕ → Type 0
+Unmatched m image from pool ws =
+    firstFrom (equals (shelfIn m pool ws) (blocksFrom (m .blockBytes) image from (m .segmentBlocks))) 0 (recordsIn (m .segmentBlocks) ws) ≡ none

@@ -1,28 +1,28 @@
 // One segment of an image is placed: it needs no record, shares one, or is written to a free one and a run of free cells.
 ghost use mathlib.Core.Path.{_≡_};
 ghost use mathlib.Core.Option.{none};
-ghost use Prim.Native.Nat.{ℕ, _+_, _*_, _/_, _≤_, _<_};
+ghost use Prim.Native.Nat.{_<_};
 ghost use lib.ListN.{length};
 ghost use Rattle.lists.specs.Lists.{firstFrom};
-ghost use Rattle.model.specs.Measures.{baseMeasures};
 ghost use Rattle.model.specs.Image.{blocksFrom};
 ghost use Rattle.model.specs.Records.{isFree};
 ghost use Rattle.model.specs.Runs.{scan};
-ghost use Rattle.model.specs.Place.{placeSegment, nonNull};
-ghost use Rattle.model.specs.Table.{recordsIn, shelfIn};
+ghost use Rattle.model.specs.Place.{nonNull};
+ghost use Rattle.model.specs.Table.{recordsIn};
+ghost use Rattle.numbers.specs.Measures.{measuresOf};
 ghost use Rattle.place_seek.specs.Seek.{RestFree};
 ghost use Rattle.place_words.specs.Words.{asOption};
 ghost use Rattle.runs.specs.Runs.{asRun};
-ghost use Rattle.place_one.specs.Did.{Did};
+ghost use Rattle.place_one.specs.Did.{DidSegment};
 ghost use Rattle.place_one.specs.Ready.{Ready, Masked, Unmatched};
-use numbers::Pointer;
+use numbers::Measures;
 use numbers::RecordNumber;
 use runs::Run;
 
-// The refusal, or 0; and 0 for a null segment, or the record's number and 1.
+// The refusal, or 0; and the record, or a number past the last one where none is needed.
 pub struct Placing {
     pub refusal: u32,
-    pub record: u32,
+    pub record: RecordNumber,
 }
 
 // The segment goes into a free record and a run of free cells.
@@ -36,20 +36,24 @@ fn write_record(
     mask: u32,
     k: RecordNumber,
     run: Run,
+    m: Measures,
 ) -> Placing
-    requires { ⌜ Ready from (now pool) (now records) (now free) (now words) × Masked (now image) from mask × Unmatched (now image) from (now pool) (now records) × (k .0 < length (now records) / 19) × (asOption (length (now records) / 19) (k .0) ≡ firstFrom isFree 0 (recordsIn 8 (now records))) × (0 < run .size) × (asRun run ≡ scan (length (nonNull (blocksFrom 64 (now image) from 8))) (now free) 0 0 none) ⌝ }
-    ensures { λ r. ⌜ Did (shelfIn baseMeasures (now (pool .entry)) (now (records .entry))) (placeSegment (shelfIn baseMeasures (now (pool .entry)) (now (records .entry))) (blocksFrom 64 (now (image .entry)) from 8)) (r .refusal) (r .record) (now (pool .entry)) (now (records .entry)) (now (pool .exit)) (now (records .exit)) (now (free .exit)) (now (words .exit)) ⌝ }
+    requires { ⌜ Ready (measuresOf m) from (now pool) (now records) (now free) (now words) × Masked (measuresOf m) (now image) from mask × Unmatched (measuresOf m) (now image) from (now pool) (now records) ⌝ }
+    requires { ⌜ (k .0 < length (recordsIn (m .blocks) (now records))) × (asOption (length (recordsIn (m .blocks) (now records))) (k .0) ≡ firstFrom isFree 0 (recordsIn (m .blocks) (now records))) ⌝ }
+    requires { ⌜ (0 < run .size) × (asRun run ≡ scan (length (nonNull (blocksFrom (m .bytes) (now image) from (m .blocks)))) (now free) 0 0 none) ⌝ }
+    ensures { λ r. ⌜ DidSegment (measuresOf m) (now (image .entry)) from (r .refusal) (r .record .0) (now (pool .entry)) (now (records .entry)) (now (pool .exit)) (now (records .exit)) (now (free .exit)) (now (words .exit)) ⌝ }
 {
-    let n = k.0;
-    let start = n as usize * 19;
-    let end = start + 19;
+    let start = k.word(m.blocks);
+    let end = start + numbers::row_words(m.blocks);
     let first = run.start;
-    place_match::copy_blocks(image, from, pool, first, mask);
-    place_words::new_row(&mut records[start..end], mask, first);
-    place_seek::take_row(&records[start..end], free);
-    place_words::put_places(words, mask, Pointer::direct(k, 0));
-    let record = n + 1;
-    Placing { refusal: 0, record }
+    place_match::copy_blocks(image, from, pool, first, mask, m.bytes, m.blocks);
+    place_words::new_row(&mut records[start..end], mask, first, m.blocks);
+    place_seek::take_row(&records[start..end], free, m.blocks);
+    place_words::put_places(words, mask, k);
+    Placing {
+        refusal: 0,
+        record: k,
+    }
 }
 
 // A segment that no record serves.
@@ -61,15 +65,17 @@ fn write_segment(
     free: &mut [bool],
     words: &mut [u32],
     mask: u32,
+    m: Measures,
 ) -> Placing
-    requires { ⌜ Ready from (now pool) (now records) (now free) (now words) × Masked (now image) from mask × Unmatched (now image) from (now pool) (now records) ⌝ }
-    ensures { λ r. ⌜ Did (shelfIn baseMeasures (now (pool .entry)) (now (records .entry))) (placeSegment (shelfIn baseMeasures (now (pool .entry)) (now (records .entry))) (blocksFrom 64 (now (image .entry)) from 8)) (r .refusal) (r .record) (now (pool .entry)) (now (records .entry)) (now (pool .exit)) (now (records .exit)) (now (free .exit)) (now (words .exit)) ⌝ }
+    requires { ⌜ Ready (measuresOf m) from (now pool) (now records) (now free) (now words) × Masked (measuresOf m) (now image) from mask × Unmatched (measuresOf m) (now image) from (now pool) (now records) ⌝ }
+    ensures { λ r. ⌜ DidSegment (measuresOf m) (now (image .entry)) from (r .refusal) (r .record .0) (now (pool .entry)) (now (records .entry)) (now (pool .exit)) (now (records .exit)) (now (free .exit)) (now (words .exit)) ⌝ }
 {
-    let k = place_seek::free_record(records);
-    if k == records.len() / 19 {
+    let k = place_seek::free_record(records, m.blocks);
+    let n = k.0;
+    if n as usize == numbers::rows(records.len(), m.blocks) {
         return Placing {
             refusal: 14,
-            record: 0,
+            record: RecordNumber(0),
         };
     }
     let need = u32::count_ones(mask) as usize;
@@ -77,20 +83,10 @@ fn write_segment(
     if run.size == 0 {
         return Placing {
             refusal: 16,
-            record: 0,
+            record: RecordNumber(0),
         };
     }
-    write_record(
-        image,
-        from,
-        pool,
-        records,
-        free,
-        words,
-        mask,
-        RecordNumber(k as u32),
-        run,
-    )
+    write_record(image, from, pool, records, free, words, mask, k, run, m)
 }
 
 // A segment that is not null. The records from `used` on are free.
@@ -103,22 +99,24 @@ fn place_blocks(
     free: &mut [bool],
     words: &mut [u32],
     mask: u32,
+    m: Measures,
 ) -> Placing
-    requires { ⌜ Ready from (now pool) (now records) (now free) (now words) × Masked (now image) from mask × RestFree used (recordsIn 8 (now records)) ⌝ }
-    ensures { λ r. ⌜ Did (shelfIn baseMeasures (now (pool .entry)) (now (records .entry))) (placeSegment (shelfIn baseMeasures (now (pool .entry)) (now (records .entry))) (blocksFrom 64 (now (image .entry)) from 8)) (r .refusal) (r .record) (now (pool .entry)) (now (records .entry)) (now (pool .exit)) (now (records .exit)) (now (free .exit)) (now (words .exit)) ⌝ }
+    requires { ⌜ Ready (measuresOf m) from (now pool) (now records) (now free) (now words) × Masked (measuresOf m) (now image) from mask × RestFree used (recordsIn (m .blocks) (now records)) ⌝ }
+    ensures { λ r. ⌜ DidSegment (measuresOf m) (now (image .entry)) from (r .refusal) (r .record .0) (now (pool .entry)) (now (records .entry)) (now (pool .exit)) (now (records .exit)) (now (free .exit)) (now (words .exit)) ⌝ }
 {
-    let count = records.len() / 19;
-    let k = place_match::match_record(image, from, mask, pool, records, used);
-    if k == count {
-        return write_segment(image, from, pool, records, free, words, mask);
+    let k = place_match::match_record(image, from, mask, pool, records, used, m);
+    let n = k.0;
+    if n as usize == numbers::rows(records.len(), m.blocks) {
+        return write_segment(image, from, pool, records, free, words, mask, m);
     }
-    let start = k * 19;
-    let end = start + 19;
-    place_words::raise_row(&mut records[start..end]);
-    let n = k as u32;
-    place_words::put_places(words, mask, Pointer::direct(RecordNumber(n), 0));
-    let record = n + 1;
-    Placing { refusal: 0, record }
+    let start = k.word(m.blocks);
+    let end = start + numbers::row_words(m.blocks);
+    place_words::raise_row(&mut records[start..end], m.blocks);
+    place_words::put_places(words, mask, k);
+    Placing {
+        refusal: 0,
+        record: k,
+    }
 }
 
 // The records from `used` on are free.
@@ -130,17 +128,18 @@ pub fn place_segment(
     used: usize,
     free: &mut [bool],
     words: &mut [u32],
+    m: Measures,
 ) -> Placing
-    requires { ⌜ Ready from (now pool) (now records) (now free) (now words) × RestFree used (recordsIn 8 (now records)) ⌝ }
-    ensures { λ r. ⌜ Did (shelfIn baseMeasures (now (pool .entry)) (now (records .entry))) (placeSegment (shelfIn baseMeasures (now (pool .entry)) (now (records .entry))) (blocksFrom 64 (now (image .entry)) from 8)) (r .refusal) (r .record) (now (pool .entry)) (now (records .entry)) (now (pool .exit)) (now (records .exit)) (now (free .exit)) (now (words .exit)) ⌝ }
+    requires { ⌜ Ready (measuresOf m) from (now pool) (now records) (now free) (now words) × RestFree used (recordsIn (m .blocks) (now records)) ⌝ }
+    ensures { λ r. ⌜ DidSegment (measuresOf m) (now (image .entry)) from (r .refusal) (r .record .0) (now (pool .entry)) (now (records .entry)) (now (pool .exit)) (now (records .exit)) (now (free .exit)) (now (words .exit)) ⌝ }
 {
-    let mask = place_match::segment_mask(image, from);
+    let mask = place_match::segment_mask(image, from, m.bytes, m.blocks);
     if mask == 0 {
-        place_words::put_places(words, 0, Pointer::null());
+        place_words::put_nulls(words);
         return Placing {
             refusal: 0,
-            record: 0,
+            record: RecordNumber(RecordNumber::MOST),
         };
     }
-    place_blocks(image, from, pool, records, used, free, words, mask)
+    place_blocks(image, from, pool, records, used, free, words, mask, m)
 }

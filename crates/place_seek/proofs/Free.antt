@@ -7,8 +7,7 @@ use native.Mathlib.Nat.{le-of-suc-le-suc, not-suc-le-zero, zero-add}
 use native.Mathlib.Omega.{arith}
 use lib.ListN.{getD, getD-replicate, length, length-replicate, replicate, set}
 use lib.Seq.{ext-getD}
-use lib.Dec.{eqb, eqb·suc-suc}
-use borrow.Author.Tests.{ne-eqb}
+use lib.Dec.{eqb}
 use Rattle.lists.specs.Lists.{isIn}
 use Rattle.lists.specs.Rows.{joined}
 use Rattle.lists.proofs.Counted.{counted-at, length-counted}

@@ -1,19 +1,22 @@
-// The search for a free record, how many records are in use, and which cells are free.
+// The search for a free record, how many records are in use, and which cells are free. Records have n positions each.
 ghost use mathlib.Core.Path.{_≡_};
-ghost use mathlib.Core.List.{List, []};
-ghost use Prim.Native.Nat.{ℕ, _+_, _*_, _/_, _≤_, _<_};
-ghost use lib.ListN.{length, take, drop, getD};
+ghost use Prim.Native.Nat.{ℕ, _+_, _*_, _≤_, _<_};
+ghost use lib.ListN.{length, getD};
 ghost use Rattle.lists.specs.Lists.{firstFrom};
-ghost use Rattle.model.specs.Records.{isFree, cellsOf, namedCells};
-ghost use Rattle.model.specs.Table.{segmentIn, recordsIn};
-ghost use Rattle.place_words.specs.Words.{asOption, keptCell, RowFits, RowSays};
+ghost use Rattle.model.specs.Measures.{recordWords};
+ghost use Rattle.model.specs.State.{Segment};
+ghost use Rattle.model.specs.Records.{isFree, cellOf, cellsOf, namedCells};
+ghost use Rattle.model.specs.Table.{recordToWords, recordsIn};
+ghost use Rattle.shelf.specs.Stored.{RecordsTold, positionIn};
+ghost use Rattle.place_words.specs.Words.{asOption, keptCell};
 ghost use Rattle.place_seek.specs.Seek.{taken, RestFree};
 use numbers::Cell;
+use numbers::RecordNumber;
 
 // Whether a record is free.
 fn row_free(row: &[u32]) -> bool
-    requires { ⌜ (length (now row) ≡ 19) × RowSays (now row) ⌝ }
-    ensures { λ r. ⌜ r ≡ isFree (segmentIn 8 (now (row .entry))) ⌝ }
+    requires { ⌜ 2 ≤ length (now row) ⌝ }
+    ensures { λ r. ⌜ ((seg : Segment) → now (row .entry) ≡ recordToWords seg → r ≡ isFree seg) ⌝ }
 {
     if row[0] != 0 {
         return false;
@@ -22,35 +25,36 @@ fn row_free(row: &[u32]) -> bool
 }
 
 // The lowest free record, or how many records there are.
-pub fn free_record(records: &[u32]) -> usize
-    requires { ⌜ (length (now records) / 19 ≤ 4096) × (length (now records) ≡ length (now records) / 19 * 19) ⌝ }
-    requires { ⌜ ((k : ℕ) → k < length (now records) / 19 → RowSays (take 19 (drop (k * 19) (now records)))) ⌝ }
-    ensures { λ r. ⌜ (asOption (length (now (records .entry)) / 19) r ≡ firstFrom isFree 0 (recordsIn 8 (now (records .entry)))) × (r ≤ length (now (records .entry)) / 19) ⌝ }
+pub fn free_record(records: &[u32], n: usize) -> RecordNumber
+    requires { ⌜ (n ≤ 16) × RecordsTold n (now records) (recordsIn n (now records)) × (length (now records) ≤ 4096 * recordWords n) ⌝ }
+    ensures { λ r. ⌜ (asOption (length (recordsIn n (now (records .entry)))) (r .0) ≡ firstFrom isFree 0 (recordsIn n (now (records .entry)))) × (r .0 ≤ length (recordsIn n (now (records .entry)))) ⌝ }
 {
-    let count = records.len() / 19;
+    let width = numbers::row_words(n);
+    let count = numbers::rows(records.len(), n);
+    let mut at: usize = 0;
     let mut k: usize = 0;
     while k < count {
-        let start = k * 19;
-        let end = start + 19;
-        if row_free(&records[start..end]) {
-            return k;
+        let end = at + width;
+        if row_free(&records[at..end]) {
+            return RecordNumber(k as u32);
         }
+        at = end;
         k = k + 1;
     }
-    k
+    RecordNumber(k as u32)
 }
 
 // All records from this number on are free: it is the highest one in use and 1.
-pub fn used_records(records: &[u32]) -> usize
-    requires { ⌜ (length (now records) / 19 ≤ 4096) × (length (now records) ≡ length (now records) / 19 * 19) ⌝ }
-    requires { ⌜ ((k : ℕ) → k < length (now records) / 19 → RowSays (take 19 (drop (k * 19) (now records)))) ⌝ }
-    ensures { λ r. ⌜ (r ≤ length (now (records .entry)) / 19) × RestFree r (recordsIn 8 (now (records .entry))) ⌝ }
+pub fn used_records(records: &[u32], n: usize) -> usize
+    requires { ⌜ (n ≤ 16) × RecordsTold n (now records) (recordsIn n (now records)) × (length (now records) ≤ 4096 * recordWords n) ⌝ }
+    ensures { λ r. ⌜ (r ≤ length (recordsIn n (now (records .entry)))) × RestFree r (recordsIn n (now (records .entry))) ⌝ }
 {
-    let mut used = records.len() / 19;
+    let width = numbers::row_words(n);
+    let mut used = numbers::rows(records.len(), n);
     while 0 < used {
         let last = used - 1;
-        let start = last * 19;
-        let end = start + 19;
+        let start = RecordNumber(last as u32).word(n);
+        let end = start + width;
         if !row_free(&records[start..end]) {
             return used;
         }
@@ -73,13 +77,13 @@ fn take_if(bit: u32, cell: Cell, free: &mut [bool])
 }
 
 // The cells that a record names are taken.
-pub fn take_row(row: &[u32], free: &mut [bool])
-    requires { ⌜ (length (now row) ≡ 19) × RowFits (length (now free)) (now row) ⌝ }
-    ensures { λ _. ⌜ now (free .exit) ≡ taken (cellsOf (segmentIn 8 (now (row .entry)))) (now (free .entry)) ⌝ }
+pub fn take_row(row: &[u32], free: &mut [bool], n: usize)
+    requires { ⌜ (n ≤ 16) × (length (now row) ≡ recordWords n) × ((i : ℕ) → i < n → getD (now row) (3 + i) 0 < length (now free)) ⌝ }
+    ensures { λ _. ⌜ ((seg : Segment) → length seg ≡ n → now (row .entry) ≡ recordToWords seg → now (free .exit) ≡ taken (cellsOf seg) (now (free .entry))) ⌝ }
 {
     let mut m = row[0];
     let mut i: usize = 0;
-    while i < 8 {
+    while i < n {
         let cell = row[3 + i];
         take_if(m % 2, Cell(cell), free);
         m = m / 2;
@@ -88,17 +92,19 @@ pub fn take_row(row: &[u32], free: &mut [bool])
 }
 
 // The cells that the records name are taken.
-pub fn take_all(records: &[u32], free: &mut [bool])
-    requires { ⌜ (length (now records) / 19 ≤ 4096) × (length (now records) ≡ length (now records) / 19 * 19) ⌝ }
-    requires { ⌜ ((k : ℕ) → k < length (now records) / 19 → RowFits (length (now free)) (take 19 (drop (k * 19) (now records)))) ⌝ }
-    ensures { λ _. ⌜ now (free .exit) ≡ taken (namedCells (recordsIn 8 (now (records .entry)))) (now (free .entry)) ⌝ }
+pub fn take_all(records: &[u32], free: &mut [bool], n: usize)
+    requires { ⌜ (n ≤ 16) × RecordsTold n (now records) (recordsIn n (now records)) × (length (now records) ≤ 4096 * recordWords n) ⌝ }
+    requires { ⌜ ((k i : ℕ) → cellOf (positionIn (recordsIn n (now records)) k i) < length (now free)) ⌝ }
+    ensures { λ _. ⌜ now (free .exit) ≡ taken (namedCells (recordsIn n (now (records .entry)))) (now (free .entry)) ⌝ }
 {
-    let count = records.len() / 19;
+    let width = numbers::row_words(n);
+    let count = numbers::rows(records.len(), n);
+    let mut at: usize = 0;
     let mut k: usize = 0;
     while k < count {
-        let start = k * 19;
-        let end = start + 19;
-        take_row(&records[start..end], free);
+        let end = at + width;
+        take_row(&records[at..end], free, n);
+        at = end;
         k = k + 1;
     }
 }

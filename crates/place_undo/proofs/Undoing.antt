@@ -1,33 +1,32 @@
 -- Laws for undoing.
-use mathlib.Core.Path.{_∙_, _≡_, ap, refl, sym}
+use mathlib.Core.Path.{_∙_, _≡_, ap, refl, subst, sym}
 use mathlib.Core.Bool.{Bool, cond, false, true}
 use mathlib.Core.List.{List, [], _++_, _∷_, map}
-use Prim.Native.Nat.{_%_, _*_, _+_, _-_, _/_, _<_, _≤_, pred, suc, zero, ℕ}
-use native.Mathlib.Nat.{sub-zero}
+use Prim.Native.Nat.{_*_, _+_, _-_, _<_, _≤_, pred, suc, zero, ℕ}
 use native.Mathlib.Omega.{arith}
-use lib.ListN.{drop, getD, length, length-replicate, replicate, set, take}
-use lib.Seq.{drop-drop, take-nil, take-take}
-use lib.Dec.{eqb, ltb}
-use borrow.Author.Tests.{le-ltb, lt-ltb, ne-eqb}
+use lib.ListN.{List·getD-eq-default, drop, getD, length, length-map, length-replicate, replicate, set, take}
+use lib.Seq.{drop-drop, map-set-same, set-out}
+use lib.Dec.{eqb, leb, ltb}
+use borrow.Author.Tests.{le-ltb, leb-false, leb-true, lt-ltb, ne-eqb}
 use Rattle.lists.specs.Lists.{allZero, every}
-use Rattle.lists.specs.Masks.{maskOf}
-use Rattle.lists.specs.Walk.{placed}
+use Rattle.lists.specs.Rows.{joined}
 use Rattle.lists.proofs.Slices.{part-part}
-use Rattle.lists.proofs.Each.{each-at}
+use Rattle.lists.proofs.Tests.{by-test}
+use Rattle.lists.proofs.Uses.{uses}
 use Rattle.model.specs.Image.{zeroBlock}
-use Rattle.model.specs.Measures.{baseMeasures}
-use Rattle.model.specs.Records.{cellsOf, countOf, freeSegment}
+use Rattle.model.specs.Measures.{Measures, recordWords}
+use Rattle.model.specs.Records.{cellsOf, countOf, freeSegment, namedCells}
 use Rattle.model.specs.State.{Block, Position, Segment, Shelf, held, nullPosition, removed}
 use Rattle.model.specs.Sweep.{clearCells, freeRecord, oneLess}
-use Rattle.model.specs.Table.{cellsIn, recordToWords, recordsIn, segmentIn, shelfIn}
-use Rattle.place_words.specs.Stored.{SegmentFits, Stored, Wf, bytesOf}
+use Rattle.model.specs.Table.{cellsIn, recordToWords, recordsIn, shelfIn}
+use Rattle.laws.proofs.RoundTrip.{free-row}
+use Rattle.laws.proofs.Sweep.{Exact, free-exact}
+use Rattle.shelf.specs.Stored.{CellsTold, RecordsTold, Stored, Told}
+use Rattle.shelf.proofs.Inside.{cell-put, cells-told, stored-cells}
+use Rattle.shelf.proofs.Read.{count-at, part-length, part-put, records-of, row-part, shelf-read, stored-again, stored-records}
 use Rattle.place_words.specs.Words.{keptCell}
-use Rattle.place_words.proofs.Cells.{cells-end, cells-next, cellsBy}
-use Rattle.place_words.proofs.Reading.{cellWords}
-use Rattle.place_words.proofs.Rowing.{words-counts}
-use Rattle.place_words.proofs.Storing.{Back, bytes-back, cells-put, count-is, pool-back, row-is, row-nineteen, stored-back, table-put, words-back}
-use Rattle.place_undo.specs.Undo.{Holds, Steps, undoIn, undoMark, undoRecord, undoUpto}
-use Rattle.laws.proofs.RoundTrip.{free-words}
+use Rattle.place_words.proofs.Reading.{count-words}
+use Rattle.place_undo.specs.Undo.{undoIn, undoRecord, undoUpto}
 
 -- ---- low words
 
@@ -48,25 +47,16 @@ low-counts (p ∷ ps) = rw (low-counts ps) (ap (λ (t : Bool). cond t (allZero (
 
 -- ---- cells
 
-clear-append : (cells : List Block) (xs ys : List ℕ) → clearCells 64 cells (xs ++ ys) ≡ clearCells 64 (clearCells 64 cells xs) ys
+pub clear-append : (bytes : ℕ) (cells : List Block) (xs ys : List ℕ) → clearCells bytes cells (xs ++ ys) ≡ clearCells bytes (clearCells bytes cells xs) ys
 unfolding clearCells
-clear-append cells [] ys = refl
-clear-append cells (x ∷ xs) ys = clear-append (set cells x (zeroBlock 64)) xs ys
+clear-append bytes cells [] ys = refl
+clear-append bytes cells (x ∷ xs) ys = clear-append bytes (set cells x (zeroBlock bytes)) xs ys
 
-module _ (row : List ℕ) (w : length row ≡ 19) where
-  pub clear-step : (m i : ℕ) (cells : List Block) → i < 8
-      → clearCells 64 cells (cellsBy m (drop i (cellWords row))) ≡ clearCells 64 (clearCells 64 cells (keptCell (m % 2) (getD row (3 + i) 0))) (cellsBy (m / 2) (drop (i + 1) (cellWords row)))
-  clear-step m i cells h = ap (clearCells 64 cells) (cells-next row w m i h) ∙ clear-append cells (keptCell (m % 2) (getD row (3 + i) 0)) _
-
-  pub clear-done : (m i : ℕ) (cells : List Block) → 8 ≤ i → clearCells 64 cells (cellsBy m (drop i (cellWords row))) ≡ cells
-  unfolding clearCells
-  clear-done m i cells h = ap (clearCells 64 cells) (cells-end row w m i h)
-
-pub clear-one : (pool : List ℕ) (bit c : ℕ) → bit ≡ 1 → c < length pool / 64
-    → cellsIn 64 (take (c * 64) pool ++ (replicate 64 0 ++ drop (c * 64 + 64) pool)) ≡ clearCells 64 (cellsIn 64 pool) (keptCell bit c)
+pub clear-one : (bytes : ℕ) (pool : List ℕ) (bit c : ℕ) → 0 < bytes → bit ≡ 1 → c * bytes + bytes ≤ length pool
+    → cellsIn bytes (take (c * bytes) pool ++ (replicate bytes 0 ++ drop (c * bytes + bytes) pool)) ≡ clearCells bytes (cellsIn bytes pool) (keptCell bit c)
 unfolding clearCells zeroBlock
-clear-one pool bit c b h =
-    rw (b, ← drop-drop 64 (c * 64) pool) (cells-put pool (replicate 64 0) c h (length-replicate {A = ℕ} 64 0))
+clear-one bytes pool bit c z b h =
+    rw (b, ← drop-drop bytes (c * bytes) pool) (cell-put bytes pool c z h (replicate bytes 0) (length-replicate {A = ℕ} bytes 0))
 
 pub less-cells : (ps : Segment) → cellsOf (map oneLess ps) ≡ cellsOf ps
 unfolding cellsOf
@@ -75,97 +65,107 @@ less-cells (nullPosition ∷ ps) = less-cells ps
 less-cells (held c n ∷ ps) = ap (λ (l : List ℕ). c ∷ l) (less-cells ps)
 less-cells (removed ∷ ps) = less-cells ps
 
-cut : (l : List ℕ) (a : ℕ) → take 8 (drop 11 (take 19 (drop a l))) ≡ take 8 (drop (a + 11) l)
-cut l a = part-part l a 19 11 8 (omega arith)
+-- ---- a shelf
 
--- ---- a record
+-- past the last record there is nothing to undo
+pub undo-past : (m : Measures) (s : Shelf) (k : ℕ) → length (s .records) ≤ k → undoRecord m s k ≡ s
+unfolding undoRecord undoIn freeRecord allZero every cellsOf clearCells
+undo-past m s k h = rw (List·getD-eq-default (s .records) [] h, set-out (s .records) k (freeSegment (m .segmentBlocks)) h)
 
-module _ (pool ws : List ℕ) (st : Stored 4294967295 pool ws) (k : ℕ) (h : k < length ws / 19) where
+module _ (m : Measures) (s : Shelf) (x : Exact s) (k : ℕ) where
+  abbrev here : Segment
+  here = getD (s .records) k []
+
+  lowered-exact : Exact (record { records = set (s .records) k (map oneLess here); cells = s .cells })
+  unfolding namedCells
+  lowered-exact c = ap (λ (l : List (List ℕ)). uses c (joined l)) (map-set-same cellsOf (s .records) k (map oneLess here) [] (less-cells here)) ∙ x c
+
+  freed-exact : k < length (s .records) → Exact (freeRecord m s k (map oneLess here))
+  unfolding freeRecord
+  freed-exact h = rw (less-cells here) (free-exact m s x k h)
+
+  -- what is left is named exactly
+  pub undo-exact : Exact (undoRecord m s k)
+  unfolding undoRecord undoIn
+  undo-exact = go (leb (length (s .records)) k) refl
+    where
+      go : (t : Bool) → leb (length (s .records)) k ≡ t → Exact (undoRecord m s k)
+      go true e = subst (λ (a : Shelf). Exact a) (sym (undo-past m s k (leb-true (length (s .records)) k e))) x
+      go false e = by-test (λ (a : Shelf). Exact a) (allZero (map countOf (map oneLess here))) (λ z. freed-exact (leb-false (length (s .records)) k e)) (λ z. lowered-exact)
+
+-- ---- a record's words, which begin at `at`, and the pool's bytes
+
+module _ (m : Measures) (pool ws : List ℕ) (st : Stored m pool ws) (k : ℕ) (h : k < length (recordsIn (m .segmentBlocks) ws))
+    (at width : ℕ) (ea : at ≡ k * recordWords (m .segmentBlocks)) (ew : width ≡ recordWords (m .segmentBlocks)) where
+  abbrev n : ℕ
+  n = m .segmentBlocks
+
   abbrev s : Shelf
-  s = shelfIn baseMeasures pool ws
+  s = shelfIn m pool ws
 
   abbrev rec : Segment
-  rec = getD (recordsIn 8 ws) k []
+  rec = getD (recordsIn n ws) k []
 
-  rec-eight : length rec ≡ 8
-  unfolding shelfIn
-  rec-eight = each-at (SegmentFits 4294967295 (length (cellsIn 64 pool))) [] (recordsIn 8 ws) (st .wf .segments) k (omega (arith, count-is st)) .eight
+  r : RecordsTold n ws (recordsIn n ws)
+  r = stored-records m st
 
-  -- the row's last eight words are the counts
-  pub counts-low : every (λ w. ltb w 2) (take 8 (drop (k * 19 + 11) ws)) ≡ allZero (map countOf (map oneLess rec))
+  rec-sized : length rec ≡ n
+  rec-sized = count-at n ws (recordsIn n ws) r k h
+
+  -- the row's last words are the counts
+  counts-low : every (λ w. ltb w 2) (take (at + width - (at + (3 + n))) (drop (at + (3 + n)) ws)) ≡ allZero (map countOf (map oneLess rec))
   counts-low =
-      let e : take 19 (drop (k * 19) ws) ≡ recordToWords rec = st .says k h ∙ ap recordToWords (row-is st k h) in
-      let counts : take 8 (drop (k * 19 + 11) ws) ≡ map countOf rec = sym (cut ws (k * 19)) ∙ ap (λ (l : List ℕ). take 8 (drop 11 l)) e ∙ words-counts rec rec-eight in
-      ap (every (λ w. ltb w 2)) counts ∙ low-counts rec
+      let z : at + width - (at + (3 + n)) ≡ n = omega arith in
+      let y : at + width - at ≡ width = omega arith in
+      let counts : take n (drop (at + (3 + n)) ws) ≡ map countOf rec =
+      sym (part-part ws at width (3 + n) n (omega arith)) ∙ ap (λ (l : List ℕ). take n (drop (3 + n) l)) (rw y at (row-part n ws (recordsIn n ws) r k h at width ea ew)) ∙ count-words rec n rec-sized in
+      rw (z, counts) (low-counts rec)
 
-  pub undo-lowered : (row : List ℕ) → false ≡ every (λ w. ltb w 2) (take 8 (drop (k * 19 + 11) ws)) → row ≡ recordToWords (map oneLess (segmentIn 8 (take 19 (drop (k * 19) ws))))
-      → Holds (undoRecord s k) pool (take (k * 19) ws ++ (row ++ drop 19 (drop (k * 19) ws)))
+  pub undo-lowered : (row : List ℕ) → false ≡ every (λ w. ltb w 2) (take (at + width - (at + (3 + n))) (drop (at + (3 + n)) ws)) → row ≡ recordToWords (map oneLess rec)
+      → Told m pool (take at ws ++ (row ++ drop (at + width - at) (drop at ws))) (undoRecord m s k)
   unfolding undoRecord undoIn shelfIn
   undo-lowered row z e =
-      rw (sym counts-low ∙ sym z)
-      (record {
-        bytes = pool-back st;
-        table = table-put st k row (map oneLess rec) h (e ∙ ap (λ (x : Segment). recordToWords (map oneLess x)) (row-is st k h));
-      })
+      rw (sym counts-low ∙ sym z, e) (record { cells = st .told .cells; records = part-put n ws (recordsIn n ws) r k h at width ea ew (map oneLess rec) (length-map rec oneLess ∙ rec-sized) })
 
-  pub undo-freed : (pool′ row : List ℕ) → true ≡ every (λ w. ltb w 2) (take 8 (drop (k * 19 + 11) ws)) → length pool′ ≡ length pool
-      → cellsIn 64 pool′ ≡ clearCells 64 (cellsIn 64 pool) (cellsOf (segmentIn 8 (take 19 (drop (k * 19) ws))))
-      → row ≡ replicate (length (take 19 (drop (k * 19) ws))) 0
-      → Holds (undoRecord s k) pool′ (take (k * 19) ws ++ (row ++ drop 19 (drop (k * 19) ws)))
+  pub undo-freed : (pool′ row : List ℕ) → true ≡ every (λ w. ltb w 2) (take (at + width - (at + (3 + n))) (drop (at + (3 + n)) ws)) → length pool′ ≡ length pool
+      → cellsIn (m .blockBytes) pool′ ≡ clearCells (m .blockBytes) (cellsIn (m .blockBytes) pool) (cellsOf rec) → row ≡ replicate (length (take (at + width - at) (drop at ws))) 0
+      → Told m pool′ (take at ws ++ (row ++ drop (at + width - at) (drop at ws))) (undoRecord m s k)
   unfolding undoRecord undoIn freeRecord shelfIn
-  undo-freed pool′ row z n ep er =
-      rw (sym counts-low ∙ sym z)
-      (record {
-        bytes = bytes-back pool′ (omega (arith, st .sized .poolSize)) ∙ ap bytesOf (ep ∙ ap (clearCells 64 (cellsIn 64 pool)) (ap cellsOf (row-is st k h) ∙ sym (less-cells rec)));
-        table = table-put st k row (freeSegment 8) h (er ∙ rw (row-nineteen ws k (st .sized .tableSize) h) (sym free-words));
-      })
+  undo-freed pool′ row z l ep er =
+      let c : CellsTold (m .blockBytes) pool′ (cellsIn (m .blockBytes) pool′) = cells-told (m .blockBytes) _ pool′ (omega (arith, st .measured .someBytes)) (l ∙ stored-cells st) in
+      rw (sym counts-low ∙ sym z, er ∙ ap (λ (w : ℕ). replicate w 0) (part-length n ws (recordsIn n ws) r k h at width ea ew) ∙ sym (free-row n), less-cells rec, ← ep)
+      (record { cells = c; records = part-put n ws (recordsIn n ws) r k h at width ea ew (freeSegment n) (unfold freeSegment in length-replicate n nullPosition) })
+
+-- past the last record
+pub undo-nothing : (m : Measures) (pool ws : List ℕ) → Stored m pool ws → (k : ℕ) → length (recordsIn (m .segmentBlocks) ws) ≤ k → Told m pool ws (undoRecord m (shelfIn m pool ws) k)
+undo-nothing m pool ws st k h = rw (undo-past m (shelfIn m pool ws) k (rw (records-of m pool ws) h)) (st .told)
 
 -- ---- all of them
 
-pub upto-step : (placed : List ℕ) (j : ℕ) (s : Shelf) → 0 < j → undoUpto placed j s ≡ undoUpto placed (j - 1) (undoMark s (getD placed (j - 1) 0))
+upto-step : (m : Measures) (placed : List ℕ) (j : ℕ) (s : Shelf) → 0 < j → undoUpto m placed j s ≡ undoUpto m placed (j - 1) (undoRecord m s (getD placed (j - 1) 0))
 unfolding undoUpto
-upto-step placed zero s h = absurd (omega arith)
-upto-step placed (suc j) s h = let e : suc j - 1 ≡ j = omega arith in rw e
-
-pub steps-next : (placed : List ℕ) (j : ℕ) (s : Shelf) → 0 < j → Steps placed j s
-    → (getD placed (j - 1) 0 ≤ length (s .records)) × Wf 4294967295 (undoMark s (getD placed (j - 1) 0)) × Steps placed (j - 1) (undoMark s (getD placed (j - 1) 0))
-unfolding Steps
-steps-next placed zero s h p = absurd (omega arith)
-steps-next placed (suc j) s h p = let e : suc j - 1 ≡ j = omega arith in rw e p
+upto-step m placed zero s h = absurd (omega arith)
+upto-step m placed (suc j) s h = let e : suc j - 1 ≡ j = omega arith in rw e
 
 -- `j` are left
-pub record Going (placed : List ℕ) (all : Shelf) (pool₀ ws₀ pool ws : List ℕ) (j : ℕ) : Type 0 where
-  pub stored : Stored 4294967295 pool ws
-  pub steps : Steps placed j (shelfIn baseMeasures pool ws)
-  pub left : undoUpto placed j (shelfIn baseMeasures pool ws) ≡ all
+pub record Going (m : Measures) (placed : List ℕ) (all : Shelf) (pool₀ ws₀ pool ws : List ℕ) (j : ℕ) : Type 0 where
+  pub stored : Stored m pool ws
+  pub left : undoUpto m placed j (shelfIn m pool ws) ≡ all
   pub samePool : length pool ≡ length pool₀
   pub sameTable : length ws ≡ length ws₀
 
-pub going-step : {placed : List ℕ} {all : Shelf} {pool₀ ws₀ pool ws : List ℕ} {j : ℕ} → Going placed all pool₀ ws₀ pool ws j → 0 < j → (pool′ ws′ : List ℕ)
-    → length pool′ ≡ length pool → length ws′ ≡ length ws → Holds (undoMark (shelfIn baseMeasures pool ws) (getD placed (j - 1) 0)) pool′ ws′ → Going placed all pool₀ ws₀ pool′ ws′ (j - 1)
-going-step {placed} {all} {pool₀} {ws₀} {pool} {ws} {j} g h pool′ ws′ np nw d =
-    let t : Shelf = undoMark (shelfIn baseMeasures pool ws) (getD placed (j - 1) 0) in
-    let p = steps-next placed j (shelfIn baseMeasures pool ws) h (g .steps) in
-    let b : Back 4294967295 t pool′ ws′ = stored-back 4294967295 t pool′ ws′ (omega arith) (p .1) (d .bytes) (d .table) in
+pub going-step : {m : Measures} {placed : List ℕ} {all : Shelf} {pool₀ ws₀ pool ws : List ℕ} {j : ℕ} → Going m placed all pool₀ ws₀ pool ws j → 0 < j → (pool′ ws′ : List ℕ)
+    → length pool′ ≡ length pool → length ws′ ≡ length ws → Told m pool′ ws′ (undoRecord m (shelfIn m pool ws) (getD placed (j - 1) 0)) → Going m placed all pool₀ ws₀ pool′ ws′ (j - 1)
+going-step {m} {placed} {all} {pool₀} {ws₀} {pool} {ws} {j} g h pool′ ws′ np nw d =
+    let k : ℕ = getD placed (j - 1) 0 in
+    let t : Shelf = undoRecord m (shelfIn m pool ws) k in
     record {
-      stored = b .stored;
-      steps = rw (b .shelf) (p .2);
-      left = rw (b .shelf) (sym (upto-step placed j (shelfIn baseMeasures pool ws) h) ∙ g .left);
+      stored = stored-again m pool ws pool′ ws′ t (g .stored) d (undo-exact m (shelfIn m pool ws) (g .stored .exact) k) np nw;
+      left = rw (shelf-read m (g .stored .measured) pool′ ws′ t d) (sym (upto-step m placed j (shelfIn m pool ws) h) ∙ g .left);
       samePool = np ∙ g .samePool;
       sameTable = nw ∙ g .sameTable;
     }
 
-pub going-end : {placed : List ℕ} {all : Shelf} {pool₀ ws₀ pool ws : List ℕ} {j : ℕ} → Going placed all pool₀ ws₀ pool ws j → j ≡ 0 → Holds all pool ws
-unfolding undoUpto shelfIn
-going-end {placed} {all} {pool₀} {ws₀} {pool} {ws} {j} g z =
-    let e : (shelfIn baseMeasures) pool ws ≡ all = rw z at (g .left) in
-    rw (← e) (record { bytes = pool-back (g .stored); table = words-back (g .stored) })
-
-pub mark-none : (bound m : ℕ) (pool ws : List ℕ) → Stored bound pool ws → m ≡ 0 → Holds (undoMark (shelfIn baseMeasures pool ws) m) pool ws
-unfolding undoMark shelfIn
-mark-none bound m pool ws st e = rw e (record { bytes = pool-back st; table = words-back st })
-
-pub mark-some : (m : ℕ) (s : Shelf) (pool ws : List ℕ) → (m ≡ 0 → ⊥) → Holds (undoRecord s (m - 1)) pool ws → Holds (undoMark s m) pool ws
-unfolding undoMark
-mark-some zero s pool ws n h = absurd (n refl)
-mark-some (suc m) s pool ws n h = let e : suc m - 1 ≡ m = omega arith in rw e at h
+pub going-end : {m : Measures} {placed : List ℕ} {all : Shelf} {pool₀ ws₀ pool ws : List ℕ} {j : ℕ} → Going m placed all pool₀ ws₀ pool ws j → j ≡ 0 → Told m pool ws all
+unfolding undoUpto
+going-end {m} {pool = pool} {ws = ws} g z = subst (λ (s : Shelf). Told m pool ws s) (rw z at (g .left)) (g .stored .told)

@@ -1,17 +1,20 @@
 // Placings undone, the last first.
 ghost use mathlib.Core.Path.{_≡_};
-ghost use Prim.Native.Nat.{ℕ, _+_, _*_, _/_, _≤_, _<_};
-ghost use lib.ListN.{length, getD, set};
+ghost use Prim.Native.Nat.{ℕ, _+_, _*_, _≤_, _<_};
+ghost use lib.ListN.{length, getD};
 ghost use lib.Dec.{ltb};
 ghost use Rattle.lists.specs.Lists.{every};
-ghost use Rattle.model.specs.Measures.{baseMeasures};
+ghost use Rattle.model.specs.Measures.{recordWords};
+ghost use Rattle.model.specs.State.{Segment};
 ghost use Rattle.model.specs.Records.{cellsOf};
 ghost use Rattle.model.specs.Sweep.{clearCells};
-ghost use Rattle.model.specs.Table.{segmentIn, cellsIn, shelfIn};
-ghost use Rattle.place_words.specs.Words.{keptCell, RowFits};
-ghost use Rattle.place_words.specs.Stored.{Stored};
-ghost use Rattle.place_undo.specs.Undo.{undoRecord, undoMark, Holds, undoUpto, Steps};
+ghost use Rattle.model.specs.Table.{recordToWords, recordsIn, cellsIn, shelfIn};
+ghost use Rattle.numbers.specs.Measures.{measuresOf};
+ghost use Rattle.shelf.specs.Stored.{Stored, Told};
+ghost use Rattle.place_words.specs.Words.{keptCell};
+ghost use Rattle.place_undo.specs.Undo.{undoRecord, undoUpto};
 use numbers::Cell;
+use numbers::Measures;
 use numbers::RecordNumber;
 
 // Whether no word is above 1.
@@ -29,68 +32,68 @@ fn words_low(words: &[u32]) -> bool
 }
 
 // A cell is cleared, where the bit is set.
-fn clear_if(bit: u32, cell: Cell, pool: &mut [u8])
-    requires { ⌜ (bit < 2) × (cell .0 < length (now pool) / 64) × (cell .0 < 32768) ⌝ }
-    ensures { λ _. ⌜ cellsIn 64 (now (pool .exit)) ≡ clearCells 64 (cellsIn 64 (now (pool .entry))) (keptCell bit (cell .0)) ⌝ }
+fn clear_if(bit: u32, cell: Cell, pool: &mut [u8], bytes: usize)
+    requires { ⌜ (bit < 2) × (cell .0 * bytes + bytes ≤ length (now pool)) × (0 < bytes) × (bytes ≤ 512) ⌝ }
+    ensures { λ _. ⌜ cellsIn bytes (now (pool .exit)) ≡ clearCells bytes (cellsIn bytes (now (pool .entry))) (keptCell bit (cell .0)) ⌝ }
 {
     if bit == 0 {
         return;
     }
-    blocks::clear_cell(pool, cell);
+    blocks::clear_cell(pool, cell, bytes);
 }
 
-// The cells that a record names are cleared.
-fn clear_cells(row: &[u32], pool: &mut [u8])
-    requires { ⌜ (length (now row) ≡ 19) × (length (now pool) / 64 ≤ 32768) × RowFits (length (now pool) / 64) (now row) ⌝ }
-    ensures { λ _. ⌜ cellsIn 64 (now (pool .exit)) ≡ clearCells 64 (cellsIn 64 (now (pool .entry))) (cellsOf (segmentIn 8 (now (row .entry)))) ⌝ }
+// The cells that a record of n positions names are cleared.
+fn clear_cells(row: &[u32], pool: &mut [u8], bytes: usize, n: usize)
+    requires { ⌜ (length (now row) ≡ recordWords n) × ((i : ℕ) → i < n → getD (now row) (3 + i) 0 * bytes + bytes ≤ length (now pool)) × (0 < bytes) × (bytes ≤ 512) × (n ≤ 16) ⌝ }
+    ensures { λ _. ⌜ ((seg : Segment) → length seg ≡ n → now (row .entry) ≡ recordToWords seg → cellsIn bytes (now (pool .exit)) ≡ clearCells bytes (cellsIn bytes (now (pool .entry))) (cellsOf seg)) ⌝ }
 {
     let mut m = row[0];
     let mut i: usize = 0;
-    while i < 8 {
+    while i < n {
         let cell = row[3 + i];
-        clear_if(m % 2, Cell(cell), pool);
+        clear_if(m % 2, Cell(cell), pool, bytes);
         m = m / 2;
         i = i + 1;
     }
 }
 
 // A placing into a record is undone.
-fn undo_record(pool: &mut [u8], records: &mut [u32], k: RecordNumber)
-    requires { ⌜ Stored 4294967295 (now pool) (now records) × (k .0 < length (now records) / 19) ⌝ }
-    ensures { λ _. ⌜ Holds (undoRecord (shelfIn baseMeasures (now (pool .entry)) (now (records .entry))) (k .0)) (now (pool .exit)) (now (records .exit)) ⌝ }
+fn undo_record(pool: &mut [u8], records: &mut [u32], k: RecordNumber, m: Measures)
+    requires { ⌜ Stored (measuresOf m) (now pool) (now records) × (k .0 < length (recordsIn (m .blocks) (now records))) ⌝ }
+    ensures { λ _. ⌜ Told (measuresOf m) (now (pool .exit)) (now (records .exit)) (undoRecord (measuresOf m) (shelfIn (measuresOf m) (now (pool .entry)) (now (records .entry))) (k .0)) ⌝ }
 {
-    let n = k.0;
-    let start = n as usize * 19;
-    let end = start + 19;
-    let counts = start + 11;
+    let start = k.word(m.blocks);
+    let end = start + numbers::row_words(m.blocks);
+    let counts = start + (3 + m.blocks);
     if words_low(&records[counts..end]) {
-        clear_cells(&records[start..end], pool);
-        place_words::clear_row(&mut records[start..end]);
+        clear_cells(&records[start..end], pool, m.bytes, m.blocks);
+        words::clear(&mut records[start..end]);
         return;
     }
-    place_words::lower_row(&mut records[start..end]);
+    place_words::lower_row(&mut records[start..end], m.blocks);
 }
 
-// By what a placing answers: 0 where no record was needed, or the record's number and 1.
-fn undo_mark(pool: &mut [u8], records: &mut [u32], mark: u32)
-    requires { ⌜ Stored 4294967295 (now pool) (now records) × (mark ≤ length (now records) / 19) ⌝ }
-    ensures { λ _. ⌜ Holds (undoMark (shelfIn baseMeasures (now (pool .entry)) (now (records .entry))) mark) (now (pool .exit)) (now (records .exit)) ⌝ }
+// The same for any number: one past the last record is that of a segment that needed none.
+fn undo_placing(pool: &mut [u8], records: &mut [u32], k: RecordNumber, m: Measures)
+    requires { ⌜ Stored (measuresOf m) (now pool) (now records) ⌝ }
+    ensures { λ _. ⌜ Told (measuresOf m) (now (pool .exit)) (now (records .exit)) (undoRecord (measuresOf m) (shelfIn (measuresOf m) (now (pool .entry)) (now (records .entry))) (k .0)) ⌝ }
 {
-    if mark == 0 {
+    let n = k.0;
+    if numbers::rows(records.len(), m.blocks) <= n as usize {
         return;
     }
-    let k = mark - 1;
-    undo_record(pool, records, RecordNumber(k));
+    undo_record(pool, records, k, m);
 }
 
 // The first `count` placings are undone.
-pub fn undo_all(pool: &mut [u8], records: &mut [u32], placed: &[u32], count: usize)
-    requires { ⌜ Stored 4294967295 (now pool) (now records) × (count ≤ length (now placed)) × Steps (now placed) count (shelfIn baseMeasures (now pool) (now records)) ⌝ }
-    ensures { λ _. ⌜ Holds (undoUpto (now (placed .entry)) count (shelfIn baseMeasures (now (pool .entry)) (now (records .entry)))) (now (pool .exit)) (now (records .exit)) ⌝ }
+pub fn undo_all(pool: &mut [u8], records: &mut [u32], placed: &[u32], count: usize, m: Measures)
+    requires { ⌜ Stored (measuresOf m) (now pool) (now records) × (count ≤ length (now placed)) ⌝ }
+    ensures { λ _. ⌜ Told (measuresOf m) (now (pool .exit)) (now (records .exit)) (undoUpto (measuresOf m) (now (placed .entry)) count (shelfIn (measuresOf m) (now (pool .entry)) (now (records .entry)))) ⌝ }
 {
     let mut j = count;
     while 0 < j {
         j = j - 1;
-        undo_mark(pool, records, placed[j]);
+        let k = placed[j];
+        undo_placing(pool, records, RecordNumber(k), m);
     }
 }

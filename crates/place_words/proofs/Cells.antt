@@ -1,42 +1,48 @@
--- The cells that a row's held positions name, along the mask.
+-- The cells that a record's held positions name, one after the other along the mask.
 use mathlib.Core.Path.{_∙_, _≡_, ap, refl, sym}
+use mathlib.Core.Bool.{cond}
 use mathlib.Core.List.{List, [], _++_, _∷_}
-use Prim.Native.Nat.{_%_, _+_, _/_, _<_, _≤_, suc, zero, ℕ}
-use native.Mathlib.Omega.{arith}
+use Prim.Native.Nat.{_%_, _+_, _/_, _<_, _≤_, ℕ}
 use lib.ListN.{drop, getD, length}
+use Rattle.lists.specs.Masks.{maskOf}
 use Rattle.lists.proofs.Slices.{drop-end, drop-next}
-use Rattle.model.specs.Records.{cellsOf}
-use Rattle.model.specs.Table.{positionOf, positionsIn, segmentIn}
+use Rattle.lists.proofs.Walks.{mask-after, mask-here}
+use Rattle.model.specs.Records.{cellOf, cellsOf, isHeld}
+use Rattle.model.specs.State.{Position, Segment, held, nullPosition, removed}
+use Rattle.model.specs.Table.{recordToWords}
 use Rattle.place_words.specs.Words.{keptCell}
-use Rattle.place_words.proofs.Reading.{cell-word, cellWords, countWords, length-cells, length-counts}
+use Rattle.place_words.proofs.Reading.{cell-word, held-word}
 
--- the words whose bits are set
-unfoldable pub cellsBy : ℕ → List ℕ → List ℕ
-cellsBy m [] = []
-cellsBy m (c ∷ cs) = keptCell (m % 2) c ++ cellsBy (m / 2) cs
+-- a position's cell, if it is held
+position-cell : (p : Position) (ps : Segment) → cellsOf (p ∷ ps) ≡ keptCell (cond (isHeld p) 1 0) (cellOf p) ++ cellsOf ps
+unfolding cellsOf
+position-cell nullPosition ps = refl
+position-cell (held c n) ps = refl
+position-cell removed ps = refl
 
-cells-by : (h r : ℕ) (cs ns : List ℕ) → length cs ≡ length ns → cellsOf (positionsIn h r cs ns) ≡ cellsBy h cs
-unfolding cellsOf positionsIn cellsBy
-cells-by h r [] ns e = refl
-cells-by h r (c ∷ cs) [] e = absurd (omega arith)
-cells-by h r (c ∷ cs) (n ∷ ns) e = go (h % 2) (r % 2) (cells-by (h / 2) (r / 2) cs ns (omega arith))
-  where
-    go : (b d : ℕ) → cellsOf (positionsIn (h / 2) (r / 2) cs ns) ≡ cellsBy (h / 2) cs
-        → cellsOf (positionOf b d c n ∷ positionsIn (h / 2) (r / 2) cs ns) ≡ keptCell b c ++ cellsBy (h / 2) cs
-    go zero zero q = unfold positionOf in q
-    go zero (suc d) q = unfold positionOf in q
-    go (suc b) d q = unfold positionOf in ap (λ (l : List ℕ). c ∷ l) q
+-- ---- what is done to the cells one after the other
 
-module _ (row : List ℕ) (w : length row ≡ 19) where
-  pub row-cells : cellsOf (segmentIn 8 row) ≡ cellsBy (getD row 0 0) (cellWords row)
-  unfolding segmentIn cellWords countWords
-  row-cells = cells-by (getD row 0 0) (getD row 1 0) (cellWords row) (countWords row) (length-cells row w ∙ sym (length-counts row w))
+-- i positions are done, and what is left gives the whole
+pub record Acted {S : Type 0} (act : List ℕ → S → S) (seg : Segment) (s₀ : S) (m i : ℕ) (s : S) : Type 0 where
+  pub mask : m ≡ maskOf isHeld (drop i seg)
+  pub left : act (cellsOf (drop i seg)) s ≡ act (cellsOf seg) s₀
 
-  -- at word i
-  pub cells-next : (m i : ℕ) → i < 8 → cellsBy m (drop i (cellWords row)) ≡ keptCell (m % 2) (getD row (3 + i) 0) ++ cellsBy (m / 2) (drop (i + 1) (cellWords row))
-  unfolding cellsBy
-  cells-next m i h = rw (drop-next (cellWords row) i 0 (omega (arith, length-cells row w)), cell-word row w i h)
+module _ {S : Type 0} (act : List ℕ → S → S) (seg : Segment) (row : List ℕ) (e : row ≡ recordToWords seg) (s₀ : S) where
+  pub acted-start : Acted act seg s₀ (getD row 0 0) 0 s₀
+  acted-start = record { mask = ap (λ (l : List ℕ). getD l 0 0) e ∙ held-word seg; left = refl }
 
-  pub cells-end : (m i : ℕ) → 8 ≤ i → cellsBy m (drop i (cellWords row)) ≡ []
-  unfolding cellsBy
-  cells-end m i h = rw (drop-end (cellWords row) i (omega (arith, length-cells row w)))
+  module _ (m i : ℕ) (s : S) (t : Acted act seg s₀ m i s) where
+    -- at position i, as the row has it
+    pub acted-next : ((xs ys : List ℕ) → act (xs ++ ys) s ≡ act ys (act xs s)) → i < length seg → Acted act seg s₀ (m / 2) (i + 1) (act (keptCell (m % 2) (getD row (3 + i) 0)) s)
+    acted-next f h =
+        let b : m % 2 ≡ cond (isHeld (getD seg i nullPosition)) 1 0 = rw (t .mask) (mask-here isHeld seg i nullPosition h) in
+        let here : cellsOf (drop i seg) ≡ keptCell (m % 2) (getD row (3 + i) 0) ++ cellsOf (drop (i + 1) seg) =
+        ap cellsOf (drop-next seg i nullPosition h) ∙ position-cell (getD seg i nullPosition) (drop (i + 1) seg) ∙ rw (b, e, cell-word seg i h) in
+        record {
+          mask = rw (t .mask) (mask-after isHeld seg i nullPosition h);
+          left = sym (f (keptCell (m % 2) (getD row (3 + i) 0)) (cellsOf (drop (i + 1) seg))) ∙ ap (λ (l : List ℕ). act l s) (sym here) ∙ t .left;
+        }
+
+    pub acted-end : act [] s ≡ s → length seg ≤ i → s ≡ act (cellsOf seg) s₀
+    unfolding cellsOf
+    acted-end z h = sym z ∙ rw (drop-end seg i h) at (t .left)

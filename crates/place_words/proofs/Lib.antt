@@ -1,7 +1,5 @@
--- Laws of the relations of specs/, and of what the functions do to a row.
-
+-- Laws of a record's row, of searches and of a segment's mask.
 pub mod Reading
 pub mod Cells
 pub mod Marks
 pub mod Rowing
-pub mod Storing

@@ -24,8 +24,8 @@ marks-mod b bs = mask-odd (λ b. not (allZero b)) b bs
 pub marks-div : (b : Block) (bs : List Block) → marks (b ∷ bs) / 2 ≡ marks bs
 marks-div b bs = mask-half (λ b. not (allZero b)) b bs
 
-pub marks-small : (bs : List Block) → length bs ≤ 8 → marks bs < 256
-marks-small bs h = let p : 2 ^ length bs ≤ 2 ^ 8 = pow-mono h in omega (arith, p, mask-lt (λ b. not (allZero b)) bs)
+pub marks-small : (bs : List Block) → length bs ≤ 16 → marks bs < 65536
+marks-small bs h = let p : 2 ^ length bs ≤ 2 ^ 16 = pow-mono h in omega (arith, p, mask-lt (λ b. not (allZero b)) bs)
 
 -- ---- the blocks that are stored
 

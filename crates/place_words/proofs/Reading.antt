@@ -1,112 +1,74 @@
--- Laws for reading the records' words and the pool's bytes.
-use mathlib.Core.Path.{_∙_, _≡_, ap, sym}
-use mathlib.Core.Bool.{Bool, cond, false, true}
-use mathlib.Core.List.{List, [], _∷_}
+-- Laws for reading a record's words, and of a search among them.
+use mathlib.Core.Path.{_∙_, _≡_, refl, sym}
+use mathlib.Core.Bool.{Bool, false, true}
+use mathlib.Core.List.{List, map}
 use mathlib.Core.Option.{none, some}
-use Prim.Native.Nat.{_%_, _*_, _+_, _-_, _/_, _<_, _≤_, suc, zero, ℕ}
-use native.Mathlib.Numerals.{add-one}
+use Prim.Native.Nat.{_+_, _<_, _≤_, suc, ℕ}
 use native.Mathlib.Omega.{arith}
-use lib.ListN.{List·getD-map, drop, getD, length, length-drop, length-map, take}
-use lib.Seq.{getD-drop, getD-take, length-take-le}
+use lib.ListN.{List·getD-append, List·getD-map, drop, getD, length, length-map, take}
+use lib.Seq.{drop-at, drop-drop, getD-append-add, take-all}
 use borrow.Author.Tests.{le-ltb, lt-ltb}
 use Rattle.lists.specs.Lists.{firstFrom}
-use Rattle.lists.specs.Rows.{chunks}
-use Rattle.lists.proofs.Cuts.{chunk-at, length-chunks}
-use Rattle.lists.proofs.Slices.{drop-end, drop-next}
-use Rattle.model.specs.Image.{blockFrom, blocksFrom}
-use Rattle.model.specs.Measures.{baseMeasures}
-use Rattle.model.specs.Records.{cellAt}
-use Rattle.model.specs.State.{Block, Segment, Shelf}
-use Rattle.model.specs.Table.{cellsIn, positionOf, positionsIn, recordsIn, segmentIn, shelfIn}
+use Rattle.lists.specs.Masks.{maskOf}
+use Rattle.lists.proofs.Puts.{first-step}
+use Rattle.lists.proofs.Slices.{drop-end}
+use Rattle.model.specs.Records.{cellOf, countOf, isHeld, isRemoved}
+use Rattle.model.specs.State.{Segment, nullPosition}
+use Rattle.model.specs.Table.{recordToWords}
 use Rattle.place_words.specs.Words.{asOption}
 
--- ---- cells
+-- ---- a row's words
 
-pub cell-is : (pool : List ℕ) (c : ℕ) → c < length pool / 64 → getD (cellsIn 64 pool) c [] ≡ take 64 (drop (c * 64) pool)
-unfolding cellsIn
-cell-is pool c h = chunk-at 64 pool c h
+module _ (seg : Segment) where
+  pub held-word : getD (recordToWords seg) 0 0 ≡ maskOf isHeld seg
+  unfolding recordToWords
+  held-word = refl
 
-pub length-cells-in : (pool : List ℕ) → length (cellsIn 64 pool) ≡ length pool / 64
-unfolding cellsIn
-length-cells-in pool = length-chunks 64 pool
+  pub removed-word : getD (recordToWords seg) 1 0 ≡ maskOf isRemoved seg
+  unfolding recordToWords
+  removed-word = refl
 
--- ---- a row's cell words and count words
+  pub cell-word : (i : ℕ) → i < length seg → getD (recordToWords seg) (3 + i) 0 ≡ cellOf (getD seg i nullPosition)
+  unfolding recordToWords
+  cell-word i h =
+      let q : 3 + i ≡ suc (suc (suc i)) = omega arith in
+      rw q (List·getD-append (map cellOf seg) (map countOf seg) 0 i (omega (arith, length-map seg cellOf)) ∙ List·getD-map cellOf seg i nullPosition)
 
-unfoldable pub cellWords : List ℕ → List ℕ
-cellWords row = take 8 (drop 3 row)
+  module _ (n : ℕ) (e : length seg ≡ n) where
+    pub count-word : (i : ℕ) → getD (recordToWords seg) (3 + n + i) 0 ≡ countOf (getD seg i nullPosition)
+    unfolding recordToWords
+    count-word i =
+        let q : 3 + n + i ≡ suc (suc (suc (length (map cellOf seg) + i))) = omega (arith, length-map seg cellOf) in
+        rw q (getD-append-add (map cellOf seg) (map countOf seg) i 0 ∙ List·getD-map countOf seg i nullPosition)
 
-unfoldable pub countWords : List ℕ → List ℕ
-countWords row = take 8 (drop 11 row)
+    pub count-words : take n (drop (3 + n) (recordToWords seg)) ≡ map countOf seg
+    unfolding recordToWords
+    count-words =
+        rw (← drop-drop n 3 (recordToWords seg), drop-at (map cellOf seg) (map countOf seg) n (length-map seg cellOf ∙ e))
+        (take-all n (map countOf seg) (omega (arith, length-map seg countOf)))
 
-module _ (row : List ℕ) (w : length row ≡ 19) where
-  pub length-cells : length (cellWords row) ≡ 8
-  unfolding cellWords
-  length-cells = length-take-le 8 (drop 3 row) (omega (arith, length-drop 3 row))
+-- cell words that name cells
+pub cells-below : (n l : ℕ) (seg : Segment) → length seg ≡ n → ((i : ℕ) → cellOf (getD seg i nullPosition) < l)
+    → (row : List ℕ) → row ≡ recordToWords seg → (i : ℕ) → i < n → getD row (3 + i) 0 < l
+cells-below n l seg e f row s i h = rw (s, cell-word seg i (omega arith)) (f i)
 
-  pub length-counts : length (countWords row) ≡ 8
-  unfolding countWords
-  length-counts = length-take-le 8 (drop 11 row) (omega (arith, length-drop 11 row))
+-- count words below a bound
+pub counts-below : (n l : ℕ) (seg : Segment) → length seg ≡ n → ((i : ℕ) → countOf (getD seg i nullPosition) < l)
+    → (row : List ℕ) → row ≡ recordToWords seg → (i : ℕ) → i < n → getD row (3 + n + i) 0 < l
+counts-below n l seg e f row s i h = rw (s, count-word seg n e i) (f i)
 
-  pub cell-word : (i : ℕ) → i < 8 → getD (cellWords row) i 0 ≡ getD row (3 + i) 0
-  unfolding cellWords
-  cell-word i h = getD-take 8 (drop 3 row) i 0 h ∙ getD-drop 3 row i 0
+-- ---- the first that passes a test
 
-  pub count-word : (i : ℕ) → i < 8 → getD (countWords row) i 0 ≡ getD row (11 + i) 0
-  unfolding countWords
-  count-word i h = getD-take 8 (drop 11 row) i 0 h ∙ getD-drop 11 row i 0
+module _ {A : Type 0} (f : A → Bool) (d : A) (xs : List A) (k : ℕ) where
+  pub first-yes : k < length xs → true ≡ f (getD xs k d) → asOption (length xs) k ≡ firstFrom f k (drop k xs)
+  first-yes h e = rw (lt-ltb k (length xs) h) (sym (first-step f d xs k h ∙ rw (← e)))
 
-pub positions-next : (h r i : ℕ) (cs ns : List ℕ) → i < length cs → i < length ns
-    → positionsIn h r (drop i cs) (drop i ns) ≡ positionOf (h % 2) (r % 2) (getD cs i 0) (getD ns i 0) ∷ positionsIn (h / 2) (r / 2) (drop (i + 1) cs) (drop (i + 1) ns)
-unfolding positionsIn
-positions-next h r i cs ns p q = rw (drop-next cs i 0 p, drop-next ns i 0 q)
+  pub first-no : k < length xs → false ≡ f (getD xs k d) → firstFrom f k (drop k xs) ≡ firstFrom f (k + 1) (drop (k + 1) xs)
+  first-no h e = first-step f d xs k h ∙ rw (← e)
 
--- ---- the first record that passes a test
-
-module _ (f : Segment → Bool) (ws : List ℕ) where
-  pub length-records : length (recordsIn 8 ws) ≡ length ws / 19
-  unfolding recordsIn
-  length-records = length-map (chunks 19 ws) (segmentIn 8) ∙ length-chunks 19 ws
-
-  pub record-at : (k : ℕ) → k < length ws / 19 → getD (recordsIn 8 ws) k (segmentIn 8 []) ≡ segmentIn 8 (take 19 (drop (k * 19) ws))
-  unfolding recordsIn
-  record-at k h = List·getD-map (segmentIn 8) (chunks 19 ws) k [] ∙ ap (segmentIn 8) (chunk-at 19 ws k h)
-
-  first-step : (k : ℕ) → k < length ws / 19
-      → firstFrom f k (drop k (recordsIn 8 ws)) ≡ cond (f (segmentIn 8 (take 19 (drop (k * 19) ws)))) (some k) (firstFrom f (k + 1) (drop (k + 1) (recordsIn 8 ws)))
+  pub first-end : length xs ≤ k → asOption (length xs) k ≡ firstFrom f k (drop k xs)
   unfolding firstFrom
-  first-step k h = rw (drop-next (recordsIn 8 ws) k (segmentIn 8 []) (rw length-records h), record-at k h, add-one k)
-
-  pub first-yes : (k : ℕ) → k < length ws / 19 → true ≡ f (segmentIn 8 (take 19 (drop (k * 19) ws))) → asOption (length ws / 19) k ≡ firstFrom f k (drop k (recordsIn 8 ws))
-  first-yes k h e = rw (lt-ltb k (length ws / 19) h) (sym (first-step k h ∙ rw (← e)))
-
-  pub first-no : (k : ℕ) → k < length ws / 19 → false ≡ f (segmentIn 8 (take 19 (drop (k * 19) ws)))
-      → firstFrom f k (drop k (recordsIn 8 ws)) ≡ firstFrom f (k + 1) (drop (k + 1) (recordsIn 8 ws))
-  first-no k h e = first-step k h ∙ rw (← e)
-
-  pub first-end : (k : ℕ) → length ws / 19 ≤ k → asOption (length ws / 19) k ≡ firstFrom f k (drop k (recordsIn 8 ws))
-  unfolding firstFrom
-  first-end k h = rw (le-ltb k (length ws / 19) h, drop-end (recordsIn 8 ws) k (omega (arith, length-records)))
-
--- ---- the shelf
-
-pub shelf-records : (pool ws : List ℕ) → length (shelfIn baseMeasures pool ws .records) ≡ length ws / 19
-unfolding shelfIn recordsIn
-shelf-records pool ws = length-map (chunks 19 ws) (segmentIn 8) ∙ length-chunks 19 ws
-
-pub shelf-cells : (pool ws : List ℕ) → length (shelfIn baseMeasures pool ws .cells) ≡ length pool / 64
-unfolding shelfIn
-shelf-cells pool ws = length-cells-in pool
-
-pub cell-at : (s : Shelf) (pool : List ℕ) (c : ℕ) → s .cells ≡ cellsIn 64 pool → c < length pool / 64 → cellAt s c ≡ take 64 (drop (c * 64) pool)
-unfolding cellAt
-cell-at s pool c e h = ap (λ (l : List Block). getD l c []) e ∙ cell-is pool c h
-
--- ---- blocks of an image
-
-pub blocks-next : (image : List ℕ) (at n : ℕ) → 0 < n → blocksFrom 64 image at n ≡ blockFrom 64 image at ∷ blocksFrom 64 image (at + 64) (n - 1)
-unfolding blocksFrom
-blocks-next image at zero h = absurd (omega arith)
-blocks-next image at (suc n) h = let e : suc n - 1 ≡ n = omega arith in rw e
+  first-end h = rw (le-ltb k (length xs) h, drop-end xs k h)
 
 -- ---- a search's answer
 

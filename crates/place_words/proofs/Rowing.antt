@@ -6,72 +6,48 @@ use Prim.Native.Nat.{_*_, _+_, _-_, suc, zero, ℕ}
 use native.Mathlib.Nat.{add-zero}
 use native.Mathlib.Numerals.{add-one}
 use native.Mathlib.Omega.{arith}
-use lib.ListN.{drop, getD, length, length-append, length-drop, length-map, length-set, set, take}
-use lib.Seq.{drop-at, length-take-le, take-all, take-at}
+use lib.ListN.{drop, getD, length, length-append, length-drop, length-map, length-set, replicate, set, take}
+use lib.Seq.{length-take-le}
 use Rattle.lists.specs.Lists.{allZero}
 use Rattle.lists.specs.Masks.{maskOf}
 use Rattle.lists.specs.Walk.{bits, lowered, nextAdd, nextSame, numbered, outBit, outLess, outMore, outPick, pick, placed, raised, walk}
+use Rattle.lists.proofs.Puts.{map-then}
 use Rattle.lists.proofs.Slices.{tail-is, tail-put}
-use Rattle.lists.proofs.Walks.{length-walk, walk-any, walk-map}
+use Rattle.lists.proofs.Walks.{length-walk, walk-map}
+use Rattle.model.specs.Measures.{recordWords}
 use Rattle.model.specs.Place.{newPositions, oneMore, pointersTo}
 use Rattle.model.specs.Records.{cellOf, countOf, isHeld, isRemoved}
 use Rattle.model.specs.State.{Block, Position, Segment, direct, held, nullPointer, nullPosition, removed}
 use Rattle.model.specs.Sweep.{oneLess}
-use Rattle.model.specs.Table.{kindUnit, pointerWord, recordToWords, segmentIn}
-use Rattle.laws.proofs.RoundTrip.{positions-back}
+use Rattle.model.specs.Table.{kindUnit, pointerWord, recordToWords}
+use Rattle.laws.proofs.RoundTrip.{direct-word}
 use Rattle.place_words.specs.Marks.{marks}
-use Rattle.lists.proofs.Puts.{map-then}
 use Rattle.place_words.proofs.Marks.{marks-div, marks-mod}
+use Rattle.place_words.proofs.Reading.{held-word}
 
-pub row-words : (ps : Segment) → length (recordToWords ps) ≡ 3 + (length ps + length ps)
-unfolding recordToWords
-row-words ps = rw (length-append (map cellOf ps) (map countOf ps), length-map ps cellOf, length-map ps countOf) (let e : suc (suc (suc (length ps + length ps))) ≡ 3 + (length ps + length ps) = omega arith in e)
-
-module _ (ps : Segment) (e : length ps ≡ 8) where
-  cells-eight : length (map cellOf ps) ≡ 8
-  cells-eight = length-map ps cellOf ∙ e
-
-  counts-eight : length (map countOf ps) ≡ 8
-  counts-eight = length-map ps countOf ∙ e
-
-  pub words-cells : take 8 (drop 3 (recordToWords ps)) ≡ map cellOf ps
-  unfolding recordToWords
-  words-cells = take-at (map cellOf ps) (map countOf ps) 8 cells-eight
-
-  pub words-counts : take 8 (drop 11 (recordToWords ps)) ≡ map countOf ps
-  unfolding recordToWords
-  words-counts = ap (take 8) (drop-at (map cellOf ps) (map countOf ps) 8 cells-eight) ∙ take-all 8 (map countOf ps) (omega (arith, counts-eight))
-
-  pub row-back : (segmentIn 8) (recordToWords ps) ≡ ps
-  unfolding segmentIn
-  row-back = rw (words-cells, words-counts) (unfold recordToWords in positions-back ps)
-
-  pub row-length : length (recordToWords ps) ≡ 19
-  row-length = row-words ps ∙ rw e
-
-  -- the counts are lent as the row's end
+-- the counts are lent as the row's end
+module _ (n : ℕ) (seg : Segment) (e : length seg ≡ n) (row : List ℕ) (s : row ≡ recordToWords seg) where
   lead : List ℕ
-  lead = maskOf isHeld ps ∷ maskOf isRemoved ps ∷ 0 ∷ map cellOf ps
+  lead = maskOf isHeld seg ∷ maskOf isRemoved seg ∷ 0 ∷ map cellOf seg
 
-  lead-length : length lead ≡ 11
+  lead-length : length lead ≡ 3 + n
   unfolding lead
-  lead-length = ap (λ (n : ℕ). suc (suc (suc n))) cells-eight
+  lead-length = let q : suc (suc (suc (length (map cellOf seg)))) ≡ 3 + n = omega (arith, length-map seg cellOf) in q
 
-  lead-split : recordToWords ps ≡ lead ++ map countOf ps
+  lead-split : row ≡ lead ++ map countOf seg
   unfolding recordToWords lead
-  lead-split = refl
+  lead-split = s
 
-  module _ (row : List ℕ) (s : row ≡ recordToWords ps) where
-    pub counts-lent : take (length row - 11) (drop 11 row) ≡ map countOf ps
-    counts-lent = tail-is lead (map countOf ps) row 11 (s ∙ lead-split) lead-length
+  counts-lent : take (length row - (3 + n)) (drop (3 + n) row) ≡ map countOf seg
+  counts-lent = tail-is lead (map countOf seg) row (3 + n) lead-split lead-length
 
-    pub counts-back : (cs : List ℕ) → take 11 row ++ (cs ++ drop (length row - 11) (drop 11 row)) ≡ maskOf isHeld ps ∷ maskOf isRemoved ps ∷ 0 ∷ (map cellOf ps ++ cs)
-    unfolding lead
-    counts-back cs = tail-put lead (map countOf ps) row 11 (s ∙ lead-split) lead-length cs
+  counts-back : (cs : List ℕ) → take (3 + n) row ++ (cs ++ drop (length row - (3 + n)) (drop (3 + n) row)) ≡ maskOf isHeld seg ∷ maskOf isRemoved seg ∷ 0 ∷ (map cellOf seg ++ cs)
+  unfolding lead
+  counts-back cs = tail-put lead (map countOf seg) row (3 + n) lead-split lead-length cs
 
 -- ---- one more, one less
 
-pub raise-counts : (ps : Segment) → raised (maskOf isHeld ps) (map countOf ps) ≡ map countOf (map oneMore ps)
+raise-counts : (ps : Segment) → raised (maskOf isHeld ps) (map countOf ps) ≡ map countOf (map oneMore ps)
 raise-counts ps = walk-map outMore 0 isHeld countOf ps ∙ map-then (λ p. countOf p + cond (isHeld p) 1 0) countOf oneMore go ps
   where
     go : (p : Position) → countOf p + cond (isHeld p) 1 0 ≡ countOf (oneMore p)
@@ -79,7 +55,7 @@ raise-counts ps = walk-map outMore 0 isHeld countOf ps ∙ map-then (λ p. count
     go (held c n) = add-one n
     go removed = refl
 
-pub lower-counts : (ps : Segment) → lowered (maskOf isHeld ps) (map countOf ps) ≡ map countOf (map oneLess ps)
+lower-counts : (ps : Segment) → lowered (maskOf isHeld ps) (map countOf ps) ≡ map countOf (map oneLess ps)
 lower-counts ps = walk-map outLess 0 isHeld countOf ps ∙ map-then (λ p. countOf p - cond (isHeld p) 1 0) countOf oneLess go ps
   where
     go : (p : Position) → countOf p - cond (isHeld p) 1 0 ≡ countOf (oneLess p)
@@ -113,25 +89,21 @@ unfolding recordToWords
 kept-row g k ps cs e =
     rw (kept-mask g isHeld (λ p. k p .0) ps, kept-mask g isRemoved (λ p. k p .1) ps, ← map-then cellOf cellOf g (λ p. sym (k p .2)) ps, e)
 
-module _ (row : List ℕ) (w : length row ≡ 19) (s : row ≡ recordToWords (segmentIn 8 row)) where
-  row-eight : length (segmentIn 8 row) ≡ 8
-  row-eight = let e : length row ≡ 3 + (length (segmentIn 8 row) + length (segmentIn 8 row)) = ap length s ∙ row-words (segmentIn 8 row) in omega arith
+module _ (n : ℕ) (seg : Segment) (e : length seg ≡ n) (row : List ℕ) (s : row ≡ recordToWords seg) where
+  first-word : getD row 0 0 ≡ maskOf isHeld seg
+  first-word = ap (λ (l : List ℕ). getD l 0 0) s ∙ held-word seg
 
-  first-word : getD row 0 0 ≡ maskOf isHeld (segmentIn 8 row)
-  unfolding recordToWords
-  first-word = ap (λ (l : List ℕ). getD l 0 0) s
+  pub raised-row : (cs : List ℕ) → cs ≡ raised (getD row 0 0) (take (length row - (3 + n)) (drop (3 + n) row))
+      → take (3 + n) row ++ (cs ++ drop (length row - (3 + n)) (drop (3 + n) row)) ≡ recordToWords (map oneMore seg)
+  raised-row cs q =
+      counts-back n seg e row s cs
+      ∙ kept-row oneMore more-same seg cs (q ∙ ap₂ (λ (m : ℕ) (l : List ℕ). raised m l) first-word (counts-lent n seg e row s) ∙ raise-counts seg)
 
-  pub raised-row : (cs : List ℕ) → cs ≡ raised (getD row 0 0) (take (length row - 11) (drop 11 row))
-      → take 11 row ++ (cs ++ drop (length row - 11) (drop 11 row)) ≡ recordToWords (map oneMore (segmentIn 8 row))
-  raised-row cs e =
-      counts-back (segmentIn 8 row) row-eight row s cs
-      ∙ kept-row oneMore more-same (segmentIn 8 row) cs (e ∙ ap₂ (λ (m : ℕ) (l : List ℕ). raised m l) first-word (counts-lent (segmentIn 8 row) row-eight row s) ∙ raise-counts (segmentIn 8 row))
-
-  pub lowered-row : (cs : List ℕ) → cs ≡ lowered (getD row 0 0) (take (length row - 11) (drop 11 row))
-      → take 11 row ++ (cs ++ drop (length row - 11) (drop 11 row)) ≡ recordToWords (map oneLess (segmentIn 8 row))
-  lowered-row cs e =
-      counts-back (segmentIn 8 row) row-eight row s cs
-      ∙ kept-row oneLess less-same (segmentIn 8 row) cs (e ∙ ap₂ (λ (m : ℕ) (l : List ℕ). lowered m l) first-word (counts-lent (segmentIn 8 row) row-eight row s) ∙ lower-counts (segmentIn 8 row))
+  pub lowered-row : (cs : List ℕ) → cs ≡ lowered (getD row 0 0) (take (length row - (3 + n)) (drop (3 + n) row))
+      → take (3 + n) row ++ (cs ++ drop (length row - (3 + n)) (drop (3 + n) row)) ≡ recordToWords (map oneLess seg)
+  lowered-row cs q =
+      counts-back n seg e row s cs
+      ∙ kept-row oneLess less-same seg cs (q ∙ ap₂ (λ (m : ℕ) (l : List ℕ). lowered m l) first-word (counts-lent n seg e row s) ∙ lower-counts seg)
 
 -- ---- a new row
 
@@ -179,45 +151,38 @@ new-counts c (b ∷ seg) (x ∷ xs) e = rw (marks-mod b seg, marks-div b seg) (g
     go true r = ap (λ (l : List ℕ). 0 ∷ l) (r c)
     go false r = ap (λ (l : List ℕ). 1 ∷ l) (r (suc c))
 
-pub new-row-is : (c m : ℕ) (seg : List Block) (xs ys : List ℕ) → m ≡ marks seg → length seg ≡ 8 → length xs ≡ 8 → length ys ≡ 8
-    → m ∷ 0 ∷ 0 ∷ (numbered m c xs ++ bits m ys) ≡ recordToWords (newPositions c seg)
-unfolding recordToWords
-new-row-is c m seg xs ys e n lx ly =
-    rw (e, new-cells c seg xs (lx ∙ sym n), new-counts c seg ys (ly ∙ sym n), new-held c seg, new-removed c seg)
-
 -- three words written, then the cells, then the counts
-pub new-row-back : (row x y cells counts : List ℕ) (m : ℕ) → length row ≡ 19 → length cells ≡ 8 → length counts ≡ 8
-    → x ≡ set (set (set row 0 m) 1 0) 2 0 → y ≡ take 3 x ++ (cells ++ drop 8 (drop 3 x))
-    → take 11 y ++ (counts ++ drop (length y - 11) (drop 11 y)) ≡ m ∷ 0 ∷ 0 ∷ (cells ++ counts)
-new-row-back [] x y cells counts m h lc ln ex ey = absurd (omega arith)
-new-row-back (a ∷ []) x y cells counts m h lc ln ex ey = absurd (omega arith)
-new-row-back (a ∷ b ∷ []) x y cells counts m h lc ln ex ey = absurd (omega arith)
-new-row-back (a ∷ b ∷ d ∷ rest) x y cells counts m h lc ln ex ey =
+new-row-back : (n : ℕ) (row x y cells counts : List ℕ) (m : ℕ) → length row ≡ recordWords n → length cells ≡ n → length counts ≡ n
+    → x ≡ set (set (set row 0 m) 1 0) 2 0 → y ≡ take 3 x ++ (cells ++ drop n (drop 3 x))
+    → take (3 + n) y ++ (counts ++ drop (length y - (3 + n)) (drop (3 + n) y)) ≡ m ∷ 0 ∷ 0 ∷ (cells ++ counts)
+new-row-back n [] x y cells counts m h lc ln ex ey = absurd (omega arith)
+new-row-back n (a ∷ []) x y cells counts m h lc ln ex ey = absurd (omega arith)
+new-row-back n (a ∷ b ∷ []) x y cells counts m h lc ln ex ey = absurd (omega arith)
+new-row-back n (a ∷ b ∷ d ∷ rest) x y cells counts m h lc ln ex ey =
     let lead : List ℕ = m ∷ 0 ∷ 0 ∷ cells in
-    let e : y ≡ lead ++ drop 8 rest = ey ∙ ap (λ (l : List ℕ). take 3 l ++ (cells ++ drop 8 (drop 3 l))) ex in
-    tail-put lead (drop 8 rest) y 11 e (let n : suc (suc (suc (length cells))) ≡ 11 = omega arith in n) counts
+    let e : y ≡ lead ++ drop n rest = ey ∙ ap (λ (l : List ℕ). take 3 l ++ (cells ++ drop n (drop 3 l))) ex in
+    tail-put lead (drop n rest) y (3 + n) e (let q : suc (suc (suc (length cells))) ≡ 3 + n = omega arith in q) counts
 
-pub new-row-all : (row x y cells counts : List ℕ) (m c : ℕ) → length row ≡ 19
-    → x ≡ set (set (set row 0 m) 1 0) 2 0 → cells ≡ numbered m c (take 8 (drop 3 x)) → y ≡ take 3 x ++ (cells ++ drop 8 (drop 3 x))
-    → counts ≡ bits m (take (length y - 11) (drop 11 y)) → (xs ys : List ℕ) → length xs ≡ 8 → length ys ≡ 8
-    → take 11 y ++ (counts ++ drop (length y - 11) (drop 11 y)) ≡ m ∷ 0 ∷ 0 ∷ (numbered m c xs ++ bits m ys)
-new-row-all row x y cells counts m c h ex ec ey en xs ys lx ly =
-    let nx : length x ≡ 19 = ap length ex ∙ length-set (set (set row 0 m) 1 0) 2 0 ∙ length-set (set row 0 m) 1 0 ∙ length-set row 0 m ∙ h in
-    let lm : length (take 8 (drop 3 x)) ≡ 8 = length-take-le 8 (drop 3 x) (omega (arith, length-drop 3 x)) in
-    let lc : length cells ≡ 8 = ap length ec ∙ length-walk outPick nextAdd m c (take 8 (drop 3 x)) ∙ lm in
-    let ny : length y ≡ 19 =
-    ap length ey ∙ length-append (take 3 x) (cells ++ drop 8 (drop 3 x))
-    ∙ (let z : length (take 3 x) + length (cells ++ drop 8 (drop 3 x)) ≡ 19 = omega (arith, length-append cells (drop 8 (drop 3 x)), length-take-le 3 x (omega arith), length-drop 8 (drop 3 x), length-drop 3 x) in z) in
-    let lt : length (take (length y - 11) (drop 11 y)) ≡ 8 = length-take-le (length y - 11) (drop 11 y) (omega (arith, length-drop 11 y)) ∙ (let z : length y - 11 ≡ 8 = omega arith in z) in
-    let ln : length counts ≡ 8 = ap length en ∙ length-walk outBit nextSame m 0 (take (length y - 11) (drop 11 y)) ∙ lt in
-    new-row-back row x y cells counts m h lc ln ex ey
-    ∙ ap₂ (λ (p q : List ℕ). m ∷ 0 ∷ 0 ∷ (p ++ q))
-    (ec ∙ walk-any outPick nextAdd (λ b a u v. refl) m c (take 8 (drop 3 x)) xs (lm ∙ sym lx))
-    (en ∙ walk-any outBit nextSame (λ b a u v. refl) m 0 (take (length y - 11) (drop 11 y)) ys (lt ∙ sym ly))
+pub new-row-all : (n : ℕ) (row x y cells counts : List ℕ) (m c : ℕ) → length row ≡ recordWords n
+    → x ≡ set (set (set row 0 m) 1 0) 2 0 → cells ≡ numbered m c (take n (drop 3 x)) → y ≡ take 3 x ++ (cells ++ drop n (drop 3 x))
+    → counts ≡ bits m (take (length y - (3 + n)) (drop (3 + n) y)) → (seg : List Block) → length seg ≡ n → m ≡ marks seg
+    → take (3 + n) y ++ (counts ++ drop (length y - (3 + n)) (drop (3 + n) y)) ≡ recordToWords (newPositions c seg)
+unfolding recordToWords
+new-row-all n row x y cells counts m c h ex ec ey en seg ls em =
+    let nx : length x ≡ recordWords n = ap length ex ∙ length-set (set (set row 0 m) 1 0) 2 0 ∙ length-set (set row 0 m) 1 0 ∙ length-set row 0 m ∙ h in
+    let lm : length (take n (drop 3 x)) ≡ n = length-take-le n (drop 3 x) (omega (arith, length-drop 3 x)) in
+    let lc : length cells ≡ n = ap length ec ∙ length-walk outPick nextAdd m c (take n (drop 3 x)) ∙ lm in
+    let ny : length y ≡ recordWords n =
+    ap length ey ∙ length-append (take 3 x) (cells ++ drop n (drop 3 x))
+    ∙ (let z : length (take 3 x) + length (cells ++ drop n (drop 3 x)) ≡ recordWords n = omega (arith, length-append cells (drop n (drop 3 x)), length-take-le 3 x (omega arith), length-drop n (drop 3 x), length-drop 3 x) in z) in
+    let lt : length (take (length y - (3 + n)) (drop (3 + n) y)) ≡ n = length-take-le (length y - (3 + n)) (drop (3 + n) y) (omega (arith, length-drop (3 + n) y)) ∙ (let z : length y - (3 + n) ≡ n = omega arith in z) in
+    let ln : length counts ≡ n = ap length en ∙ length-walk outBit nextSame m 0 (take (length y - (3 + n)) (drop (3 + n) y)) ∙ lt in
+    new-row-back n row x y cells counts m h lc ln ex ey
+    ∙ rw (ec, en, em, new-cells c seg (take n (drop 3 x)) (lm ∙ sym ls), new-counts c seg (take (length y - (3 + n)) (drop (3 + n) y)) (lt ∙ sym ls), new-held c seg, new-removed c seg)
 
 -- ---- pointers
 
-pub pointer-words : (k i : ℕ) (seg : List Block) (xs : List ℕ) → length xs ≡ length seg → placed (marks seg) (kindUnit + (k * 16 + i)) xs ≡ map pointerWord (pointersTo k i seg)
+pointer-words : (k i : ℕ) (seg : List Block) (xs : List ℕ) → length xs ≡ length seg → placed (marks seg) (kindUnit + (k * 16 + i)) xs ≡ map pointerWord (pointersTo k i seg)
 unfolding walk pointersTo pointerWord
 pointer-words k i [] [] e = refl
 pointer-words k i [] (x ∷ xs) e = absurd (omega arith)
@@ -229,3 +194,14 @@ pointer-words k i (b ∷ seg) (x ∷ xs) e =
     go : (t : Bool) → pick (cond (not t) 1 0) (kindUnit + (k * 16 + i)) ∷ map pointerWord (pointersTo k (suc i) seg) ≡ pointerWord (cond t nullPointer (direct k i)) ∷ map pointerWord (pointersTo k (suc i) seg)
     go true = refl
     go false = refl
+
+-- to a record, from the word of the pointer to its first position
+pub placed-words : (k w m : ℕ) (ws : List ℕ) → w ≡ pointerWord (direct k 0) → (seg : List Block) → length seg ≡ length ws → m ≡ marks seg → placed m w ws ≡ map pointerWord (pointersTo k 0 seg)
+placed-words k w m ws e seg l em = rw (e ∙ direct-word k 0, em) (pointer-words k 0 seg ws (sym l))
+
+-- words that are all a null pointer's
+pub null-words : (n w : ℕ) → w ≡ pointerWord nullPointer → (seg : List Block) → length seg ≡ n → replicate n w ≡ map pointerWord (map (λ b. nullPointer) seg)
+null-words zero w e [] l = refl
+null-words zero w e (b ∷ seg) l = absurd (omega arith)
+null-words (suc n) w e [] l = absurd (omega arith)
+null-words (suc n) w e (b ∷ seg) l = rw (← null-words n w e seg (omega arith), e)

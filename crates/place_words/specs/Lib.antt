@@ -1,4 +1,3 @@
--- What the words of the records and the bytes of the pool must be for code to work on them.
+-- What a search answers, and which blocks of a segment are stored.
 pub mod Words
 pub mod Marks
-pub mod Stored

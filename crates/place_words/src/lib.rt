@@ -1,15 +1,18 @@
-// The words of a record: counts raised and lowered, a new row written, one cleared; and pointer words. Written along the bits of a mask.
+// The words of a record: counts raised and lowered, a new row written; and pointer words. Written along the bits of a mask.
 ghost use mathlib.Core.Path.{_≡_};
-ghost use mathlib.Core.List.{List, [], _∷_, _++_, map};
-ghost use Prim.Native.Nat.{ℕ, _+_, _-_, _*_, _/_, _≤_, _<_};
-ghost use lib.ListN.{length, take, drop, getD, set, replicate};
-ghost use Rattle.lists.specs.Walk.{pick, raised, lowered, bits, numbered, placed};
-ghost use Rattle.model.specs.Place.{oneMore};
+ghost use mathlib.Core.List.{List, map};
+ghost use Prim.Native.Nat.{ℕ, _+_, _-_, _*_, _≤_, _<_};
+ghost use lib.ListN.{length, getD, set};
+ghost use Rattle.lists.specs.Walk.{pick, raised, lowered, bits, numbered};
+ghost use Rattle.model.specs.Measures.{recordWords};
+ghost use Rattle.model.specs.State.{Block, Segment, nullPointer};
+ghost use Rattle.model.specs.Place.{oneMore, newPositions, pointersTo};
 ghost use Rattle.model.specs.Sweep.{oneLess};
-ghost use Rattle.model.specs.Table.{segmentIn, recordToWords};
-ghost use Rattle.place_words.specs.Words.{RowSays};
+ghost use Rattle.model.specs.Table.{recordToWords, pointerWord};
+ghost use Rattle.place_words.specs.Marks.{marks};
 use numbers::Cell;
 use numbers::Pointer;
+use numbers::RecordNumber;
 
 fn picked(bit: u32, value: u32) -> u32
     requires { ⌜ bit < 2 ⌝ }
@@ -49,7 +52,6 @@ fn raise(counts: &mut [u32], mask: u32)
 
 // One less where a bit is set.
 fn lower(counts: &mut [u32], mask: u32)
-    requires { ⌜ ((i : ℕ) → i < length (now counts) → getD (now counts) i 0 < 4294967295) ⌝ }
     ensures { λ _. ⌜ now (counts .exit) ≡ lowered mask (now (counts .entry)) ⌝ }
 {
     let mut m = mask;
@@ -100,11 +102,12 @@ fn number(cells: &mut [u32], mask: u32, start: Cell)
     }
 }
 
-// Pointers to a record's positions, from the first one's, where a bit is set; null pointers elsewhere.
-pub fn put_places(words: &mut [u32], mask: u32, first: Pointer)
-    requires { ⌜ (length (now words) ≤ 16) × (first .0 ≤ 33554432) ⌝ }
-    ensures { λ _. ⌜ now (words .exit) ≡ placed mask (first .0) (now (words .entry)) ⌝ }
+// Pointers to a record's positions where a bit is set, null pointers elsewhere. The mask is that of a segment's blocks that are stored.
+pub fn put_places(words: &mut [u32], mask: u32, k: RecordNumber)
+    requires { ⌜ (length (now words) ≤ 16) × (k .0 ≤ 4096) ⌝ }
+    ensures { λ _. ⌜ ((seg : List Block) → length seg ≡ length (now (words .entry)) → mask ≡ marks seg → now (words .exit) ≡ map pointerWord (pointersTo (k .0) 0 seg)) ⌝ }
 {
+    let first = Pointer::direct(k, 0);
     let mut m = mask;
     let mut at = first.0;
     let mut i: usize = 0;
@@ -116,27 +119,41 @@ pub fn put_places(words: &mut [u32], mask: u32, first: Pointer)
     }
 }
 
-// One pointer more to each held position.
-pub fn raise_row(row: &mut [u32])
-    requires { ⌜ (length (now row) ≡ 19) × RowSays (now row) × ((i : ℕ) → i < 8 → getD (now row) (11 + i) 0 < 4294967295) ⌝ }
-    ensures { λ _. ⌜ now (row .exit) ≡ recordToWords (map oneMore (segmentIn 8 (now (row .entry)))) ⌝ }
+// Null pointers.
+pub fn put_nulls(words: &mut [u32])
+    ensures { λ _. ⌜ ((seg : List Block) → length seg ≡ length (now (words .entry)) → now (words .exit) ≡ map pointerWord (map (λ b. nullPointer) seg)) ⌝ }
 {
-    let mask = row[0];
-    raise(&mut row[11..], mask);
+    let null = Pointer::null();
+    let mut i: usize = 0;
+    while i < words.len() {
+        words[i] = null.0;
+        i = i + 1;
+    }
 }
 
-// One pointer less to each held position.
-pub fn lower_row(row: &mut [u32])
-    requires { ⌜ (length (now row) ≡ 19) × RowSays (now row) × ((i : ℕ) → i < 8 → getD (now row) (11 + i) 0 < 4294967295) ⌝ }
-    ensures { λ _. ⌜ now (row .exit) ≡ recordToWords (map oneLess (segmentIn 8 (now (row .entry)))) ⌝ }
+// One pointer more to each held position of a record's n.
+pub fn raise_row(row: &mut [u32], n: usize)
+    requires { ⌜ (n ≤ 16) × (length (now row) ≡ recordWords n) × ((i : ℕ) → i < n → getD (now row) (3 + n + i) 0 < 4294967295) ⌝ }
+    ensures { λ _. ⌜ ((seg : Segment) → length seg ≡ n → now (row .entry) ≡ recordToWords seg → now (row .exit) ≡ recordToWords (map oneMore seg)) ⌝ }
 {
     let mask = row[0];
-    lower(&mut row[11..], mask);
+    let counts = 3 + n;
+    raise(&mut row[counts..], mask);
+}
+
+// One pointer less to each held position of a record's n.
+pub fn lower_row(row: &mut [u32], n: usize)
+    requires { ⌜ (n ≤ 16) × (length (now row) ≡ recordWords n) ⌝ }
+    ensures { λ _. ⌜ ((seg : Segment) → length seg ≡ n → now (row .entry) ≡ recordToWords seg → now (row .exit) ≡ recordToWords (map oneLess seg)) ⌝ }
+{
+    let mask = row[0];
+    let counts = 3 + n;
+    lower(&mut row[counts..], mask);
 }
 
 // The masks of a new record.
 fn put_masks(row: &mut [u32], mask: u32)
-    requires { ⌜ length (now row) ≡ 19 ⌝ }
+    requires { ⌜ 3 ≤ length (now row) ⌝ }
     ensures { λ _. ⌜ now (row .exit) ≡ set (set (set (now (row .entry)) 0 mask) 1 0) 2 0 ⌝ }
 {
     row[0] = mask;
@@ -144,23 +161,13 @@ fn put_masks(row: &mut [u32], mask: u32)
     row[2] = 0;
 }
 
-// A new record, whose held positions take consecutive cells and have the count 1.
-pub fn new_row(row: &mut [u32], mask: u32, start: Cell)
-    requires { ⌜ (length (now row) ≡ 19) × (start .0 ≤ 65536) ⌝ }
-    ensures { λ _. ⌜ ((xs ys : List ℕ) → length xs ≡ 8 → length ys ≡ 8 → now (row .exit) ≡ mask ∷ 0 ∷ 0 ∷ (numbered mask (start .0) xs ++ bits mask ys)) ⌝ }
+// A new record of n positions, whose held ones take consecutive cells and have the count 1.
+pub fn new_row(row: &mut [u32], mask: u32, start: Cell, n: usize)
+    requires { ⌜ (n ≤ 16) × (length (now row) ≡ recordWords n) × (start .0 ≤ 65536) ⌝ }
+    ensures { λ _. ⌜ ((seg : List Block) → length seg ≡ n → mask ≡ marks seg → now (row .exit) ≡ recordToWords (newPositions (start .0) seg)) ⌝ }
 {
+    let counts = 3 + n;
     put_masks(row, mask);
-    number(&mut row[3..11], mask, start);
-    put_bits(&mut row[11..], mask);
-}
-
-// A free record.
-pub fn clear_row(row: &mut [u32])
-    ensures { λ _. ⌜ now (row .exit) ≡ replicate (length (now (row .entry))) 0 ⌝ }
-{
-    let mut i: usize = 0;
-    while i < row.len() {
-        row[i] = 0;
-        i = i + 1;
-    }
+    number(&mut row[3..counts], mask, start);
+    put_bits(&mut row[counts..], mask);
 }

@@ -4,13 +4,13 @@ use mathlib.Core.List.{List, [], _∷_, _++_}
 use Prim.Native.Nat.{ℕ, zero, suc, _+_, _*_, _/_, _%_}
 use lib.ListN.{take, drop, set, replicate}
 
--- the block of cell c copied to cell at
-unfoldable pub copyTo : List ℕ → ℕ → ℕ → List ℕ
-copyTo p c at = take (at * 64) p ++ (take 64 (drop (c * 64) p) ++ drop (at * 64 + 64) p)
+-- the block of cell c, of so many bytes, copied to cell at
+unfoldable pub copyTo : ℕ → List ℕ → ℕ → ℕ → List ℕ
+copyTo bytes p c at = take (at * bytes) p ++ (take bytes (drop (c * bytes) p) ++ drop (at * bytes + bytes) p)
 
 -- cell c cleared
-unfoldable pub clearAt : List ℕ → ℕ → ℕ → List ℕ
-clearAt p c at = take (c * 64) p ++ (replicate 64 0 ++ drop (c * 64 + 64) p)
+unfoldable pub clearAt : ℕ → List ℕ → ℕ → ℕ → List ℕ
+clearAt bytes p c at = take (c * bytes) p ++ (replicate bytes 0 ++ drop (c * bytes + bytes) p)
 
 abbrev pub takeAt : List Bool → ℕ → ℕ → List Bool
 takeAt os c at = set os at true

@@ -1,75 +1,54 @@
--- After placing: the shelf that the buffers hold is what turning and the sweep require.
-use mathlib.Core.Path.{_≡_, refl, sym, ap, _∙_, subst}
+-- After placing: the buffers hold what turning and the sweep require.
+use mathlib.Core.Path.{_≡_, sym, ap, _∙_, subst}
 use mathlib.Core.Bool.{true}
 use mathlib.Core.List.{List, [], _∷_}
 use mathlib.Core.Option.{Option, none, some}
-use Prim.Native.Nat.{ℕ, _+_, _*_, _/_, _≤_, _<_}
+use Prim.Native.Nat.{ℕ, _*_, _<_}
 use native.Mathlib.Omega.{arith}
 use lib.ListN.{length}
 use lib.Dec.{lit<}
-use Rattle.lists.specs.Each.{Each}
 use Rattle.lists.specs.Lists.{every, allZero, firstFrom}
 use Rattle.lists.specs.Rows.{joined}
-use Rattle.lists.proofs.Each.{each-weaken}
 use Rattle.lists.proofs.Tests.{by-test}
 use Rattle.model.specs.Image.{imageSegments}
-use Rattle.model.specs.Measures.{baseMeasures}
+use Rattle.model.specs.Measures.{Measures, recordWords}
 use Rattle.model.specs.Place.{Placed, nonNull, writeRun, writeRecord, shareOrWrite, placeSegment, afterSome, placeNext, placeAll}
 use Rattle.model.specs.Records.{isFree, equals}
 use Rattle.model.specs.Runs.{Run, findRun}
-use Rattle.model.specs.State.{Block, Segment, Shelf, Outcome, refused, done}
+use Rattle.model.specs.State.{Block, Shelf, Outcome, refused, done}
 use Rattle.model.specs.Table.{shelfIn}
 use Rattle.laws.proofs.Clean.{ShelfFits}
-use Rattle.laws.proofs.Fits.{Proper}
 use Rattle.laws.proofs.Image.{segments-ok}
 use Rattle.laws.proofs.Place.{PlacedOk}
 use Rattle.laws.proofs.Segments.{PlaceOk, place-ok}
-use Rattle.laws.proofs.Sweep.{Exact}
-use Rattle.place.specs.All.{AllDone}
-use Rattle.place_words.specs.Stored as placing
-use Rattle.place_words.proofs.Storing.{Back, stored-back}
-use Rattle.shelf.specs.Stored as sweeping
-use Rattle.shelf.proofs.Read.{shelf-read, records-length, cells-length}
+use Rattle.place.specs.All.{placedIn}
+use Rattle.shelf.specs.Stored.{Told, Stored}
+use Rattle.shelf.proofs.Inside.{stored-cells, stored-words}
+use Rattle.shelf.proofs.Read.{records-length, cells-length, shelf-read, stored-again}
 
-module _ (a : Shelf) (f : ShelfFits baseMeasures a) (x : Exact a) (image : List ℕ) (p : Placed)
-    (e : placeAll (done (record { shelf = a; pointers = [] })) (imageSegments 64 8 image) ≡ done p) where
-  pub placed-ok : PlacedOk baseMeasures a (p .shelf) (joined (imageSegments 64 8 image)) (p .pointers)
+module _ (m : Measures) (image pool ws : List ℕ) (st : Stored m pool ws) (f : ShelfFits m (shelfIn m pool ws)) (p : Placed) (e : placedIn m image pool ws ≡ done p) where
+  placed-ok : PlacedOk m (shelfIn m pool ws) (p .shelf) (joined (imageSegments (m .blockBytes) (m .segmentBlocks) image)) (p .pointers)
   placed-ok =
-      subst (PlaceOk baseMeasures a (joined (imageSegments 64 8 image))) e
-      (place-ok baseMeasures a (imageSegments 64 8 image) f x (segments-ok baseMeasures (record { bytes = lit< tt; blocks = lit< tt }) image))
+      subst (PlaceOk m (shelfIn m pool ws) (joined (imageSegments (m .blockBytes) (m .segmentBlocks) image))) e
+      (place-ok m (shelfIn m pool ws) (imageSegments (m .blockBytes) (m .segmentBlocks) image) f (st .exact)
+      (segments-ok m (record { bytes = omega (arith, st .measured .someBytes); blocks = omega (arith, st .measured .someBlocks) }) image))
 
-  module _ (pool ws words : List ℕ) (d : AllDone p pool ws words) where
-    pub placed-back : Back 4294967295 (p .shelf) pool ws
-    placed-back = stored-back 4294967295 (p .shelf) pool ws (omega arith) (d .wf) (d .bytes) (d .table)
+  module _ (pool′ ws′ : List ℕ) (d : Told m pool′ ws′ (p .shelf)) where
+    -- as many words and bytes as before
+    pub placed-words : length ws′ ≡ length ws
+    unfolding shelfIn
+    placed-words =
+        records-length (m .segmentBlocks) ws′ (p .shelf .records) (d .records) ∙ ap (λ (n : ℕ). n * recordWords (m .segmentBlocks)) (placed-ok .recordCount) ∙ sym (stored-words st)
 
-    placed-told : sweeping.Told pool ws (p .shelf)
-    placed-told = record {
-      cells = record { blocks = d .wf .whole; bytes = d .bytes };
-      records = record {
-        eights = each-weaken (placing.SegmentFits 4294967295 (length (p .shelf .cells))) (λ (s : Segment). length s ≡ 8) (λ s f. f .eight) (p .shelf .records) (d .wf .segments);
-        words = d .table;
-      };
-    }
+    placed-bytes : length pool′ ≡ length pool
+    unfolding shelfIn
+    placed-bytes = cells-length (m .blockBytes) pool′ (p .shelf .cells) (d .cells) ∙ ap (λ (n : ℕ). n * m .blockBytes) (placed-ok .cellCount) ∙ sym (stored-cells st)
 
-    -- as many words as before
-    pub placed-words : length ws ≡ length (a .records) * 19
-    placed-words = records-length ws (p .shelf .records) (placed-told .records) ∙ ap (λ (n : ℕ). n * 19) (placed-ok .recordCount)
+    pub placed-stored : Stored m pool′ ws′
+    placed-stored = stored-again m pool ws pool′ ws′ (p .shelf) st d (placed-ok .exact) placed-bytes placed-words
 
-    pub placed-bytes : length pool ≡ length (a .cells) * 64
-    placed-bytes = cells-length pool (p .shelf .cells) (placed-told .cells) ∙ ap (λ (n : ℕ). n * 64) (placed-ok .cellCount)
-
-    pub placed-stored : sweeping.Stored pool ws
-    placed-stored =
-        let s : shelfIn baseMeasures pool ws ≡ p .shelf = placed-back .shelf in
-        let b = cells-length pool (p .shelf .cells) (placed-told .cells) in
-        let w = records-length ws (p .shelf .records) (placed-told .records) in
-        record {
-          told = subst (λ (x : Shelf). sweeping.Told pool ws x) (sym s) placed-told;
-          exact = subst (λ (x : Shelf). Exact x) (sym s) (placed-ok .exact);
-          some = omega (arith, b, d .wf .someCell);
-          few = omega (arith, b, d .wf .cellCount);
-          short = omega (arith, w, d .wf .recordCount);
-        }
+    pub placed-shelf : shelfIn m pool′ ws′ ≡ p .shelf
+    placed-shelf = shelf-read m (st .measured) pool′ ws′ (p .shelf) d
 
 -- ---- a refusal has a number
 

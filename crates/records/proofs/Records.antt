@@ -4,40 +4,56 @@ use mathlib.Core.Bool.{Bool, true, false, cond, false≢true}
 use mathlib.Core.List.{List, [], _∷_, map}
 use mathlib.Core.Option.{some}
 use Prim.Native.Nat.{ℕ, zero, suc, _+_, _-_, _*_, _/_, _%_, _^_, _≤_, _<_}
-use native.Mathlib.Nat.{add-zero, zero-add, pow-suc}
+use native.Mathlib.Nat.{add-zero, zero-add, pow-zero, pow-suc}
 use native.Mathlib.Numerals.{add-one}
 use native.Mathlib.Omega.{arith}
 use lib.Count.{ones, trailingZeros}
-use lib.ListN.{length, getD, set, drop, length-drop, length-set, length-map, List·getD-map}
+use lib.ListN.{length, getD, set, take, drop, replicate, length-drop, length-set, length-map, length-replicate, List·getD-map}
 use lib.Seq.{map-set-same}
 use lib.Pow.{pow-mono}
 use Rattle.lists.specs.Lists.{count, firstFrom}
 use Rattle.lists.specs.Masks.{maskOf}
 use Rattle.lists.specs.Walk.{walk, nextAdd}
 use Rattle.lists.proofs.Masks.{First, here, later, trailing-first, first-mask, first-le, first-bit, first-lt, mask-odd, mask-half, mask-bit, mask-lt, mask-off, mask-on, ones-mask, bit-le, bit-true, bit-false}
+use Rattle.lists.specs.Rows.{fill}
+use Rattle.lists.proofs.Rows.{getD-fill, set-fill}
+use Rattle.lists.proofs.Filled.{fill-front}
 use Rattle.lists.proofs.Sets.{map-set}
 use Rattle.lists.proofs.Slices.{drop-next, drop-end}
 use Rattle.model.specs.Records.{isHeld, isRemoved, cellOf, countOf, freeSegment}
 use Rattle.model.specs.State.{Position, nullPosition, held, removed, Segment}
 use Rattle.model.specs.Sweep.{goes, struck, moved}
-use Rattle.model.specs.Table.{positionOf}
+use Rattle.model.specs.Table.{positionOf, positionsIn}
 use Rattle.laws.proofs.RoundTrip.{positions-back}
 use Rattle.records.specs.Records.{recordOf, positions, Formed}
 use Rattle.records.specs.declared.Record.{Record}
 
-pub same-record : (a b : Record) → a .held ≡ b .held → a .removed ≡ b .removed → a .cells ≡ b .cells → a .counts ≡ b .counts → a ≡ b
-same-record a b h r c n = λ i. record { held = h i; removed = r i; cells = c i; counts = n i }
+pub same-record : (a b : Record) → a .held ≡ b .held → a .removed ≡ b .removed → a .used ≡ b .used → a .cells ≡ b .cells → a .counts ≡ b .counts → a ≡ b
+same-record a b h r u c n = λ i. record { held = h i; removed = r i; used = u i; cells = c i; counts = n i }
 
 -- ---- positions
 
-pub positions-of : (seg : Segment) → positions (recordOf seg) ≡ seg
-unfolding positions recordOf
-positions-of seg = positions-back seg
+pub front : (xs : List ℕ) (n : ℕ) → length xs ≡ n → n ≤ 16 → take n (fill 16 xs) ≡ xs
+front xs n l h = ap (λ (k : ℕ). take k (fill 16 xs)) (sym l) ∙ fill-front 16 xs (fill 16 xs) (omega arith) refl
 
-pub formed-of : (r : Record) (seg : Segment) → r ≡ recordOf seg → length seg ≡ 8 → Formed r
+pub positions-of : (seg : Segment) → length seg ≤ 16 → positions (recordOf seg) ≡ seg
+unfolding positions recordOf
+positions-of seg h =
+    ap₂ (positionsIn (maskOf isHeld seg) (maskOf isRemoved seg)) (front (map cellOf seg) (length seg) (length-map seg cellOf) h) (front (map countOf seg) (length seg) (length-map seg countOf) h)
+    ∙ positions-back seg
+
+pub formed-of : (r : Record) (seg : Segment) → r ≡ recordOf seg → length seg ≤ 16 → Formed r
 formed-of r seg e l =
-    let p : positions r ≡ seg = ap positions e ∙ positions-of seg in
-    record { eight = ap length p ∙ l; same = e ∙ ap recordOf (sym p) }
+    let p : positions r ≡ seg = ap positions e ∙ positions-of seg l in
+    record { few = rw p l; same = e ∙ ap recordOf (sym p) }
+
+-- how many positions the record of a list has
+pub count-of : (r : Record) (seg : Segment) (n : ℕ) → r ≡ recordOf seg → length seg ≡ n → n ≤ 16 → length (positions r) ≡ n
+count-of r seg n e l h = ap length (ap positions e ∙ positions-of seg (omega arith)) ∙ l
+
+-- a mask of at most sixteen positions
+pub mask-small : (f : Position → Bool) (seg : Segment) → length seg ≤ 16 → maskOf f seg < 65536
+mask-small f seg h = let m : maskOf f seg < 2 ^ length seg = mask-lt f seg in omega (arith, pow-mono {i = length seg} {j = 16} h)
 
 -- ---- Formed
 
@@ -50,25 +66,26 @@ module _ (r : Record) (f : Formed r) where
   unfolding recordOf
   removed-mask = ap (λ (x : Record). x .removed) (f .same)
 
-  pub cells-map : r .cells ≡ map cellOf (positions r)
+  pub used-is : r .used ≡ length (positions r)
   unfolding recordOf
-  cells-map = ap (λ (x : Record). x .cells) (f .same)
+  used-is = ap (λ (x : Record). x .used) (f .same)
 
-  pub counts-map : r .counts ≡ map countOf (positions r)
+  pub used-few : r .used ≤ 16
+  used-few = omega (arith, used-is, f .few)
+
+  pub cells-fill : r .cells ≡ fill 16 (map cellOf (positions r))
   unfolding recordOf
-  counts-map = ap (λ (x : Record). x .counts) (f .same)
+  cells-fill = ap (λ (x : Record). x .cells) (f .same)
 
-  pub held-small : r .held < 256
-  held-small =
-      let m : maskOf isHeld (positions r) < 2 ^ length (positions r) = mask-lt isHeld (positions r) in
-      let n : maskOf isHeld (positions r) < 2 ^ 8 = rw (f .eight) at m in
-      omega (arith, held-mask)
+  pub counts-fill : r .counts ≡ fill 16 (map countOf (positions r))
+  unfolding recordOf
+  counts-fill = ap (λ (x : Record). x .counts) (f .same)
 
-  pub removed-small : r .removed < 256
-  removed-small =
-      let m : maskOf isRemoved (positions r) < 2 ^ length (positions r) = mask-lt isRemoved (positions r) in
-      let n : maskOf isRemoved (positions r) < 2 ^ 8 = rw (f .eight) at m in
-      omega (arith, removed-mask)
+  pub held-small : r .held < 65536
+  held-small = omega (arith, held-mask, mask-small isHeld (positions r) (f .few))
+
+  pub removed-small : r .removed < 65536
+  removed-small = omega (arith, removed-mask, mask-small isRemoved (positions r) (f .few))
 
   pub size-is : ones (r .held) ≡ count isHeld (positions r)
   size-is = ap ones held-mask ∙ ones-mask isHeld (positions r)
@@ -114,28 +131,27 @@ unfolding maskOf
 mask-cons p seg = refl
 
 -- from the last position down
-pub going-start : (r : Record) → Formed r → 0 ≡ maskOf goes (drop 8 (positions r))
+pub going-start : (r : Record) → Formed r → 0 ≡ maskOf goes (drop (r .used) (positions r))
 unfolding maskOf
-going-start r f = rw (drop-end (positions r) 8 (omega (arith, f .eight)))
+going-start r f = rw (drop-end (positions r) (r .used) (omega (arith, used-is r f)))
 
-pub going-next : (r : Record) → Formed r → (i m u : ℕ) → 0 < i → i ≤ 8 → m ≡ maskOf goes (drop i (positions r))
+pub going-next : (r : Record) → Formed r → (i m u : ℕ) → 0 < i → i ≤ r .used → m ≡ maskOf goes (drop i (positions r))
     → u ≡ cond (goes (positionOf (r .held / 2 ^ (i - 1) % 2) 0 0 (getD (r .counts) (i - 1) 0))) 1 0 → 2 * m + u ≡ maskOf goes (drop (i - 1) (positions r))
 going-next r f i m u z h em eu =
     let seg : Segment = positions r in
     let j : ℕ = i - 1 in
-    let l : j < length seg = omega (arith, f .eight) in
+    let l : j < length seg = omega (arith, used-is r f) in
     let n : i ≡ j + 1 = omega arith in
     let a : r .held / 2 ^ j % 2 ≡ cond (isHeld (getD seg j nullPosition)) 1 0 = ap (λ (m : ℕ). m / 2 ^ j % 2) (held-mask r f) ∙ mask-bit isHeld seg j nullPosition l in
-    let b : getD (r .counts) j 0 ≡ countOf (getD seg j nullPosition) = ap (λ (l : List ℕ). getD l j 0) (counts-map r f) ∙ List·getD-map countOf seg j nullPosition in
+    let b : getD (r .counts) j 0 ≡ countOf (getD seg j nullPosition) =
+    ap (λ (l : List ℕ). getD l j 0) (counts-fill r f) ∙ getD-fill 16 (map countOf seg) j (omega (arith, length-map seg countOf, f .few)) ∙ List·getD-map countOf seg j nullPosition in
     let eu′ : u ≡ cond (goes (getD seg j nullPosition)) 1 0 =
     eu ∙ ap₂ (λ (x y : ℕ). cond (goes (positionOf x 0 0 y)) 1 0) a b ∙ ap (λ (t : Bool). cond t 1 0) (unused-bit (getD seg j nullPosition)) in
     let em′ : m ≡ maskOf goes (drop (j + 1) seg) = em ∙ ap (λ (k : ℕ). maskOf goes (drop k seg)) n in
     rw (drop-next seg j nullPosition l, mask-cons) (omega (arith, eu′, em′))
 
-pub going-small : (r : Record) → Formed r → (i : ℕ) → maskOf goes (drop i (positions r)) < 256
-going-small r f i =
-    let m = mask-lt goes (drop i (positions r)) in
-    omega (arith, m, pow-mono {i = length (drop i (positions r))} {j = 8} (omega (arith, length-drop i (positions r), f .eight)))
+pub going-small : (r : Record) → Formed r → (i : ℕ) → maskOf goes (drop i (positions r)) < 65536
+going-small r f i = mask-small goes (drop i (positions r)) (omega (arith, length-drop i (positions r), f .few))
 
 -- ---- struck
 
@@ -145,21 +161,27 @@ held-not-removed (held c n) h = refl
 held-not-removed removed h = absurd (false≢true h)
 
 -- a held position's bit is in the mask
-pub held-bit : (r : Record) → Formed r → (i : ℕ) → i < 8 → isHeld (getD (positions r) i nullPosition) ≡ true → 2 ^ i ≤ r .held
+pub held-bit : (r : Record) → Formed r → (i : ℕ) → i < length (positions r) → isHeld (getD (positions r) i nullPosition) ≡ true → 2 ^ i ≤ r .held
 held-bit r f i h e =
-    bit-le (r .held) i (ap (λ (m : ℕ). m / 2 ^ i % 2) (held-mask r f) ∙ mask-bit isHeld (positions r) i nullPosition (omega (arith, f .eight)) ∙ ap (λ (b : Bool). cond b 1 0) e)
+    bit-le (r .held) i (ap (λ (m : ℕ). m / 2 ^ i % 2) (held-mask r f) ∙ mask-bit isHeld (positions r) i nullPosition h ∙ ap (λ (b : Bool). cond b 1 0) e)
 
-pub struck-of : (r : Record) → Formed r → (i : ℕ) → i < 8 → isHeld (getD (positions r) i nullPosition) ≡ true
-    → record { held = r .held - 2 ^ i; removed = r .removed + 2 ^ i; cells = set (r .cells) i 0; counts = set (r .counts) i 0 } ≡ recordOf (set (positions r) i removed)
+pub struck-of : (r : Record) → Formed r → (i : ℕ) → i < length (positions r) → isHeld (getD (positions r) i nullPosition) ≡ true
+    → record { held = r .held - 2 ^ i; removed = r .removed + 2 ^ i; used = r .used; cells = set (r .cells) i 0; counts = set (r .counts) i 0 }
+    ≡ recordOf (set (positions r) i removed)
 unfolding recordOf
 struck-of r f i h e =
     let seg : Segment = positions r in
-    let l : i < length seg = omega (arith, f .eight) in
     same-record _ _
-    (ap (λ (m : ℕ). m - 2 ^ i) (held-mask r f) ∙ sym (mask-off isHeld seg i nullPosition removed l e refl))
-    (ap (λ (m : ℕ). m + 2 ^ i) (removed-mask r f) ∙ sym (mask-on isRemoved seg i nullPosition removed l (held-not-removed (getD seg i nullPosition) e) refl))
-    (ap (λ (l : List ℕ). set l i 0) (cells-map r f) ∙ sym (map-set cellOf seg i removed))
-    (ap (λ (l : List ℕ). set l i 0) (counts-map r f) ∙ sym (map-set countOf seg i removed))
+    (ap (λ (m : ℕ). m - 2 ^ i) (held-mask r f) ∙ sym (mask-off isHeld seg i nullPosition removed h e refl))
+    (ap (λ (m : ℕ). m + 2 ^ i) (removed-mask r f) ∙ sym (mask-on isRemoved seg i nullPosition removed h (held-not-removed (getD seg i nullPosition) e) refl))
+    (used-is r f ∙ sym (length-set seg i removed))
+    (ap (λ (l : List ℕ). set l i 0) (cells-fill r f) ∙ zeroed cellOf refl)
+    (ap (λ (l : List ℕ). set l i 0) (counts-fill r f) ∙ zeroed countOf refl)
+  where
+    zeroed : (g : Position → ℕ) → g removed ≡ 0 → set (fill 16 (map g (positions r))) i 0 ≡ fill 16 (map g (set (positions r) i removed))
+    zeroed g z =
+        set-fill 16 (map g (positions r)) i 0 (omega (arith, length-map (positions r) g))
+        ∙ ap (fill 16) (ap (set (map g (positions r)) i) (sym z) ∙ sym (map-set g (positions r) i removed))
 
 -- ---- all that go struck
 
@@ -194,17 +216,17 @@ pub record Striking (r₀ r : Record) (left : ℕ) : Type 0 where
   pub mask : left ≡ maskOf goes (positions r)
   pub all : map struck (positions r) ≡ map struck (positions r₀)
 
-pub left-small : (r₀ r : Record) (left : ℕ) → Striking r₀ r left → left < 256
-left-small r₀ r left s = let m : maskOf goes (positions r) < 256 = going-small r (s .formed) 0 in omega (arith, s .mask)
+pub left-small : (r₀ r : Record) (left : ℕ) → Striking r₀ r left → left < 65536
+left-small r₀ r left s = let m : maskOf goes (positions r) < 65536 = going-small r (s .formed) 0 in omega (arith, s .mask)
 
 module _ (r₀ r : Record) (left p : ℕ) (s : Striking r₀ r left) (f : First left p) where
-  pub next-small : p < 8
-  next-small = first-lt 8 f (left-small r₀ r left s)
+  pub next-small : p < length (positions r)
+  next-small = first-lt (length (positions r)) f (rw (s .mask) (mask-lt goes (positions r)))
 
   next-goes : goes (getD (positions r) p nullPosition) ≡ true
   next-goes =
       bit-true (goes (getD (positions r) p nullPosition))
-      (sym (mask-bit goes (positions r) p nullPosition (omega (arith, next-small, s .formed .eight))) ∙ ap (λ (m : ℕ). m / 2 ^ p % 2) (sym (s .mask)) ∙ first-bit f)
+      (sym (mask-bit goes (positions r) p nullPosition next-small) ∙ ap (λ (m : ℕ). m / 2 ^ p % 2) (sym (s .mask)) ∙ first-bit f)
 
   pub next-held : isHeld (getD (positions r) p nullPosition) ≡ true
   next-held = goes-held (getD (positions r) p nullPosition) next-goes
@@ -212,11 +234,11 @@ module _ (r₀ r : Record) (left p : ℕ) (s : Striking r₀ r left) (f : First 
   pub next-struck : (r′ : Record) → r′ ≡ recordOf (set (positions r) p removed) → Striking r₀ r′ (left - 2 ^ p)
   next-struck r′ e =
       let seg : Segment = positions r in
-      let q : positions r′ ≡ set seg p removed = ap positions e ∙ positions-of (set seg p removed) in
-      let l : p < length seg = omega (arith, next-small, s .formed .eight) in
+      let few : length (set seg p removed) ≤ 16 = omega (arith, length-set seg p removed, s .formed .few) in
+      let q : positions r′ ≡ set seg p removed = ap positions e ∙ positions-of (set seg p removed) few in
       record {
-        formed = formed-of r′ (set seg p removed) e (length-set seg p removed ∙ s .formed .eight);
-        mask = rw (q, s .mask) (sym (mask-off goes seg p nullPosition removed l next-goes refl));
+        formed = formed-of r′ (set seg p removed) e few;
+        mask = rw (q, s .mask) (sym (mask-off goes seg p nullPosition removed next-small next-goes refl));
         all = rw q (map-set-same struck seg p removed nullPosition (goes-struck (getD seg p nullPosition) next-goes) ∙ s .all);
       }
 
@@ -254,6 +276,14 @@ unfolding renumbered walk
 renumbered-none at [] = refl
 renumbered-none at (c ∷ cs) = rw (renumbered-none (at + 0) cs)
 
+-- zeros after the last position are not renumbered
+renumbered-fill : (k m at : ℕ) (cs : List ℕ) → m < 2 ^ length cs → renumbered m at (fill k cs) ≡ fill k (renumbered m at cs)
+unfolding renumbered walk fill
+renumbered-fill zero m at cs h = refl
+renumbered-fill (suc k) m at [] h = let z : m ≡ 0 = omega (arith, pow-zero 2) in rw z (renumbered-none at (fill (suc k) []))
+renumbered-fill (suc k) m at (c ∷ cs) h =
+    ap (λ (l : List ℕ). outNumber (m % 2) at c ∷ l) (renumbered-fill k (m / 2) (at + m % 2) cs (omega (arith, pow-suc 2 (length cs))))
+
 -- what is renumbered is moved, where none goes
 moved-cells : (at : ℕ) (seg : Segment) → maskOf goes seg ≡ 0 → renumbered (maskOf isHeld seg) at (map cellOf seg) ≡ map cellOf (moved at seg)
 unfolding renumbered walk moved
@@ -285,16 +315,26 @@ moved-counts at (held c zero ∷ seg) n = absurd (omega arith)
 moved-counts at (held c (suc k) ∷ seg) n = rw (moved-counts (suc at) seg (omega arith))
 moved-counts at (removed ∷ seg) n = rw (moved-counts at seg (omega arith))
 
-pub moved-of : (r r′ : Record) → Formed r → maskOf goes (positions r) ≡ 0 → (at : ℕ) → r′ .held ≡ r .held → r′ .removed ≡ r .removed
+pub length-moved : (at : ℕ) (seg : Segment) → length (moved at seg) ≡ length seg
+unfolding moved
+length-moved at [] = refl
+length-moved at (nullPosition ∷ seg) = ap suc (length-moved at seg)
+length-moved at (held c zero ∷ seg) = ap suc (length-moved at seg)
+length-moved at (held c (suc n) ∷ seg) = ap suc (length-moved (suc at) seg)
+length-moved at (removed ∷ seg) = ap suc (length-moved at seg)
+
+pub moved-of : (r r′ : Record) → Formed r → maskOf goes (positions r) ≡ 0 → (at : ℕ) → r′ .held ≡ r .held → r′ .removed ≡ r .removed → r′ .used ≡ r .used
     → r′ .cells ≡ renumbered (r .held) at (r .cells) → r′ .counts ≡ r .counts → r′ ≡ recordOf (moved at (positions r))
 unfolding recordOf
-moved-of r r′ f n at h d c k =
+moved-of r r′ f n at h d u c k =
     let seg : Segment = positions r in
+    let m : maskOf isHeld seg < 2 ^ length (map cellOf seg) = rw (length-map seg cellOf) (mask-lt isHeld seg) in
     same-record _ _
     (h ∙ held-mask r f ∙ moved-mask isHeld (λ c n t. refl) at seg n)
     (d ∙ removed-mask r f ∙ moved-mask isRemoved (λ c n t. refl) at seg n)
-    (c ∙ ap₂ (λ (m : ℕ) (l : List ℕ). renumbered m at l) (held-mask r f) (cells-map r f) ∙ moved-cells at seg n)
-    (k ∙ counts-map r f ∙ moved-counts at seg n)
+    (u ∙ used-is r f ∙ sym (length-moved at seg))
+    (c ∙ ap₂ (λ (m : ℕ) (l : List ℕ). renumbered m at l) (held-mask r f) (cells-fill r f) ∙ renumbered-fill 16 (maskOf isHeld seg) at (map cellOf seg) m ∙ ap (fill 16) (moved-cells at seg n))
+    (k ∙ counts-fill r f ∙ ap (fill 16) (moved-counts at seg n))
 
 -- a record struck, then renumbered, is moved
 pub goes-none : (seg : Segment) → maskOf goes (map struck seg) ≡ 0
@@ -313,24 +353,47 @@ moved-struck at (held c zero ∷ seg) = rw (moved-struck at seg)
 moved-struck at (held c (suc n) ∷ seg) = rw (moved-struck (suc at) seg)
 moved-struck at (removed ∷ seg) = rw (moved-struck at seg)
 
-pub length-moved : (at : ℕ) (seg : Segment) → length (moved at seg) ≡ length seg
-unfolding moved
-length-moved at [] = refl
-length-moved at (nullPosition ∷ seg) = ap suc (length-moved at seg)
-length-moved at (held c zero ∷ seg) = ap suc (length-moved at seg)
-length-moved at (held c (suc n) ∷ seg) = ap suc (length-moved (suc at) seg)
-length-moved at (removed ∷ seg) = ap suc (length-moved at seg)
+-- ---- Formed again, and how many positions there are
 
--- ---- Formed again
+free-length : (n : ℕ) → length (freeSegment n) ≡ n
+free-length n = unfold freeSegment in length-replicate n nullPosition
 
-pub free-formed : (n : Record) → n ≡ recordOf (freeSegment 8) → Formed n
-free-formed n e = formed-of n (freeSegment 8) e (unfold freeSegment in refl)
+pub free-formed : (r : Record) (n : ℕ) → r ≡ recordOf (freeSegment n) → n ≤ 16 → Formed r × (length (positions r) ≡ n)
+free-formed r n e h = (formed-of r (freeSegment n) e (omega (arith, free-length n)), count-of r (freeSegment n) n e (free-length n) h)
 
-pub struck-formed : (r m : Record) → Formed r → m ≡ recordOf (map struck (positions r)) → Formed m
-struck-formed r m f e = formed-of m (map struck (positions r)) e (length-map (positions r) struck ∙ f .eight)
+pub struck-formed : (r m : Record) → Formed r → m ≡ recordOf (map struck (positions r)) → Formed m × (length (positions m) ≡ length (positions r))
+struck-formed r m f e =
+    let l : length (map struck (positions r)) ≡ length (positions r) = length-map (positions r) struck in
+    (formed-of m (map struck (positions r)) e (omega (arith, f .few)), count-of m (map struck (positions r)) (length (positions r)) e l (f .few))
 
-pub struck-clean : (r m : Record) → m ≡ recordOf (map struck (positions r)) → maskOf goes (positions m) ≡ 0
-struck-clean r m e = ap (maskOf goes) (ap positions e ∙ positions-of (map struck (positions r))) ∙ goes-none (positions r)
+pub struck-clean : (r m : Record) → Formed r → m ≡ recordOf (map struck (positions r)) → maskOf goes (positions m) ≡ 0
+struck-clean r m f e =
+    ap (maskOf goes) (ap positions e ∙ positions-of (map struck (positions r)) (omega (arith, length-map (positions r) struck, f .few))) ∙ goes-none (positions r)
 
-pub moved-formed : (m n : Record) → Formed m → (at : ℕ) → n ≡ recordOf (moved at (positions m)) → Formed n
-moved-formed m n f at e = formed-of n (moved at (positions m)) e (length-moved at (positions m) ∙ f .eight)
+pub moved-formed : (m n : Record) → Formed m → (at : ℕ) → n ≡ recordOf (moved at (positions m)) → Formed n × (length (positions n) ≡ length (positions m))
+moved-formed m n f at e =
+    let l : length (moved at (positions m)) ≡ length (positions m) = length-moved at (positions m) in
+    (formed-of n (moved at (positions m)) e (omega (arith, f .few)), count-of n (moved at (positions m)) (length (positions m)) e l (f .few))
+
+-- ---- a free record
+
+free-mask : (f : Position → Bool) → f nullPosition ≡ false → (n : ℕ) → maskOf f (replicate n nullPosition) ≡ 0
+unfolding maskOf
+free-mask f e zero = refl
+free-mask f e (suc n) = rw (e, free-mask f e n)
+
+free-fill : (g : Position → ℕ) → g nullPosition ≡ 0 → (k n : ℕ) → fill k (map g (replicate n nullPosition)) ≡ fill k []
+unfolding fill
+free-fill g e zero n = refl
+free-fill g e (suc k) zero = refl
+free-fill g e (suc k) (suc n) = rw (e, free-fill g e k n)
+
+pub free-record : (r : Record) (n : ℕ) → r .held ≡ 0 → r .removed ≡ 0 → r .used ≡ n → r .cells ≡ fill 16 [] → r .counts ≡ fill 16 [] → r ≡ recordOf (freeSegment n)
+unfolding recordOf freeSegment
+free-record r n h d u c k =
+    same-record _ _
+    (h ∙ sym (free-mask isHeld refl n))
+    (d ∙ sym (free-mask isRemoved refl n))
+    (u ∙ sym (length-replicate n nullPosition))
+    (c ∙ sym (free-fill cellOf refl 16 n))
+    (k ∙ sym (free-fill countOf refl 16 n))

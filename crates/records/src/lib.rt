@@ -1,4 +1,4 @@
-// A segment record by value: the mask of its held positions, that of its removed ones, and the cell and the count of each position.
+// A segment record by value: the mask of its held positions, that of its removed ones, how many positions it has, and the cell and the count of each.
 ghost use mathlib.Core.Path.{_≡_};
 ghost use mathlib.Core.Bool.{true, cond};
 ghost use mathlib.Core.List.{List, map, _++_};
@@ -7,6 +7,8 @@ ghost use Prim.Native.Nat.{ℕ, _+_, _*_, _%_, _≤_, _<_};
 ghost use lib.ListN.{length, getD, set, take, drop};
 ghost use Rattle.lists.specs.Lists.{count, firstFrom};
 ghost use Rattle.lists.specs.Masks.{maskOf};
+ghost use Rattle.lists.specs.Rows.{fill};
+ghost use Rattle.model.specs.Measures.{recordWords};
 ghost use Rattle.model.specs.State.{nullPosition, removed};
 ghost use Rattle.model.specs.Records.{isHeld, freeSegment};
 ghost use Rattle.model.specs.Table.{positionOf, recordToWords};
@@ -18,24 +20,28 @@ use numbers::RecordNumber;
 pub struct Record {
     pub held: u32,
     pub removed: u32,
-    pub cells: [u32; 8],
-    pub counts: [u32; 8],
+    pub used: usize,
+    pub cells: [u32; 16],
+    pub counts: [u32; 16],
 }
 
 impl Record {
-    pub const POSITIONS: usize = 8;
+    // The most that can be.
+    pub const POSITIONS: usize = 16;
 
-    // Its words in the table: the two masks, a zero, the cells, the counts.
+    // Its words in the table where the measures are the base's, for code that knows no others.
     pub const WORDS: usize = 19;
 
-    pub fn free() -> Record
-        ensures { λ r. ⌜ r ≡ recordOf (freeSegment 8) ⌝ }
+    pub fn free(positions: usize) -> Record
+        requires { ⌜ positions ≤ 16 ⌝ }
+        ensures { λ r. ⌜ r ≡ recordOf (freeSegment positions) ⌝ }
     {
         Record {
             held: 0,
             removed: 0,
-            cells: [0; 8],
-            counts: [0; 8],
+            used: positions,
+            cells: [0; 16],
+            counts: [0; 16],
         }
     }
 
@@ -62,7 +68,7 @@ impl Record {
         ensures { λ r. ⌜ r ≡ maskOf goes (positions self) ⌝ }
     {
         let mut mask: u32 = 0;
-        let mut i: usize = 8;
+        let mut i = self.used;
         while i > 0 {
             i = i - 1;
             mask = 2 * mask + unused(self.held >> i, self.counts[i]);
@@ -70,10 +76,10 @@ impl Record {
         mask
     }
 
-    // One position struck. The other seven stay.
+    // One position struck. The others stay.
     pub fn strike(mut self, position: usize) -> Record
         requires { ⌜ Formed self ⌝ }
-        requires { ⌜ (position < 8) × (isHeld (getD (positions self) position nullPosition) ≡ true) ⌝ }
+        requires { ⌜ (position < length (positions self)) × (isHeld (getD (positions self) position nullPosition) ≡ true) ⌝ }
         ensures { λ r. ⌜ r ≡ recordOf (set (positions self) position removed) ⌝ }
     {
         let bit = 1u32 << position;
@@ -119,20 +125,19 @@ impl Record {
         self
     }
 
-    // Written into its row among the records' words.
-    pub fn store(self, words: &mut [u32], number: RecordNumber)
-        requires { ⌜ Formed self ⌝ }
-        requires { ⌜ number .0 * 19 + 19 ≤ length (now words) ⌝ }
-        ensures { λ _. ⌜ now (words .exit) ≡ take (number .0 * 19) (now (words .entry)) ++ (recordToWords (positions self) ++ drop 19 (drop (number .0 * 19) (now (words .entry)))) ⌝ }
+    // Written into its row among the words of records of so many positions.
+    pub fn store(self, words: &mut [u32], number: RecordNumber, n: usize)
+        requires { ⌜ Formed self × (length (positions self) ≡ n) ⌝ }
+        requires { ⌜ number .0 * recordWords n + recordWords n ≤ length (now words) ⌝ }
+        ensures { λ _. ⌜ now (words .exit) ≡ take (number .0 * recordWords n) (now (words .entry)) ++ (recordToWords (positions self) ++ drop (recordWords n) (drop (number .0 * recordWords n) (now (words .entry)))) ⌝ }
     {
-        let k = number.0;
-        let at = k as usize * Record::WORDS;
+        let at = number.word(n);
         let head = [self.held, self.removed, 0];
         let cells = self.cells;
         let counts = self.counts;
         put_at(&head, words, at);
-        put_at(&cells, words, at + 3);
-        put_at(&counts, words, at + 11);
+        put_at(&cells[..n], words, at + 3);
+        put_at(&counts[..n], words, at + 3 + n);
     }
 }
 
@@ -149,31 +154,31 @@ fn unused(held: u32, count: u32) -> u32
     0
 }
 
-// The record in a row of the records' words.
-pub fn load(words: &[u32], number: RecordNumber) -> Record
-    requires { ⌜ number .0 * 19 + 19 ≤ length (now words) ⌝ }
-    ensures { λ r. ⌜ r ≡ recordIn (take 19 (drop (number .0 * 19) (now (words .entry)))) ⌝ }
+// The record of n positions in a row of the records' words.
+pub fn load(words: &[u32], number: RecordNumber, n: usize) -> Record
+    requires { ⌜ (n ≤ 16) × (number .0 * recordWords n + recordWords n ≤ length (now words)) ⌝ }
+    ensures { λ r. ⌜ r ≡ recordIn n (take (recordWords n) (drop (number .0 * recordWords n) (now (words .entry)))) ⌝ }
 {
-    let k = number.0;
-    let at = k as usize * Record::WORDS;
-    let cells = eight(words, at + 3);
-    let counts = eight(words, at + 11);
+    let at = number.word(n);
+    let cells = sixteen(words, at + 3, n);
+    let counts = sixteen(words, at + 3 + n, n);
     Record {
         held: words[at],
         removed: words[at + 1],
+        used: n,
         cells,
         counts,
     }
 }
 
-// Eight of the words.
-fn eight(words: &[u32], at: usize) -> [u32; 8]
-    requires { ⌜ at + 8 ≤ length (now words) ⌝ }
-    ensures { λ r. ⌜ r ≡ take 8 (drop at (now (words .entry))) ⌝ }
+// n of the words, with zeros in the room that is left.
+fn sixteen(words: &[u32], at: usize, n: usize) -> [u32; 16]
+    requires { ⌜ (n ≤ 16) × (at + n ≤ length (now words)) ⌝ }
+    ensures { λ r. ⌜ r ≡ fill 16 (take n (drop at (now (words .entry)))) ⌝ }
 {
-    let mut a = [0u32; 8];
+    let mut a = [0u32; 16];
     let mut i: usize = 0;
-    while i < 8 {
+    while i < n {
         a[i] = words[at + i];
         i = i + 1;
     }

@@ -2,12 +2,13 @@
 ghost use mathlib.Core.Path.{_≡_};
 ghost use Prim.Native.Nat.{_*_, _≤_, _<_};
 ghost use lib.ListN.{length};
-ghost use Rattle.model.specs.Measures.{baseMeasures};
+ghost use Rattle.numbers.specs.Measures.{measuresOf};
 ghost use Rattle.model.specs.Table.{recordsIn, shelfIn};
 ghost use Rattle.model.specs.Sweep.{sweepRecord};
 ghost use Rattle.kept.specs.Kept.{Coded, Kept, Loaded};
 ghost use Rattle.kept.specs.Ways.{goingAt, heldAt, stayingAt, freed, struckOnly, compacted, removedAt, Chosen};
 use numbers::Cell;
+use numbers::Measures;
 use numbers::RecordNumber;
 use records::Record;
 
@@ -19,15 +20,16 @@ pub fn free_record(
     number: RecordNumber,
     old: Record,
     going: u32,
+    m: Measures,
 )
-    requires { ⌜ Kept (now pool) (now words) (now occupied) ⌝ }
-    requires { ⌜ Loaded (now words) (number .0) old going ⌝ }
-    ensures { λ _. ⌜ Coded (now (pool .exit)) (now (words .exit)) (now (occupied .exit)) (freed (now (pool .entry)) (now (words .entry)) (number .0)) ⌝ }
+    requires { ⌜ Kept (measuresOf m) (now pool) (now words) (now occupied) ⌝ }
+    requires { ⌜ Loaded (m .blocks) (now words) (number .0) old going ⌝ }
+    ensures { λ _. ⌜ Coded (measuresOf m) (now (pool .exit)) (now (words .exit)) (now (occupied .exit)) (freed (measuresOf m) (now (pool .entry)) (now (words .entry)) (number .0)) ⌝ }
 {
     let cells = old.cells;
-    pool::clear_marked(pool, occupied, old.held, cells);
-    let new = Record::free();
-    new.store(words, number);
+    pool::clear_marked(pool, occupied, old.held, cells, m.bytes);
+    let new = Record::free(m.blocks);
+    new.store(words, number, m.blocks);
 }
 
 // Only the freed cells are cleared.
@@ -38,15 +40,16 @@ pub fn strike_record(
     number: RecordNumber,
     old: Record,
     going: u32,
+    m: Measures,
 )
-    requires { ⌜ Kept (now pool) (now words) (now occupied) ⌝ }
-    requires { ⌜ Loaded (now words) (number .0) old going ⌝ }
-    ensures { λ _. ⌜ Coded (now (pool .exit)) (now (words .exit)) (now (occupied .exit)) (struckOnly (now (pool .entry)) (now (words .entry)) (number .0)) ⌝ }
+    requires { ⌜ Kept (measuresOf m) (now pool) (now words) (now occupied) ⌝ }
+    requires { ⌜ Loaded (m .blocks) (now words) (number .0) old going ⌝ }
+    ensures { λ _. ⌜ Coded (measuresOf m) (now (pool .exit)) (now (words .exit)) (now (occupied .exit)) (struckOnly (measuresOf m) (now (pool .entry)) (now (words .entry)) (number .0)) ⌝ }
 {
     let cells = old.cells;
-    pool::clear_marked(pool, occupied, going, cells);
+    pool::clear_marked(pool, occupied, going, cells, m.bytes);
     let new = old.strike_all(going);
-    new.store(words, number);
+    new.store(words, number, m.blocks);
 }
 
 // The blocks that stay are copied into a run, and all old cells are cleared.
@@ -58,18 +61,19 @@ pub fn move_record(
     old: Record,
     going: u32,
     start: Cell,
+    m: Measures,
 )
-    requires { ⌜ Kept (now pool) (now words) (now occupied) ⌝ }
-    requires { ⌜ Loaded (now words) (number .0) old going ⌝ }
-    requires { ⌜ Chosen (now pool) (now words) (number .0) (start .0) ⌝ }
-    ensures { λ _. ⌜ Coded (now (pool .exit)) (now (words .exit)) (now (occupied .exit)) (compacted (now (pool .entry)) (now (words .entry)) (number .0)) ⌝ }
+    requires { ⌜ Kept (measuresOf m) (now pool) (now words) (now occupied) ⌝ }
+    requires { ⌜ Loaded (m .blocks) (now words) (number .0) old going ⌝ }
+    requires { ⌜ Chosen (measuresOf m) (now pool) (now words) (number .0) (start .0) ⌝ }
+    ensures { λ _. ⌜ Coded (measuresOf m) (now (pool .exit)) (now (words .exit)) (now (occupied .exit)) (compacted (measuresOf m) (now (pool .entry)) (now (words .entry)) (number .0)) ⌝ }
 {
     let cells = old.cells;
     let keep = old.held - going;
-    pool::copy_marked(pool, occupied, keep, cells, start);
-    pool::clear_marked(pool, occupied, old.held, cells);
+    pool::copy_marked(pool, occupied, keep, cells, start, m.bytes);
+    pool::clear_marked(pool, occupied, old.held, cells, m.bytes);
     let new = old.strike_all(going).renumber(start);
-    new.store(words, number);
+    new.store(words, number, m.blocks);
 }
 
 // The same if there is a run; else only the freed cells are cleared. The record's old cells still count as occupied.
@@ -80,21 +84,22 @@ pub fn compact_record(
     number: RecordNumber,
     old: Record,
     going: u32,
+    m: Measures,
 )
-    requires { ⌜ Kept (now pool) (now words) (now occupied) ⌝ }
-    requires { ⌜ Loaded (now words) (number .0) old going ⌝ }
-    requires { ⌜ 0 < stayingAt (now words) (number .0) ⌝ }
-    ensures { λ _. ⌜ Coded (now (pool .exit)) (now (words .exit)) (now (occupied .exit)) (compacted (now (pool .entry)) (now (words .entry)) (number .0)) ⌝ }
+    requires { ⌜ Kept (measuresOf m) (now pool) (now words) (now occupied) ⌝ }
+    requires { ⌜ Loaded (m .blocks) (now words) (number .0) old going ⌝ }
+    requires { ⌜ 0 < stayingAt (m .blocks) (now words) (number .0) ⌝ }
+    ensures { λ _. ⌜ Coded (measuresOf m) (now (pool .exit)) (now (words .exit)) (now (occupied .exit)) (compacted (measuresOf m) (now (pool .entry)) (now (words .entry)) (number .0)) ⌝ }
 {
     let keep = old.held - going;
     let need = u32::count_ones(keep) as usize;
     let run = runs::best_run(occupied, false, need);
     if run.size == 0 {
-        strike_record(pool, words, occupied, number, old, going);
+        strike_record(pool, words, occupied, number, old, going, m);
         return;
     }
     let start = run.start;
-    move_record(pool, words, occupied, number, old, going, start);
+    move_record(pool, words, occupied, number, old, going, start, m);
 }
 
 // r positions of the record go, and s are held.
@@ -107,34 +112,41 @@ pub fn remove_from(
     going: u32,
     r: u32,
     s: u32,
+    m: Measures,
 )
-    requires { ⌜ Kept (now pool) (now words) (now occupied) ⌝ }
-    requires { ⌜ Loaded (now words) (number .0) old going ⌝ }
-    requires { ⌜ (r ≡ goingAt (now words) (number .0)) × (s ≡ heldAt (now words) (number .0)) × (r ≤ s) × (s ≤ 8) ⌝ }
-    ensures { λ _. ⌜ Coded (now (pool .exit)) (now (words .exit)) (now (occupied .exit)) (removedAt (now (pool .entry)) (now (words .entry)) (number .0)) ⌝ }
+    requires { ⌜ Kept (measuresOf m) (now pool) (now words) (now occupied) ⌝ }
+    requires { ⌜ Loaded (m .blocks) (now words) (number .0) old going ⌝ }
+    requires { ⌜ (r ≡ goingAt (m .blocks) (now words) (number .0)) × (s ≡ heldAt (m .blocks) (now words) (number .0)) × (r ≤ s) × (s ≤ 16) ⌝ }
+    ensures { λ _. ⌜ Coded (measuresOf m) (now (pool .exit)) (now (words .exit)) (now (occupied .exit)) (removedAt (measuresOf m) (now (pool .entry)) (now (words .entry)) (number .0)) ⌝ }
 {
     if r == 0 {
         return;
     }
     if r == s {
-        free_record(pool, words, occupied, number, old, going);
+        free_record(pool, words, occupied, number, old, going, m);
         return;
     }
-    if 100 * r < 20 * s {
-        strike_record(pool, words, occupied, number, old, going);
+    if 100 * r < m.percent * s {
+        strike_record(pool, words, occupied, number, old, going, m);
         return;
     }
-    compact_record(pool, words, occupied, number, old, going);
+    compact_record(pool, words, occupied, number, old, going, m);
 }
 
-pub fn sweep_record(pool: &mut [u8], words: &mut [u32], occupied: &mut [bool], number: RecordNumber)
-    requires { ⌜ Kept (now pool) (now words) (now occupied) ⌝ }
-    requires { ⌜ number .0 < length (recordsIn 8 (now words)) ⌝ }
-    ensures { λ _. ⌜ Coded (now (pool .exit)) (now (words .exit)) (now (occupied .exit)) (sweepRecord baseMeasures (shelfIn baseMeasures (now (pool .entry)) (now (words .entry))) (number .0)) ⌝ }
+pub fn sweep_record(
+    pool: &mut [u8],
+    words: &mut [u32],
+    occupied: &mut [bool],
+    number: RecordNumber,
+    m: Measures,
+)
+    requires { ⌜ Kept (measuresOf m) (now pool) (now words) (now occupied) ⌝ }
+    requires { ⌜ number .0 < length (recordsIn (m .blocks) (now words)) ⌝ }
+    ensures { λ _. ⌜ Coded (measuresOf m) (now (pool .exit)) (now (words .exit)) (now (occupied .exit)) (sweepRecord (measuresOf m) (shelfIn (measuresOf m) (now (pool .entry)) (now (words .entry))) (number .0)) ⌝ }
 {
-    let old = records::load(words, number);
+    let old = records::load(words, number, m.blocks);
     let going = old.going();
     let r = u32::count_ones(going);
     let s = old.size();
-    remove_from(pool, words, occupied, number, old, going, r, s);
+    remove_from(pool, words, occupied, number, old, going, r, s, m);
 }

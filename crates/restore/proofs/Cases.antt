@@ -16,7 +16,8 @@ use Rattle.model.specs.Table.{shapeOf, stateIn, versionToWords, tillToWords, re
 use Rattle.model.specs.Sound.{isSound}
 use Rattle.model.specs.Trace.{imageOf, longestChain}
 use Rattle.model.specs.Calls.{RestoreAnswer, tillOf, heldFrom, restoreRefusal, restoreFrom, restore, restoreIn, restoreOf}
-use Rattle.laws.proofs.Stores.{tillAt, recordsFrom, Sound, found}
+use Rattle.laws.specs.Stores.{tillAt, recordsFrom, Sound}
+use Rattle.laws.proofs.Stores.{found}
 use Rattle.laws.proofs.Tills.{till, given, last-most, numbers, in-words, there, till-words, before-held, held-drop}
 use Rattle.tills.specs.declared.Head.{Head}
 use Rattle.tills.specs.Answers.{HeadOf}
@@ -27,13 +28,13 @@ module _ {pool table : List ℕ} (h : Sound pool table) (t v : ℕ) (output : Li
   no-till n = rw (h .is, le-leb _ _ n)
 
   module _ (in-table : t < getD table 0 0) (r : Head) (o : HeadOf pool table t r) where
-    answer : restoreOf pool table t v output ≡ restoreFrom 64 (stateIn (shapeOf table) pool table .shelf) (heldFrom v (till h t in-table .versions)) output
+    answer : restoreOf pool table t v output ≡ restoreFrom (shapeOf table .measures .blockBytes) (stateIn (shapeOf table) pool table .shelf) (heldFrom v (till h t in-table .versions)) output
     unfolding restoreOf restoreIn restore shapeOf
     answer = rw (h .is, lt-leb _ _ in-table)
 
     none : heldFrom v (till h t in-table .versions) ≡ [] → record { refusal = 15; length = 0; hops = 0; output = output } ≡ restoreOf pool table t v output
     unfolding restoreFrom restoreRefusal
-    none e = sym (answer ∙ ap (λ (vs : List Version). restoreFrom 64 (stateIn (shapeOf table) pool table .shelf) vs output) e)
+    none e = sym (answer ∙ ap (λ (vs : List Version). restoreFrom (shapeOf table .measures .blockBytes) (stateIn (shapeOf table) pool table .shelf) vs output) e)
 
     pub too-old : v < r .last + 1 - r .held → record { refusal = 15; length = 0; hops = 0; output = output } ≡ restoreOf pool table t v output
     too-old n = none (before-held (suc (till h t in-table .last) - length (till h t in-table .versions)) v (till h t in-table .versions) (numbers h t in-table) (omega (arith, n, o .last, o .held)))
@@ -47,10 +48,10 @@ module _ {pool table : List ℕ} (h : Sound pool table) (t v : ℕ) (output : Li
             ap (λ (k : ℕ). heldFrom k (till h t in-table .versions)) (sym e) ∙ held-drop _ (till h t in-table .versions) (numbers h t in-table) _
 
     pub held-at : r .last + 1 - r .held ≤ v → v < r .last + 1
-        → restoreFrom 64 (stateIn (shapeOf table) pool table .shelf) (drop (v - (r .last + 1 - r .held)) (till h t in-table .versions)) output ≡ restoreOf pool table t v output
+        → restoreFrom (shapeOf table .measures .blockBytes) (stateIn (shapeOf table) pool table .shelf) (drop (v - (r .last + 1 - r .held)) (till h t in-table .versions)) output ≡ restoreOf pool table t v output
     held-at a b =
         let e : suc (till h t in-table .last) - length (till h t in-table .versions) + (v - (r .last + 1 - r .held)) ≡ v = omega (arith, a, b, o .last, o .held, given h t in-table) in
-        ap (λ (vs : List Version). restoreFrom 64 (stateIn (shapeOf table) pool table .shelf) vs output)
+        ap (λ (vs : List Version). restoreFrom (shapeOf table .measures .blockBytes) (stateIn (shapeOf table) pool table .shelf) vs output)
         (sym (held-drop _ (till h t in-table .versions) (numbers h t in-table) (v - (r .last + 1 - r .held))) ∙ ap (λ (k : ℕ). heldFrom k (till h t in-table .versions)) e)
         ∙ sym answer
 

@@ -3,18 +3,18 @@ use Prim.Native.Nat.{ℕ}
 use mathlib.Core.Path.{_≡_}
 use mathlib.Core.List.{List}
 use lib.ListN.{length, getD}
-use Rattle.model.specs.Measures.{partsFor}
+use Rattle.model.specs.Measures.{Measures, partsFor}
 use Rattle.model.specs.Table.{versionsIn}
 use Rattle.model.specs.Calls.{RestoreAnswer}
 use Rattle.shelf.specs.Stored.{Stored}
 use Rattle.trace.specs.Versions.{pointersAt, Traceable, Direct}
 use Rattle.restore.specs.declared.Restored.{Restored}
 
-pub record Lent (b h : ℕ) (pool words slots : List ℕ) : Type 0 where
-  pub stored : Stored pool words
-  pub traceable : Traceable b h slots
-  pub fit : Direct b h slots (length words)
-  pub blocks : length (pointersAt (versionsIn 64 b h slots) 0) ≡ partsFor 64 (getD slots 1 0)
+pub record Lent (m : Measures) (b h : ℕ) (pool words slots : List ℕ) : Type 0 where
+  pub stored : Stored m pool words
+  pub traceable : Traceable (m .blockBytes) b h slots
+  pub fit : Direct (m .segmentBlocks) (m .blockBytes) b h slots (length words)
+  pub blocks : length (pointersAt (versionsIn (m .blockBytes) b h slots) 0) ≡ partsFor (m .blockBytes) (getD slots 1 0)
 
 abbrev pub restoreAnswer : Restored → List ℕ → RestoreAnswer
 restoreAnswer r output = record { refusal = r .refusal; length = r .length; hops = r .hops; output = output }

@@ -2,12 +2,13 @@
 ghost use mathlib.Core.Path.{_≡_};
 ghost use Prim.Native.Nat.{ℕ, _+_, _-_, _<_};
 ghost use lib.ListN.{length, getD, drop};
-ghost use Rattle.model.specs.Measures.{baseMeasures};
 ghost use Rattle.model.specs.Table.{shapeOf, stateIn, shelfIn, versionsIn};
 ghost use Rattle.model.specs.Calls.{tillOf, restoreFrom, restoreOf};
-ghost use Rattle.laws.proofs.Stores.{Sound};
+ghost use Rattle.laws.specs.Stores.{Sound};
+ghost use Rattle.numbers.specs.Measures.{measuresOf};
 ghost use Rattle.tills.specs.Answers.{HeadOf};
 ghost use Rattle.restore.specs.Answers.{Lent, restoreAnswer};
+use numbers::Measures;
 use tills::Head;
 
 // Refusal 0 is an accepted call.
@@ -36,15 +37,16 @@ fn restore_slots(
     b: usize,
     h: usize,
     output: &mut [u8],
+    m: Measures,
 ) -> Restored
-    requires { ⌜ Lent b h (now pool) (now words) (now slots) ⌝ }
-    ensures { λ r. ⌜ restoreAnswer r (now (output .exit)) ≡ restoreFrom 64 (shelfIn baseMeasures (now (pool .entry)) (now (words .entry))) (versionsIn 64 b h (now (slots .entry))) (now (output .entry)) ⌝ }
+    requires { ⌜ Lent (measuresOf m) b h (now pool) (now words) (now slots) ⌝ }
+    ensures { λ r. ⌜ restoreAnswer r (now (output .exit)) ≡ restoreFrom (m .bytes) (shelfIn (measuresOf m) (now (pool .entry)) (now (words .entry))) (versionsIn (m .bytes) b h (now (slots .entry))) (now (output .entry)) ⌝ }
 {
     let length = slots[1];
     if output.len() < length as usize {
         return refused(5);
     }
-    let hops = trace::restore_image(pool, words, slots, b, h, output);
+    let hops = trace::restore_image(pool, words, slots, b, h, output, m);
     Restored {
         refusal: 0,
         length: length,
@@ -60,9 +62,10 @@ fn restore_held(
     head: Head,
     j: usize,
     output: &mut [u8],
+    m: Measures,
 ) -> Restored
-    requires { ⌜ Sound (now pool) (now table) × (till < getD (now table) 0 0) × HeadOf (now pool) (now table) till head × (j < head .held) ⌝ }
-    ensures { λ r. ⌜ restoreAnswer r (now (output .exit)) ≡ restoreFrom 64 (stateIn (shapeOf (now (table .entry))) (now (pool .entry)) (now (table .entry)) .shelf) (drop j (tillOf (stateIn (shapeOf (now (table .entry))) (now (pool .entry)) (now (table .entry))) till .versions)) (now (output .entry)) ⌝ }
+    requires { ⌜ Sound (now pool) (now table) × (till < getD (now table) 0 0) × HeadOf (now pool) (now table) till head × (j < head .held) × (measuresOf m ≡ shapeOf (now table) .measures) ⌝ }
+    ensures { λ r. ⌜ restoreAnswer r (now (output .exit)) ≡ restoreFrom (shapeOf (now (table .entry)) .measures .blockBytes) (stateIn (shapeOf (now (table .entry))) (now (pool .entry)) (now (table .entry)) .shelf) (drop j (tillOf (stateIn (shapeOf (now (table .entry))) (now (pool .entry)) (now (table .entry))) till .versions)) (now (output .entry)) ⌝ }
 {
     let records = tills::records_at(table);
     let blocks = table[2] as usize;
@@ -78,6 +81,7 @@ fn restore_held(
         blocks,
         held - j,
         output,
+        m,
     )
 }
 
@@ -104,5 +108,6 @@ pub fn restore_version(
         return refused(15);
     }
     let j = (version - first) as usize;
-    restore_held(pool, table, till, head, j, output)
+    let m = layout::measures_in(table);
+    restore_held(pool, table, till, head, j, output, m)
 }

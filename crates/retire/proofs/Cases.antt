@@ -3,7 +3,7 @@ use mathlib.Core.Path.{_≡_, refl, sym, ap, _∙_, subst}
 use mathlib.Core.Bool.{true, false, cond, not}
 use mathlib.Core.List.{List, [], _∷_, _++_, map}
 use Prim.Native.Nat.{ℕ, suc, _+_, _*_, _-_, _/_, _≤_, _<_}
-use native.Mathlib.Nat.{mul-le-mul-right}
+use native.Mathlib.Nat.{mul-le-mul, mul-le-mul-right}
 use native.Mathlib.Omega.{arith}
 use lib.ListN.{length, getD, set, take, drop, replicate, length-take, length-drop, length-map, length-append, length-replicate}
 use lib.Seq.{getD-take, getD-drop, take-take, drop-drop, take-at, length-take-le}
@@ -12,7 +12,7 @@ use lib.Dec.{eqb}
 use Rattle.lists.specs.Rows.{rows}
 use Rattle.lists.proofs.Each.{each-at}
 use Rattle.lists.proofs.Slices.{drop-end, tail-all, part-part, part-get}
-use Rattle.model.specs.Measures.{Shape, Capacities, baseMeasures, partsFor, tillWords, tableWords}
+use Rattle.model.specs.Measures.{Measures, Shape, Capacities, partsFor, tillWords, recordWords, tableWords}
 use Rattle.model.specs.State.{Pointer, Version, Till, Shelf, State, Outcome, refused, done}
 use Rattle.model.specs.Sweep.{release, sweep}
 use Rattle.model.specs.Table.{pointerWord, wordToPointer, versionIn, versionToWords, tillToWords, recordToWords, recordsPart, shapeOf, stateIn, shelfIn, stateToWords, stateToBytes}
@@ -21,8 +21,11 @@ use Rattle.model.specs.Calls as calls
 use Rattle.laws.proofs.Fits.{VersionFits}
 use Rattle.laws.proofs.Measures.{sizes, parts-enough}
 use Rattle.laws.proofs.RoundTrip.{length-till}
-use Rattle.laws.proofs.Stores.{tillAt, recordsFrom, till-is, till-put, records-put, Sound, header, found, fits, long}
+use Rattle.laws.specs.Stores.{tillAt, recordsFrom, Sound}
+use Rattle.laws.proofs.Stores.{till-is, till-put, records-put, header, found, fits, long}
 use Rattle.laws.proofs.Tills.{From, there, till-words, few, given, last-most, numbers, in-words, before-held, held-drop, oldest-from}
+use Rattle.meets.proofs.Records.{part-is, shelf-is}
+use Rattle.trace.specs.Versions.{noVersion}
 use Rattle.shelf.specs.Stored.{Told, Stored}
 use Rattle.shelf.specs.Fits.{Fits}
 use Rattle.slots.specs.Slots.{withoutOldest}
@@ -38,13 +41,22 @@ use Rattle.retire.specs.Answers.{tillIn, oldestIn, Holds, Copied, releas
 pub zeros-long : (n : ℕ) → length (replicate {A = ℕ} n 0) ≡ n
 zeros-long n = length-replicate {0} {A = ℕ} n 0
 
+-- a number of parts, by an equal measure
+pub by-bytes : (a b n k : ℕ) → a ≡ b → k ≡ partsFor a n → k ≡ partsFor b n
+by-bytes a b n k e h = h ∙ ap (λ (x : ℕ). partsFor x n) e
+
+pub by-measures : (a b : Measures) (n k : ℕ) → a ≡ b → k ≡ partsFor (a .blockBytes) n → k ≡ partsFor (b .blockBytes) n
+by-measures a b n k e h = by-bytes (a .blockBytes) (b .blockBytes) n k (ap (λ (m : Measures). m .blockBytes) e) h
+
 -- ---- how long a table is
 
-pub table-most : {pool table : List ℕ} → Sound pool table → (length table ≤ 1129544) × (recordsFrom (shapeOf table) ≤ length table)
+pub table-most : {pool table : List ℕ} → Sound pool table → (length table ≤ 1195080) × (recordsFrom (shapeOf table) ≤ length table)
 unfolding shapeOf tableWords
 table-most {pool} {table} h =
     let (a, b) = sizes (getD table 0 0) (getD table 1 0) (getD table 2 0) (header h .tills) (header h .versions) (header h .blocks) in
-    (omega (arith, b, long h, header h .records), omega (arith, long h))
+    let w : recordWords (shapeOf table .measures .segmentBlocks) ≤ 35 = omega (arith, header h .measured .mostBlocks) in
+    let rows : getD table 3 0 * recordWords (shapeOf table .measures .segmentBlocks) ≤ 4096 * 35 = mul-le-mul (header h .records) w in
+    (omega (arith, b, long h, rows), omega (arith, long h))
 
 -- ---- the oldest version's slot
 
@@ -67,8 +79,8 @@ module _ {pool table : List ℕ} {t at : ℕ} (h : Holds pool table t at) where
   oldest-fits : VersionFits (shapeOf table) (oldestIn pool table t)
   unfolding shapeOf tillOf emptyTill
   oldest-fits =
-      each-at (VersionFits (shapeOf table)) (versionIn 64 []) (tillIn pool table t .versions)
-      (slots.till-fits caps state (found (h .sound) .sound) t ht .versions) 0 (h .some)
+      each-at (VersionFits (shapeOf table)) noVersion (tillIn pool table t .versions)
+      (slots.till-fits (shapeOf table) state (found (h .sound) .sound) t ht .versions) 0 (h .some)
 
   slot-fits : 7 + b ≤ tillWords v b
   slot-fits =
@@ -83,7 +95,7 @@ module _ {pool table : List ℕ} {t at : ℕ} (h : Holds pool table t at) where
       ∙ sym (part-part table (tillAt (shapeOf table) t) (tillWords v b) 4 (3 + b) (omega (arith, slot-fits)))
       ∙ ap (λ (ws : List ℕ). take (3 + b) (drop 4 ws)) (till-words (h .sound) t (h .inside))
       ∙ ap (λ (k : ℕ). take (3 + b) (drop k (tillToWords v b (tillIn pool table t)))) (sym z)
-      ∙ slot-row caps state (found (h .sound) .sound) t ht 0 (h .some)
+      ∙ slot-row (shapeOf table) state (found (h .sound) .sound) t ht 0 (h .some)
 
   pub length-word : getD table (at + 5) 0 ≡ oldestIn pool table t .length
   unfolding versionToWords
@@ -91,113 +103,130 @@ module _ {pool table : List ℕ} {t at : ℕ} (h : Holds pool table t at) where
       let z : at + 5 ≡ at + 4 + 1 = omega arith in
       ap (λ (i : ℕ). getD table i 0) z ∙ sym (part-get table (at + 4) (3 + b) 1 0 (omega arith)) ∙ ap (λ (ws : List ℕ). getD ws 1 0) slot
 
-  parts-are : partsFor 64 (getD table (at + 5) 0) ≡ length (oldestIn pool table t .pointers)
+  parts-are : partsFor (shapeOf table .measures .blockBytes) (getD table (at + 5) 0) ≡ length (oldestIn pool table t .pointers)
   unfolding shapeOf
-  parts-are = ap (partsFor 64) length-word ∙ sym (oldest-fits .blocks)
+  parts-are = ap (partsFor (shapeOf table .measures .blockBytes)) length-word ∙ sym (oldest-fits .blocks)
 
-  parts-most : partsFor 64 (getD table (at + 5) 0) ≤ b
+  parts-most : partsFor (shapeOf table .measures .blockBytes) (getD table (at + 5) 0) ≤ b
   unfolding shapeOf
   parts-most = omega (arith, parts-are, oldest-fits .most)
 
-  pub pointer-words : take (partsFor 64 (getD table (at + 5) 0)) (drop (at + 7) table) ≡ map pointerWord (oldestIn pool table t .pointers)
+  pub pointer-words : take (partsFor (shapeOf table .measures .blockBytes) (getD table (at + 5) 0)) (drop (at + 7) table) ≡ map pointerWord (oldestIn pool table t .pointers)
   unfolding shapeOf tillOf emptyTill versionToWords
   pointer-words =
       let z : at + 7 ≡ at + 4 + 3 = omega arith in
-      ap (λ (i : ℕ). take (partsFor 64 (getD table (at + 5) 0)) (drop i table)) z
-      ∙ sym (part-part table (at + 4) (3 + b) 3 (partsFor 64 (getD table (at + 5) 0)) (omega (arith, parts-most)))
-      ∙ ap (λ (ws : List ℕ). take (partsFor 64 (getD table (at + 5) 0)) (drop 3 ws)) slot
-      ∙ ap (λ (n : ℕ). take (partsFor 64 n) (drop 3 (versionToWords b (oldestIn pool table t)))) length-word
-      ∙ version-words caps state (found (h .sound) .sound) t ht 0 (h .some)
+      ap (λ (i : ℕ). take (partsFor (shapeOf table .measures .blockBytes) (getD table (at + 5) 0)) (drop i table)) z
+      ∙ sym (part-part table (at + 4) (3 + b) 3 (partsFor (shapeOf table .measures .blockBytes) (getD table (at + 5) 0)) (omega (arith, parts-most)))
+      ∙ ap (λ (ws : List ℕ). take (partsFor (shapeOf table .measures .blockBytes) (getD table (at + 5) 0)) (drop 3 ws)) slot
+      ∙ ap (λ (n : ℕ). take (partsFor (shapeOf table .measures .blockBytes) n) (drop 3 (versionToWords b (oldestIn pool table t)))) length-word
+      ∙ version-words (shapeOf table) state (found (h .sound) .sound) t ht 0 (h .some)
 
   -- all that is read lies in the table
-  pub room : (at + 7 + (getD table (at + 5) 0 + 63) / 64 ≤ length table) × ((getD table (at + 5) 0 + 63) / 64 ≤ 1024) × (getD table (at + 5) 0 ≤ 65536) × (length table ≤ 1129544)
-  unfolding partsFor
+  pub room : (at + 7 + partsFor (shapeOf table .measures .blockBytes) (getD table (at + 5) 0) ≤ length table) × (partsFor (shapeOf table .measures .blockBytes) (getD table (at + 5) 0) ≤ 1024) × (getD table (at + 5) 0 ≤ 65536) × (length table ≤ 1195080)
   room =
       let k = parts-most in
-      let n = header (h .sound) .blocks in
-      (omega (arith, k, h .begins, slot-fits, in-words (h .sound) t (h .inside)), omega (arith, k, n), omega (arith, k, n, parts-enough 64 (getD table (at + 5) 0) (omega arith)), table-most (h .sound) .0)
+      let d = header (h .sound) in
+      let some : 0 < shapeOf table .measures .blockBytes = omega (arith, d .measured .someBytes) in
+      let all : partsFor (shapeOf table .measures .blockBytes) (getD table (at + 5) 0) * shapeOf table .measures .blockBytes ≤ b * shapeOf table .measures .blockBytes =
+      mul-le-mul-right (shapeOf table .measures .blockBytes) k in (
+        omega (arith, k, h .begins, slot-fits, in-words (h .sound) t (h .inside)),
+        omega (arith, k, d .blocks),
+        omega (arith, parts-enough (shapeOf table .measures .blockBytes) (getD table (at + 5) 0) some, all, d .image),
+        table-most (h .sound) .0,
+      )
 
-  copied-length : (k : ℕ) → k ≡ partsFor 64 (getD table (at + 5) 0) → length (take (at + 7 + k - (at + 7)) (drop (at + 7) table)) ≡ k
-  copied-length k e =
-      let z : at + 7 + k - (at + 7) ≡ k = omega arith in
-      rw (z, e) (ap length pointer-words ∙ length-map (oldestIn pool table t .pointers) pointerWord ∙ sym parts-are)
+  -- with the number of pointers as the code has it
+  module _ (k : ℕ) (ek : k ≡ partsFor (shapeOf table .measures .blockBytes) (getD table (at + 5) 0)) where
+    copied-length : length (take (at + 7 + k - (at + 7)) (drop (at + 7) table)) ≡ k
+    copied-length =
+        let z : at + 7 + k - (at + 7) ≡ k = omega arith in
+        rw (z, ek) (ap length pointer-words ∙ length-map (oldestIn pool table t .pointers) pointerWord ∙ sym parts-are)
 
-  pub copy-room : (d : List ℕ) → length d ≡ 1024 → length (take (at + 7 + (getD table (at + 5) 0 + 63) / 64 - (at + 7)) (drop (at + 7) table)) ≤ length d
-  unfolding partsFor
-  copy-room d l = let (a, c, e, f) = room in omega (arith, l, c, copied-length ((getD table (at + 5) 0 + 63) / 64) refl)
+    pub copy-in-table : at + 7 + k ≤ length table
+    copy-in-table = omega (arith, room .0, ek)
 
-  pub copied : (d ws : List ℕ) → length d ≡ 1024
-      → ws ≡ take (at + 7 + (getD table (at + 5) 0 + 63) / 64 - (at + 7)) (drop (at + 7) table)
-      ++ drop (length (take (at + 7 + (getD table (at + 5) 0 + 63) / 64 - (at + 7)) (drop (at + 7) table))) d
-      → Copied pool table t (getD table (at + 5) 0) ws
-  unfolding partsFor
-  copied d ws l e =
-      let k : ℕ = (getD table (at + 5) 0 + 63) / 64 in
-      let src : List ℕ = take (at + 7 + k - (at + 7)) (drop (at + 7) table) in
-      let z : at + 7 + k - (at + 7) ≡ k = omega arith in
-      record {
-        bytes = length-word;
-        words = ap (take k) e ∙ take-at src (drop (length src) d) k (copied-length k refl) ∙ ap (λ (j : ℕ). take j (drop (at + 7) table)) z ∙ pointer-words;
-        room = omega (arith, ap length e, length-append src (drop (length src) d), copied-length k refl);
-      }
+    pub copy-room : (d : List ℕ) → length d ≡ 1024 → length (take (at + 7 + k - (at + 7)) (drop (at + 7) table)) ≤ length d
+    copy-room d l = omega (arith, l, room .1, ek, copied-length)
+
+    pub copied : (d ws : List ℕ) → length d ≡ 1024
+        → ws ≡ take (at + 7 + k - (at + 7)) (drop (at + 7) table) ++ drop (length (take (at + 7 + k - (at + 7)) (drop (at + 7) table))) d
+        → Copied pool table t (getD table (at + 5) 0) ws
+    copied d ws l e =
+        let src : List ℕ = take (at + 7 + k - (at + 7)) (drop (at + 7) table) in
+        let z : at + 7 + k - (at + 7) ≡ k = omega arith in
+        let front : take k ws ≡ map pointerWord (oldestIn pool table t .pointers) =
+        ap (take k) e ∙ take-at src (drop (length src) d) k copied-length ∙ ap (λ (j : ℕ). take j (drop (at + 7) table)) z
+        ∙ ap (λ (j : ℕ). take j (drop (at + 7) table)) ek ∙ pointer-words in
+        record {
+          bytes = length-word;
+          words = ap (λ (j : ℕ). take j ws) (sym ek) ∙ front;
+          room = omega (arith, ek, ap length e, length-append src (drop (length src) d), copied-length);
+        }
 
   -- the copied words are the oldest version's pointers, which can be followed
-  module _ (n : ℕ) (ws : List ℕ) (o : Copied pool table t n ws) where
-    pub pointers-are : map wordToPointer (take (partsFor 64 n) ws) ≡ oldestIn pool table t .pointers
+  -- what counting its pointers requires
+  pub length-most : (n : ℕ) (ws : List ℕ) → Copied pool table t n ws → (m : Measures) → m ≡ shapeOf table .measures → (0 < m .blockBytes) × (m .blockBytes ≤ 512) × (n ≤ 4294967295)
+  length-most n ws o m em =
+      let d = header (h .sound) .measured in
+      (rw em (omega (arith, d .someBytes)), rw em (d .mostBytes), omega (arith, o .bytes, length-word, room .2))
+
+  module _ (n : ℕ) (ws : List ℕ) (o : Copied pool table t n ws) (k : ℕ) (ek : k ≡ partsFor (shapeOf table .measures .blockBytes) n) where
+    front : take k ws ≡ map pointerWord (oldestIn pool table t .pointers)
+    front = ap (λ (j : ℕ). take j ws) ek ∙ o .words
+
+    pub pointers-are : map wordToPointer (take k ws) ≡ oldestIn pool table t .pointers
     unfolding shapeOf tillOf emptyTill
-    pointers-are = ap (map wordToPointer) (o .words) ∙ version-pointers caps state (found (h .sound) .sound) t ht 0 (h .some)
+    pointers-are = ap (map wordToPointer) front ∙ version-pointers (shapeOf table) state (found (h .sound) .sound) t ht 0 (h .some)
 
-    pub front-long : partsFor 64 n ≡ length (take (partsFor 64 n) ws)
-    front-long = sym (length-take-le (partsFor 64 n) ws (o .room))
+    pub front-room : k ≤ length ws
+    front-room = omega (arith, ek, o .room)
 
-    pub pointers-fit : (i : ℕ) → i < length (take (partsFor 64 n) ws) → Fits (length (drop (recordsFrom (shapeOf table)) table)) (wordToPointer (getD (take (partsFor 64 n) ws) i 0))
+    pub front-long : k ≡ length (take k ws)
+    front-long = sym (length-take-le k ws front-room)
+
+    pub pointers-fit : (i : ℕ) → i < length (take k ws) → Fits (shapeOf table .measures .segmentBlocks) (length (drop (recordsFrom (shapeOf table)) table)) (wordToPointer (getD (take k ws) i 0))
     unfolding shapeOf tillOf emptyTill
     pointers-fit i l =
-        rw (o .words)
-        (subst (λ (w : List ℕ). Fits (length (recordsPart caps w)) (wordToPointer (getD (map pointerWord (oldestIn pool table t .pointers)) i 0))) (found (h .sound) .words)
-        (version-fit caps state (found (h .sound) .sound) t ht 0 (h .some) i))
+        rw front
+        (subst (λ (w : List ℕ). Fits (shapeOf table .measures .segmentBlocks) (length (recordsPart caps w)) (wordToPointer (getD (map pointerWord (oldestIn pool table t .pointers)) i 0))) (found (h .sound) .words)
+        (version-fit (shapeOf table) state (found (h .sound) .sound) t ht 0 (h .some) i))
 
 -- ---- pointers let go
 
 module _ {pool table : List ℕ} (h : Sound pool table) (r : ℕ) (e : r ≡ recordsFrom (shapeOf table)) where
-  pub records-in : (r ≤ length table) × (length table ≤ 1129544)
+  pub records-in : (r ≤ length table) × (length table ≤ 1195080)
   records-in = let (a, b) = table-most h in (omega (arith, e, b), a)
 
-  part-is : take (length table - r) (drop r table) ≡ drop (recordsFrom (shapeOf table)) table
-  part-is = tail-all table r ∙ ap (λ (k : ℕ). drop k table) e
+  fit-there : (ps : List ℕ) → ((i : ℕ) → i < length ps → Fits (shapeOf table .measures .segmentBlocks) (length (drop (recordsFrom (shapeOf table)) table)) (wordToPointer (getD ps i 0)))
+      → (i : ℕ) → i < length ps → Fits (shapeOf table .measures .segmentBlocks) (length (take (length table - r) (drop r table))) (wordToPointer (getD ps i 0))
+  fit-there ps f i l = subst (λ (w : List ℕ). Fits (shapeOf table .measures .segmentBlocks) (length w) (wordToPointer (getD ps i 0))) (sym (part-is h r e)) (f i l)
 
-  pub stored : Stored pool (take (length table - r) (drop r table))
-  unfolding shapeOf
-  stored =
-      subst (λ (w : List ℕ). Stored pool w) (sym part-is)
-      (subst (λ (p : List ℕ). Stored p (drop (recordsFrom (shapeOf table)) table)) (found h .bytes)
-      (subst (λ (w : List ℕ). Stored (stateToBytes (stateIn (shapeOf table) pool table)) (recordsPart (shapeOf table .capacities) w)) (found h .words)
-      (sound-stored (shapeOf table .capacities) (stateIn (shapeOf table) pool table) (found h .sound))))
-
-  pub fit-there : (ps : List ℕ) → ((i : ℕ) → i < length ps → Fits (length (drop (recordsFrom (shapeOf table)) table)) (wordToPointer (getD ps i 0)))
-      → (i : ℕ) → i < length ps → Fits (length (take (length table - r) (drop r table))) (wordToPointer (getD ps i 0))
-  fit-there ps f i l = subst (λ (w : List ℕ). Fits (length w) (wordToPointer (getD ps i 0))) (sym part-is) (f i l)
-
-  shelf-is : shelfIn baseMeasures pool (take (length table - r) (drop r table)) ≡ stateIn (shapeOf table) pool table .shelf
-  unfolding stateIn shapeOf
-  shelf-is = ap (shelfIn baseMeasures pool) part-is
-
-  pub swept : (p w : List ℕ) (ps : List Pointer) → Told p w (sweep baseMeasures (release (shelfIn baseMeasures pool (take (length table - r) (drop r table))) ps))
+  swept : (p w : List ℕ) (ps : List Pointer) → Told (shapeOf table .measures) p w (sweep (shapeOf table .measures) (release (shelfIn (shapeOf table .measures) pool (take (length table - r) (drop r table))) ps))
       → Are (shapeOf table) (released pool table ps) p (take r table ++ (w ++ drop (length table - r) (drop r table)))
   unfolding stateToBytes
   swept p w ps o =
       let s : Shape = shapeOf table in
       let st : State = stateIn (shapeOf table) pool table in
-      let to : Shelf = sweep baseMeasures (release (st .shelf) ps) in
-      let q : Told p w to = subst (λ (x : Shelf). Told p w (sweep baseMeasures (release x ps))) shelf-is o in
+      let to : Shelf = sweep (shapeOf table .measures) (release (st .shelf) ps) in
+      let q : Told (shapeOf table .measures) p w to = subst (λ (x : Shelf). Told (shapeOf table .measures) p w (sweep (shapeOf table .measures) (release x ps))) (shelf-is h r e) o in
       record {
-        bytes = q .cells .bytes;
+        bytes = q .cells .joins;
         words =
             ap (λ (k : ℕ). take k table ++ (w ++ drop (length table - k) (drop k table))) e
             ∙ ap (λ (l : List ℕ). take (recordsFrom s) table ++ (l ++ drop (length table - recordsFrom s) (drop (recordsFrom s) table))) (q .records .words)
             ∙ subst (λ (l : List ℕ). take (recordsFrom s) l ++ (rows recordToWords (to .records) ++ drop (length l - recordsFrom s) (drop (recordsFrom s) l)) ≡ stateToWords s (record { tills = st .tills; shelf = record { records = to .records; cells = to .cells } }))
             (found h .words) (records-put s st (fits h .tillCount) (to .records) (to .cells));
       }
+
+  -- with the measures as the code read them
+  module _ (m : Measures) (em : m ≡ shapeOf table .measures) where
+    pub fit-read : (ps : List ℕ) → ((i : ℕ) → i < length ps → Fits (shapeOf table .measures .segmentBlocks) (length (drop (recordsFrom (shapeOf table)) table)) (wordToPointer (getD ps i 0)))
+        → (i : ℕ) → i < length ps → Fits (m .segmentBlocks) (length (take (length table - r) (drop r table))) (wordToPointer (getD ps i 0))
+    fit-read ps f = rw em (fit-there ps f)
+
+    pub swept-read : (p w : List ℕ) (ps : List Pointer) → Told m p w (sweep m (release (shelfIn m pool (take (length table - r) (drop r table))) ps))
+        → Are (shapeOf table) (released pool table ps) p (take r table ++ (w ++ drop (length table - r) (drop r table)))
+    swept-read p w ps o = swept p w ps (subst (λ (n : Measures). Told n p w (sweep n (release (shelfIn n pool (take (length table - r) (drop r table))) ps))) em o)
 
 -- ---- the slot goes
 
@@ -228,15 +257,15 @@ slot-meets ws at n b (a, c, d, f) =
 
 -- ---- the whole
 
-drop-is : (s : Shape) (st : State) (t last : ℕ) (vs : List Version) → 0 < length vs
+drop-is : (s : Shape) (st : State) (t last : ℕ) (vs : List Version) (d : Version) → 0 < length vs
     → dropOldest s st t last vs
     ≡ done (record {
-      state = withTill st t (record { last = last; versions = drop 1 vs }) (sweep (s .measures) (release (st .shelf) (getD vs 0 (versionIn 64 []) .pointers)));
-      answer = getD vs 0 (versionIn 64 []) .length;
+      state = withTill st t (record { last = last; versions = drop 1 vs }) (sweep (s .measures) (release (st .shelf) (getD vs 0 d .pointers)));
+      answer = getD vs 0 d .length;
     })
 unfolding dropOldest
-drop-is s st t last [] h = absurd (omega arith)
-drop-is s st t last (v ∷ vs) h = refl
+drop-is s st t last [] d h = absurd (omega arith)
+drop-is s st t last (v ∷ vs) d h = refl
 
 module _ {pool table : List ℕ} {t at : ℕ} (h : Holds pool table t at) where
   pub placed : (ps : List Pointer) (n : ℕ) → n ≡ tillSize table → Placed (shapeOf table) (released pool table ps) t at n (getD table 2 0)
@@ -253,24 +282,24 @@ module _ {pool table : List ℕ} {t at : ℕ} (h : Holds pool table t at) where
   unfolding tillOf
   still-held ps = h .some
 
-  pub dropped : (n : ℕ) (ws p w w′ : List ℕ) → Copied pool table t n ws → Are (shapeOf table) (released pool table (map wordToPointer (take (partsFor 64 n) ws))) p w
+  pub dropped : (n : ℕ) (ws p w w′ : List ℕ) → Copied pool table t n ws → (k : ℕ) → k ≡ partsFor (shapeOf table .measures .blockBytes) n → Are (shapeOf table) (released pool table (map wordToPointer (take k ws))) p w
       → w′ ≡ stateToWords (shapeOf table) (record {
-        tills = set (stateIn (shapeOf table) pool table .tills) t (withoutOldest (tillOf (released pool table (map wordToPointer (take (partsFor 64 n) ws))) t));
-        shelf = released pool table (map wordToPointer (take (partsFor 64 n) ws)) .shelf;
+        tills = set (stateIn (shapeOf table) pool table .tills) t (withoutOldest (tillOf (released pool table (map wordToPointer (take k ws))) t));
+        shelf = released pool table (map wordToPointer (take k ws)) .shelf;
       })
       → record { refusal = 0; length = n; pool = p; table = w′ } ≡ droppedFrom pool table t
   unfolding calls.retireAnswer withTill stateToBytes tillOf shapeOf
-  dropped n ws p w w′ o a e =
+  dropped n ws p w w′ o k ek a e =
       let s : Shape = shapeOf table in
       let st : State = stateIn (shapeOf table) pool table in
-      let f = pointers-are h n ws o in
+      let f = pointers-are h n ws o k ek in
       let e₁ : n ≡ oldestIn pool table t .length = o .bytes in
-      let e₂ : p ≡ stateToBytes (withTill st t (withoutOldest (tillOf st t)) (sweep baseMeasures (release (st .shelf) (oldestIn pool table t .pointers)))) =
+      let e₂ : p ≡ stateToBytes (withTill st t (withoutOldest (tillOf st t)) (sweep (shapeOf table .measures) (release (st .shelf) (oldestIn pool table t .pointers)))) =
       a .bytes ∙ ap (λ (ps : List Pointer). stateToBytes (released pool table ps)) f in
-      let e₃ : w′ ≡ stateToWords s (withTill st t (withoutOldest (tillOf st t)) (sweep baseMeasures (release (st .shelf) (oldestIn pool table t .pointers)))) =
-      e ∙ ap (λ (ps : List Pointer). stateToWords s (withTill st t (withoutOldest (tillOf st t)) (sweep baseMeasures (release (st .shelf) ps)))) f in
+      let e₃ : w′ ≡ stateToWords s (withTill st t (withoutOldest (tillOf st t)) (sweep (shapeOf table .measures) (release (st .shelf) (oldestIn pool table t .pointers)))) =
+      e ∙ ap (λ (ps : List Pointer). stateToWords s (withTill st t (withoutOldest (tillOf st t)) (sweep (shapeOf table .measures) (release (st .shelf) ps)))) f in
       (λ i. record { refusal = 0; length = e₁ i; pool = e₂ i; table = e₃ i })
-      ∙ ap (calls.retireAnswer pool table s) (sym (drop-is s st t (tillOf st t .last) (tillOf st t .versions) (h .some)))
+      ∙ ap (calls.retireAnswer pool table s) (sym (drop-is s st t (tillOf st t .last) (tillOf st t .versions) noVersion (h .some)))
 
 -- ---- the refusals
 

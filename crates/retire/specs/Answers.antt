@@ -3,19 +3,20 @@ use mathlib.Core.Path.{_≡_}
 use mathlib.Core.List.{List, [], map}
 use Prim.Native.Nat.{ℕ, _≤_, _<_}
 use lib.ListN.{length, getD, take}
-use Rattle.model.specs.Measures.{Shape, baseMeasures, partsFor, tillWords}
+use Rattle.model.specs.Measures.{Shape, partsFor, tillWords}
 use Rattle.model.specs.State.{Pointer, Version, Till, State}
 use Rattle.model.specs.Sweep.{release, sweep}
 use Rattle.model.specs.Table.{pointerWord, versionIn, shapeOf, stateIn, stateToWords, stateToBytes}
 use Rattle.model.specs.Calls as calls
-use Rattle.laws.proofs.Stores.{tillAt, Sound}
+use Rattle.laws.specs.Stores.{tillAt, Sound}
+use Rattle.trace.specs.Versions.{noVersion}
 use Rattle.retire.specs.declared.Retired.{Retired}
 
 abbrev pub tillIn : List ℕ → List ℕ → ℕ → Till
 tillIn pool table t = calls.tillOf (stateIn (shapeOf table) pool table) t
 
 abbrev pub oldestIn : List ℕ → List ℕ → ℕ → Version
-oldestIn pool table t = getD (tillIn pool table t .versions) 0 (versionIn 64 [])
+oldestIn pool table t = getD (tillIn pool table t .versions) 0 noVersion
 
 -- till t of a sound store, which begins at a word, holds a version
 pub record Holds (pool table : List ℕ) (t at : ℕ) : Type 0 where
@@ -27,14 +28,14 @@ pub record Holds (pool table : List ℕ) (t at : ℕ) : Type 0 where
 -- the oldest version's length, and its pointer words at the front of others
 pub record Copied (pool table : List ℕ) (t n : ℕ) (ws : List ℕ) : Type 0 where
   pub bytes : n ≡ oldestIn pool table t .length
-  pub words : take (partsFor 64 n) ws ≡ map pointerWord (oldestIn pool table t .pointers)
-  pub room : partsFor 64 n ≤ length ws
+  pub words : take (partsFor (shapeOf table .measures .blockBytes) n) ws ≡ map pointerWord (oldestIn pool table t .pointers)
+  pub room : partsFor (shapeOf table .measures .blockBytes) n ≤ length ws
 
 -- pointers have let go of their blocks
 abbrev pub released : List ℕ → List ℕ → List Pointer → State
 released pool table ps = record {
   tills = stateIn (shapeOf table) pool table .tills;
-  shelf = sweep baseMeasures (release (stateIn (shapeOf table) pool table .shelf) ps);
+  shelf = sweep (shapeOf table .measures) (release (stateIn (shapeOf table) pool table .shelf) ps);
 }
 
 -- the buffers are those of a state

@@ -1,2 +1,4 @@
 pub mod Read
 pub mod Lowers
+pub mod Inside
+pub mod Along

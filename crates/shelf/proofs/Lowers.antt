@@ -12,6 +12,7 @@ use Rattle.lists.proofs.Masks.{mask-same}
 use Rattle.lists.proofs.Rows.{getD-rows, set-rows}
 use Rattle.lists.proofs.Sets.{map-set, set-append-add}
 use Rattle.lists.proofs.Slices.{drop-next, drop-end}
+use Rattle.model.specs.Measures.{recordWords}
 use Rattle.model.specs.Records.{isHeld, isRemoved, cellOf, countOf}
 use Rattle.model.specs.State.{Position, nullPosition, held, removed, Segment, Pointer, direct}
 use Rattle.model.specs.Sweep.{oneLess, lower, lowerAll}
@@ -19,7 +20,7 @@ use Rattle.model.specs.Table.{recordToWords, wordToPointer, pointerOf, recordsI
 use Rattle.laws.proofs.Counts.{less-cell}
 use Rattle.shelf.specs.Fits.{Fits}
 use Rattle.shelf.specs.Stored.{RecordsTold}
-use Rattle.shelf.proofs.Read.{records-length, eight-at, wide-of, records-read}
+use Rattle.shelf.proofs.Read.{row-inside, count-at, wide-of, records-read}
 
 less-held : (p : Position) → isHeld (oneLess p) ≡ isHeld p
 less-held nullPosition = refl
@@ -36,18 +37,18 @@ less-count nullPosition = refl
 less-count (held c n) = refl
 less-count removed = refl
 
-count-word : (seg : Segment) → length seg ≡ 8 → (i : ℕ) → getD (recordToWords seg) (11 + i) 0 ≡ countOf (getD seg i nullPosition)
+count-word : (n : ℕ) (seg : Segment) → length seg ≡ n → (i : ℕ) → getD (recordToWords seg) (3 + n + i) 0 ≡ countOf (getD seg i nullPosition)
 unfolding recordToWords
-count-word seg h i =
-    let q : 11 + i ≡ suc (suc (suc (length (map cellOf seg) + i))) = omega (arith, length-map seg cellOf) in
+count-word n seg h i =
+    let q : 3 + n + i ≡ suc (suc (suc (length (map cellOf seg) + i))) = omega (arith, length-map seg cellOf) in
     rw q (getD-append-add (map cellOf seg) (map countOf seg) i 0 ∙ List·getD-map countOf seg i nullPosition)
 
-count-set : (seg : Segment) → length seg ≡ 8 → (i : ℕ)
-    → set (recordToWords seg) (11 + i) (pred (countOf (getD seg i nullPosition))) ≡ recordToWords (set seg i (oneLess (getD seg i nullPosition)))
+count-set : (n : ℕ) (seg : Segment) → length seg ≡ n → (i : ℕ)
+    → set (recordToWords seg) (3 + n + i) (pred (countOf (getD seg i nullPosition))) ≡ recordToWords (set seg i (oneLess (getD seg i nullPosition)))
 unfolding recordToWords
-count-set seg h i =
+count-set n seg h i =
     let p : Position = getD seg i nullPosition in
-    let q : 11 + i ≡ suc (suc (suc (length (map cellOf seg) + i))) = omega (arith, length-map seg cellOf) in
+    let q : 3 + n + i ≡ suc (suc (suc (length (map cellOf seg) + i))) = omega (arith, length-map seg cellOf) in
     rw (
       q,
       mask-same isHeld seg i nullPosition (oneLess p) (less-held p),
@@ -59,20 +60,20 @@ count-set seg h i =
     (ap (λ (l : List ℕ). maskOf isHeld seg ∷ maskOf isRemoved seg ∷ 0 ∷ l) (set-append-add (map cellOf seg) (map countOf seg) i (pred (countOf p))))
 
 -- the position of a direct pointer
-pub lower-word : (ws : List ℕ) (segs : List Segment) → RecordsTold ws segs → (k i : ℕ) → k * 19 + 19 ≤ length ws → i < 8
-    → RecordsTold (set ws (k * 19 + (11 + i)) (pred (getD ws (k * 19 + (11 + i)) 0))) (lower segs (direct k i))
+pub lower-word : (n : ℕ) (ws : List ℕ) (segs : List Segment) → RecordsTold n ws segs → (k i : ℕ) → k * recordWords n + recordWords n ≤ length ws → i < n
+    → (let at = k * recordWords n + (3 + n + i) in RecordsTold n (set ws at (pred (getD ws at 0))) (lower segs (direct k i)))
 unfolding lower
-lower-word ws segs r k i room hi =
-    let hk : k < length segs = omega (arith, records-length ws segs r) in
+lower-word n ws segs r k i room hi =
+    let hk : k < length segs = row-inside n ws segs r k room in
     let seg : Segment = getD segs k [] in
-    let h8 : length seg ≡ 8 = eight-at ws segs r k hk in
-    let w = wide-of segs (r .eights) in
-    let hj : 11 + i < 19 = omega arith in
-    let e : getD (rows recordToWords segs) (k * 19 + (11 + i)) 0 ≡ countOf (getD seg i nullPosition) =
-    getD-rows recordToWords 19 [] 0 segs w k (11 + i) hk hj ∙ count-word seg h8 i in
+    let hn : length seg ≡ n = count-at n ws segs r k hk in
+    let w = wide-of n segs (r .sized) in
+    let hj : 3 + n + i < recordWords n = omega arith in
+    let e : getD (rows recordToWords segs) (k * recordWords n + (3 + n + i)) 0 ≡ countOf (getD seg i nullPosition) =
+    getD-rows recordToWords (recordWords n) [] 0 segs w k (3 + n + i) hk hj ∙ count-word n seg hn i in
     record {
-      eights = each-set (λ (s : Segment). length s ≡ 8) segs k _ (r .eights) (length-set seg i _ ∙ h8);
-      words = rw (r .words, e) (set-rows recordToWords 19 [] segs w k (11 + i) (pred (countOf (getD seg i nullPosition))) _ hk hj (count-set seg h8 i));
+      sized = each-set (λ (s : Segment). length s ≡ n) segs k _ (r .sized) (length-set seg i _ ∙ hn);
+      words = rw (r .words, e) (set-rows recordToWords (recordWords n) [] segs w k (3 + n + i) (pred (countOf (getD seg i nullPosition))) _ hk hj (count-set n seg hn i));
     }
 
 -- the pointer of a word, by its kind
@@ -80,15 +81,16 @@ pub direct-word : (w : ℕ) → w / 16777216 ≡ 1 → wordToPointer w ≡ direc
 unfolding wordToPointer pointerOf
 direct-word w e = rw e
 
-pub fits-direct : (n w : ℕ) → w / 16777216 ≡ 1 → Fits n (wordToPointer w) → (w % 16777216 / 16 * 19 + 19 ≤ n) × (w % 16777216 % 16 < 8)
+pub fits-direct : (n l w : ℕ) → w / 16777216 ≡ 1 → Fits n l (wordToPointer w)
+    → (w % 16777216 / 16 * recordWords n + recordWords n ≤ l) × (w % 16777216 % 16 < n)
 unfolding Fits
-fits-direct n w e f = subst (λ (p : Pointer). Fits n p) (direct-word w e) f
+fits-direct n l w e f = subst (λ (p : Pointer). Fits n l p) (direct-word w e) f
 
-pub lower-direct : (ws : List ℕ) (w : ℕ) (ys : List ℕ) → RecordsTold ws (recordsIn 8 ws) → w / 16777216 ≡ 1 → Fits (length ws) (wordToPointer w)
-    → (let at = w % 16777216 / 16 * 19 + (11 + w % 16777216 % 16) in ys ≡ set ws at (pred (getD ws at 0))) → RecordsTold ys (lower (recordsIn 8 ws) (wordToPointer w))
-lower-direct ws w ys r e f q =
-    let (room, hi) = fits-direct (length ws) w e f in
-    rw (q, direct-word w e) (lower-word ws (recordsIn 8 ws) r (w % 16777216 / 16) (w % 16777216 % 16) room hi)
+pub lower-direct : (n : ℕ) (ws : List ℕ) (w : ℕ) (ys : List ℕ) → RecordsTold n ws (recordsIn n ws) → w / 16777216 ≡ 1 → Fits n (length ws) (wordToPointer w)
+    → (let at = w % 16777216 / 16 * recordWords n + (3 + n + w % 16777216 % 16) in ys ≡ set ws at (pred (getD ws at 0))) → RecordsTold n ys (lower (recordsIn n ws) (wordToPointer w))
+lower-direct n ws w ys r e f q =
+    let (room, hi) = fits-direct n (length ws) w e f in
+    rw (q, direct-word w e) (lower-word n ws (recordsIn n ws) r (w % 16777216 / 16) (w % 16777216 % 16) room hi)
 
 pub lower-other : (segs : List Segment) (w : ℕ) → (w / 16777216 ≡ 1 → ⊥) → lower segs (wordToPointer w) ≡ segs
 unfolding lower wordToPointer pointerOf
@@ -102,31 +104,31 @@ lower-other segs w f = go (w / 16777216) f
 
 -- ---- a list of pointers
 
-pub record Lowering (words₀ pointers words : List ℕ) (i : ℕ) : Type 0 where
+pub record Lowering (n : ℕ) (words₀ pointers words : List ℕ) (i : ℕ) : Type 0 where
   pub inside : i ≤ length pointers
   pub long : length words ≡ length words₀
-  pub told : RecordsTold words (recordsIn 8 words)
-  pub rest : lowerAll (recordsIn 8 words) (map wordToPointer (drop i pointers)) ≡ lowerAll (recordsIn 8 words₀) (map wordToPointer pointers)
+  pub told : RecordsTold n words (recordsIn n words)
+  pub rest : lowerAll (recordsIn n words) (map wordToPointer (drop i pointers)) ≡ lowerAll (recordsIn n words₀) (map wordToPointer pointers)
 
-pub lowering-next : (words₀ pointers words : List ℕ) (i : ℕ) → i < length pointers → Lowering words₀ pointers words i
-    → (ys : List ℕ) → length ys ≡ length words → RecordsTold ys (lower (recordsIn 8 words) (wordToPointer (getD pointers i 0))) → Lowering words₀ pointers ys (i + 1)
+pub lowering-next : (n : ℕ) (words₀ pointers words : List ℕ) (i : ℕ) → i < length pointers → Lowering n words₀ pointers words i
+    → (ys : List ℕ) → length ys ≡ length words → RecordsTold n ys (lower (recordsIn n words) (wordToPointer (getD pointers i 0))) → Lowering n words₀ pointers ys (i + 1)
 unfolding lowerAll
-lowering-next words₀ pointers words i h v ys l r =
+lowering-next n words₀ pointers words i h v ys l r =
     let p : Pointer = wordToPointer (getD pointers i 0) in
-    let e : recordsIn 8 ys ≡ lower (recordsIn 8 words) p = records-read ys (lower (recordsIn 8 words) p) r in
+    let e : recordsIn n ys ≡ lower (recordsIn n words) p = records-read n ys (lower (recordsIn n words) p) r in
     record {
       inside = omega arith;
       long = l ∙ v .long;
-      told = subst (λ (s : List Segment). RecordsTold ys s) (sym e) r;
+      told = subst (λ (s : List Segment). RecordsTold n ys s) (sym e) r;
       rest =
           ap (λ (s : List Segment). lowerAll s (map wordToPointer (drop (i + 1) pointers))) e
-          ∙ ap (λ (l : List ℕ). lowerAll (recordsIn 8 words) (map wordToPointer l)) (sym (drop-next pointers i 0 h)) ∙ v .rest;
+          ∙ ap (λ (l : List ℕ). lowerAll (recordsIn n words) (map wordToPointer l)) (sym (drop-next pointers i 0 h)) ∙ v .rest;
     }
 
-pub lowering-all : (words₀ pointers words : List ℕ) (i : ℕ) → Lowering words₀ pointers words i → length pointers ≤ i
-    → RecordsTold words (lowerAll (recordsIn 8 words₀) (map wordToPointer pointers))
+pub lowering-all : (n : ℕ) (words₀ pointers words : List ℕ) (i : ℕ) → Lowering n words₀ pointers words i → length pointers ≤ i
+    → RecordsTold n words (lowerAll (recordsIn n words₀) (map wordToPointer pointers))
 unfolding lowerAll
-lowering-all words₀ pointers words i v h =
-    let e : recordsIn 8 words ≡ lowerAll (recordsIn 8 words₀) (map wordToPointer pointers) =
-    ap (λ (l : List ℕ). lowerAll (recordsIn 8 words) (map wordToPointer l)) (sym (drop-end pointers i h)) ∙ v .rest in
-    subst (λ (s : List Segment). RecordsTold words s) e (v .told)
+lowering-all n words₀ pointers words i v h =
+    let e : recordsIn n words ≡ lowerAll (recordsIn n words₀) (map wordToPointer pointers) =
+    ap (λ (l : List ℕ). lowerAll (recordsIn n words) (map wordToPointer l)) (sym (drop-end pointers i h)) ∙ v .rest in
+    subst (λ (s : List Segment). RecordsTold n words s) e (v .told)

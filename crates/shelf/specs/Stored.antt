@@ -1,34 +1,46 @@
 -- When a pool and the records' words are those of a shelf.
 use mathlib.Core.Path.{_≡_}
-use mathlib.Core.List.{List}
-use Prim.Native.Nat.{ℕ, _≤_}
-use lib.ListN.{length}
+use mathlib.Core.Bool.{true}
+use mathlib.Core.List.{List, []}
+use Prim.Native.Nat.{ℕ, _*_, _≤_, _<_}
+use lib.ListN.{length, getD}
 use Rattle.lists.specs.Each.{Each}
 use Rattle.lists.specs.Rows.{joined, rows}
-use Rattle.model.specs.Measures.{baseMeasures}
-use Rattle.model.specs.State.{Block, Segment, Shelf}
+use Rattle.model.specs.Measures.{Measures, recordWords}
+use Rattle.model.specs.Records.{isHeld, countOf}
+use Rattle.model.specs.State.{Block, Position, nullPosition, Segment, Shelf}
 use Rattle.model.specs.Table.{recordToWords, shelfIn}
 use Rattle.laws.proofs.Sweep.{Exact}
+use Rattle.laws.specs.Ranges.{Measured}
 
--- the words are those of the records, which have eight positions each
-pub record RecordsTold (ws : List ℕ) (segs : List Segment) : Type 0 where
-  pub eights : Each (λ (s : Segment). length s ≡ 8) segs
+-- the words are those of the records, which have `n` positions each
+pub record RecordsTold (n : ℕ) (ws : List ℕ) (segs : List Segment) : Type 0 where
+  pub sized : Each (λ (s : Segment). length s ≡ n) segs
   pub words : ws ≡ rows recordToWords segs
 
--- the bytes are those of the cells, which have 64 bytes each
-pub record CellsTold (pool : List ℕ) (cells : List Block) : Type 0 where
-  pub blocks : Each (λ (b : Block). length b ≡ 64) cells
-  pub bytes : pool ≡ joined cells
+-- the bytes are those of the cells, which have so many bytes each
+pub record CellsTold (bytes : ℕ) (pool : List ℕ) (cells : List Block) : Type 0 where
+  pub blocks : Each (λ (b : Block). length b ≡ bytes) cells
+  pub joins : pool ≡ joined cells
 
 -- the pool and the words are those of the shelf
-pub record Told (pool words : List ℕ) (shelf : Shelf) : Type 0 where
-  pub cells : CellsTold pool (shelf .cells)
-  pub records : RecordsTold words (shelf .records)
+pub record Told (m : Measures) (pool words : List ℕ) (shelf : Shelf) : Type 0 where
+  pub cells : CellsTold (m .blockBytes) pool (shelf .cells)
+  pub records : RecordsTold (m .segmentBlocks) words (shelf .records)
 
 -- they are those of the shelf that they are read as; its cells are named exactly, and are 1 to 32,768, beside at most 4,096 records
-pub record Stored (pool words : List ℕ) : Type 0 where
-  pub told : Told pool words (shelfIn baseMeasures pool words)
-  pub exact : Exact (shelfIn baseMeasures pool words)
-  pub some : 64 ≤ length pool
-  pub few : length pool ≤ 2097152
-  pub short : length words ≤ 77824
+pub record Stored (m : Measures) (pool words : List ℕ) : Type 0 where
+  pub measured : Measured m
+  pub told : Told m pool words (shelfIn m pool words)
+  pub exact : Exact (shelfIn m pool words)
+  pub some : m .blockBytes ≤ length pool
+  pub few : length pool ≤ 32768 * m .blockBytes
+  pub short : length words ≤ 4096 * recordWords (m .segmentBlocks)
+
+abbrev pub positionIn : List Segment → ℕ → ℕ → Position
+positionIn segs k i = getD (getD segs k []) i nullPosition
+
+-- every held position has a count of at least 1, and no count reaches the bound
+pub record Countable (bound : ℕ) (segs : List Segment) : Type 0 where
+  pub some : (k i : ℕ) → isHeld (positionIn segs k i) ≡ true → 0 < countOf (positionIn segs k i)
+  pub below : (k i : ℕ) → countOf (positionIn segs k i) < bound

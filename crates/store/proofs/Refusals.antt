@@ -8,7 +8,8 @@ use borrow.Author.Tests.{not-true, not-false}
 use Rattle.lists.specs.Lists.{isSome}
 use Rattle.model.specs.Sound.{storeOf}
 use Rattle.model.specs.Calls.{BackupAnswer, backupIn, backupOf, ListingAnswer, RestoreAnswer, listingRefusal, listingIn, listingOf, restoreRefusal, restoreIn, restoreOf, RetireAnswer, retireIn, retireOf, TallyAnswer, tallyIn, tallyOf}
-use Rattle.laws.proofs.Stores.{Sound, sound-if, none-if}
+use Rattle.laws.specs.Stores.{Sound}
+use Rattle.laws.proofs.Stores.{sound-if, none-if}
 
 module _ (pool table : List ℕ) (r : Bool) (e : r ≡ isSome (storeOf pool table)) where
   pub is-sound : not r ≡ false → Sound pool table

@@ -1,7 +1,7 @@
 // The calls, on lent buffers. No call has a premise: what is no sound store is refused with 10.
 ghost use mathlib.Core.Path.{_≡_};
 ghost use Rattle.model.specs.Calls.{tableLengthOf, layoutOf, backupOf, restoreOf, retireOf, listingOf, tallyOf};
-ghost use Rattle.layout.specs.Layout.{capacities, lengthAnswer, layoutAnswer};
+ghost use Rattle.layout.specs.Layout.{shape, lengthAnswer, layoutAnswer};
 ghost use Rattle.backup.specs.Call.{backedUpAnswer};
 ghost use Rattle.tills.specs.Answers.{listingAnswer};
 ghost use Rattle.restore.specs.Answers.{restoreAnswer};
@@ -16,13 +16,13 @@ use tally::Tally;
 use tills::Listing;
 
 pub fn table_length(c: Capacities) -> TableLength
-    ensures { λ r. ⌜ lengthAnswer r ≡ tableLengthOf (capacities c) ⌝ }
+    ensures { λ r. ⌜ lengthAnswer r ≡ tableLengthOf (shape c) ⌝ }
 {
     layout::table_length(c)
 }
 
 pub fn lay_out(pool: &mut [u8], table: &mut [u32], c: Capacities) -> u32
-    ensures { λ r. ⌜ layoutAnswer r (now (pool .exit)) (now (table .exit)) ≡ layoutOf (capacities c) (now (pool .entry)) (now (table .entry)) ⌝ }
+    ensures { λ r. ⌜ layoutAnswer r (now (pool .exit)) (now (table .exit)) ≡ layoutOf (shape c) (now (pool .entry)) (now (table .entry)) ⌝ }
 {
     layout::lay_out(pool, table, c)
 }

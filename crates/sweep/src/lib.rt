@@ -5,40 +5,39 @@ ghost use mathlib.Core.List.{map};
 ghost use Prim.Native.Nat.{ℕ, _*_, _≤_, _<_};
 ghost use lib.ListN.{length, getD, replicate};
 ghost use Rattle.lists.specs.Marks.{marked};
-ghost use Rattle.model.specs.Measures.{baseMeasures};
+ghost use Rattle.numbers.specs.Measures.{measuresOf};
 ghost use Rattle.model.specs.Records.{namedCells};
 ghost use Rattle.model.specs.Table.{wordToPointer, recordsIn, shelfIn};
 ghost use Rattle.model.specs.Sweep.{release, sweep};
 ghost use Rattle.shelf.specs.Stored.{Told, Stored};
 ghost use Rattle.shelf.specs.Fits.{Fits};
 ghost use Rattle.kept.specs.Kept.{Coded, Kept, NamedIn};
-use numbers::Block;
+use numbers::Measures;
 use numbers::RecordNumber;
-use records::Record;
 
 // All records, with the occupied cells marked.
-pub fn sweep_marked(pool: &mut [u8], words: &mut [u32], occupied: &mut [bool])
-    requires { ⌜ Kept (now pool) (now words) (now occupied) ⌝ }
-    ensures { λ _. ⌜ Coded (now (pool .exit)) (now (words .exit)) (now (occupied .exit)) (sweep baseMeasures (shelfIn baseMeasures (now (pool .entry)) (now (words .entry)))) ⌝ }
+pub fn sweep_marked(pool: &mut [u8], words: &mut [u32], occupied: &mut [bool], m: Measures)
+    requires { ⌜ Kept (measuresOf m) (now pool) (now words) (now occupied) ⌝ }
+    ensures { λ _. ⌜ Coded (measuresOf m) (now (pool .exit)) (now (words .exit)) (now (occupied .exit)) (sweep (measuresOf m) (shelfIn (measuresOf m) (now (pool .entry)) (now (words .entry)))) ⌝ }
 {
-    let n = words.len() / Record::WORDS;
+    let n = numbers::rows(words.len(), m.blocks);
     let mut k: usize = 0;
     while k < n {
-        removal::sweep_record(pool, words, occupied, RecordNumber(k as u32));
+        removal::sweep_record(pool, words, occupied, RecordNumber(k as u32), m);
         k = k + 1;
     }
 }
 
 // The cells that the records name are marked.
-pub fn mark_named(words: &[u32], occupied: &mut [bool])
-    requires { ⌜ NamedIn (now words) (length (now occupied)) ⌝ }
+pub fn mark_named(words: &[u32], occupied: &mut [bool], n: usize)
+    requires { ⌜ NamedIn n (now words) (length (now occupied)) ⌝ }
     requires { ⌜ length (now occupied) ≤ 32768 ⌝ }
-    ensures { λ _. ⌜ now (occupied .exit) ≡ marked (namedCells (recordsIn 8 (now (words .entry)))) (now (occupied .entry)) ⌝ }
+    ensures { λ _. ⌜ now (occupied .exit) ≡ marked (namedCells (recordsIn n (now (words .entry)))) (now (occupied .entry)) ⌝ }
 {
-    let n = words.len() / Record::WORDS;
+    let count = numbers::rows(words.len(), n);
     let mut k: usize = 0;
-    while k < n {
-        let old = records::load(words, RecordNumber(k as u32));
+    while k < count {
+        let old = records::load(words, RecordNumber(k as u32), n);
         let cells = old.cells;
         pool::take_marked(occupied, old.held, cells);
         k = k + 1;
@@ -46,30 +45,30 @@ pub fn mark_named(words: &[u32], occupied: &mut [bool])
 }
 
 // The sweep, with room for the marks.
-pub fn sweep_with(pool: &mut [u8], words: &mut [u32], occupied: &mut [bool])
-    requires { ⌜ Stored (now pool) (now words) ⌝ }
-    requires { ⌜ (now occupied ≡ replicate (length (now occupied)) false) × (length (now occupied) * 64 ≡ length (now pool)) ⌝ }
-    ensures { λ _. ⌜ Told (now (pool .exit)) (now (words .exit)) (sweep baseMeasures (shelfIn baseMeasures (now (pool .entry)) (now (words .entry)))) ⌝ }
+pub fn sweep_with(pool: &mut [u8], words: &mut [u32], occupied: &mut [bool], m: Measures)
+    requires { ⌜ Stored (measuresOf m) (now pool) (now words) ⌝ }
+    requires { ⌜ (now occupied ≡ replicate (length (now occupied)) false) × (length (now occupied) * m .bytes ≡ length (now pool)) ⌝ }
+    ensures { λ _. ⌜ Told (measuresOf m) (now (pool .exit)) (now (words .exit)) (sweep (measuresOf m) (shelfIn (measuresOf m) (now (pool .entry)) (now (words .entry)))) ⌝ }
 {
-    mark_named(words, occupied);
-    sweep_marked(pool, words, occupied);
+    mark_named(words, occupied, m.blocks);
+    sweep_marked(pool, words, occupied, m);
 }
 
-pub fn sweep_all(pool: &mut [u8], words: &mut [u32])
-    requires { ⌜ Stored (now pool) (now words) ⌝ }
-    ensures { λ _. ⌜ Told (now (pool .exit)) (now (words .exit)) (sweep baseMeasures (shelfIn baseMeasures (now (pool .entry)) (now (words .entry)))) ⌝ }
+pub fn sweep_all(pool: &mut [u8], words: &mut [u32], m: Measures)
+    requires { ⌜ Stored (measuresOf m) (now pool) (now words) ⌝ }
+    ensures { λ _. ⌜ Told (measuresOf m) (now (pool .exit)) (now (words .exit)) (sweep (measuresOf m) (shelfIn (measuresOf m) (now (pool .entry)) (now (words .entry)))) ⌝ }
 {
     let mut occupied = [false; 32768];
-    let n = pool.len() / Block::BYTES;
-    sweep_with(pool, words, &mut occupied[..n]);
+    let n = numbers::parts(pool.len(), m.bytes);
+    sweep_with(pool, words, &mut occupied[..n], m);
 }
 
 // Pointers let go of their blocks.
-pub fn let_go(pool: &mut [u8], words: &mut [u32], pointers: &[u32])
-    requires { ⌜ Stored (now pool) (now words) ⌝ }
-    requires { ⌜ ((i : ℕ) → i < length (now pointers) → Fits (length (now words)) (wordToPointer (getD (now pointers) i 0))) ⌝ }
-    ensures { λ _. ⌜ Told (now (pool .exit)) (now (words .exit)) (sweep baseMeasures (release (shelfIn baseMeasures (now (pool .entry)) (now (words .entry))) (map wordToPointer (now (pointers .entry))))) ⌝ }
+pub fn let_go(pool: &mut [u8], words: &mut [u32], pointers: &[u32], m: Measures)
+    requires { ⌜ Stored (measuresOf m) (now pool) (now words) ⌝ }
+    requires { ⌜ ((i : ℕ) → i < length (now pointers) → Fits (m .blocks) (length (now words)) (wordToPointer (getD (now pointers) i 0))) ⌝ }
+    ensures { λ _. ⌜ Told (measuresOf m) (now (pool .exit)) (now (words .exit)) (sweep (measuresOf m) (release (shelfIn (measuresOf m) (now (pool .entry)) (now (words .entry))) (map wordToPointer (now (pointers .entry))))) ⌝ }
 {
-    release::release(words, pointers);
-    sweep_all(pool, words);
+    release::release(words, pointers, m.blocks);
+    sweep_all(pool, words, m);
 }

@@ -3,34 +3,34 @@ use mathlib.Core.Path.{_≡_, refl, sym, ap, _∙_, subst}
 use mathlib.Core.Bool.{cond, not}
 use mathlib.Core.List.{List, [], _∷_, _++_, map}
 use Prim.Native.Nat.{ℕ, zero, suc, _+_, _*_, _-_, _/_, _≤_, _<_}
-use native.Mathlib.Nat.{zero-add}
+use native.Mathlib.Nat.{zero-add, zero-mul, suc-mul, mul-le-mul, mul-le-mul-right}
 use native.Mathlib.Omega.{arith}
 use lib.ListN.{length, getD, take, drop, length-append, length-map}
 use lib.Count.{ones}
-use lib.Seq.{drop-at}
+use lib.Seq.{drop-at, drop-drop}
 use Rattle.lists.specs.Lists.{every, count, total}
 use Rattle.lists.specs.Each.{Each}
 use Rattle.lists.specs.Masks.{maskOf}
 use Rattle.lists.specs.Rows.{joined, rows}
+use Rattle.lists.proofs.Answers.{part-is}
 use Rattle.lists.proofs.Counts.{count-most, sum-map}
 use Rattle.lists.proofs.Masks.{ones-mask}
+use Rattle.lists.proofs.Places.{rows-few}
 use Rattle.lists.proofs.Slices.{drop-next, drop-end, tail-all}
-use Rattle.model.specs.Measures.{tableWords}
+use Rattle.model.specs.Measures.{Measures, recordWords, tableWords}
 use Rattle.model.specs.State.{nullPosition, held, removed, Segment}
 use Rattle.model.specs.Records.{isHeld, isRemoved, isFree, cellOf, cellsOf, namedCells, countOf}
 use Rattle.model.specs.Table.{recordToWords, segmentIn, recordsIn, shapeOf, stateIn, shelfIn, recordsPart}
 use Rattle.model.specs.Calls.{tallyIn, tallyOf}
 use Rattle.laws.proofs.Bounds.{counts-most}
-use Rattle.laws.proofs.Fits.{base-fit}
 use Rattle.laws.proofs.Measures.{sizes}
-use Rattle.laws.proofs.RoundTrip.{segment-back, records-part}
-use Rattle.laws.proofs.Stores.{recordsFrom, Sound, header, found, fits, long}
+use Rattle.laws.proofs.RoundTrip.{length-record, segment-back, records-part}
+use Rattle.laws.specs.Stores.{recordsFrom, Sound}
+use Rattle.laws.proofs.Stores.{header, found, fit, fits, long}
 use Rattle.shelf.specs.Stored.{RecordsTold}
-use Rattle.shelf.proofs.Read.{records-length, records-count, eight-at, row-at, room-at}
+use Rattle.shelf.proofs.Read.{records-length, records-count, count-at, row-at, room-at}
 use Rattle.tally.specs.declared.Tally.{Tally}
 use Rattle.tally.specs.Answers.{sum, inUse, Row, Counts, Rows, tallied, Going}
-
--- ---- sums
 
 -- ---- one record
 
@@ -66,34 +66,30 @@ use-free (removed ∷ seg) = odd (2 * maskOf isHeld seg) (2 * maskOf isRemoved s
     odd zero r = let e : 1 + r ≡ suc r = omega arith in ap (inUse 0) e
     odd (suc h) r = let e : 0 + suc h ≡ suc h = omega arith in ap (λ (x : ℕ). inUse x (1 + r)) e
 
-module _ (row : List ℕ) (h : Row row) where
+module _ (n : ℕ) (row : List ℕ) (h : Row n row) where
   abbrev seg : Segment
-  seg = segmentIn 8 row
+  seg = segmentIn n row
 
-  pub row-long : length row ≡ 19
+  pub row-long : length row ≡ recordWords n
+  row-long = ap length (h .words) ∙ length-record n seg (h .sized)
+
+  row-counts : drop (3 + n) row ≡ map countOf seg
   unfolding recordToWords
-  row-long =
-      let n : length (map cellOf seg ++ map countOf seg) ≡ 16 = length-append (map cellOf seg) (map countOf seg) ∙ omega (arith, length-map seg cellOf, length-map seg countOf, h .eight) in
-      let m : length (recordToWords seg) ≡ 19 = omega (arith, n) in
-      ap length (h .words) ∙ m
+  row-counts = sym (drop-drop n 3 row) ∙ ap (λ (ws : List ℕ). drop n (drop 3 ws)) (h .words) ∙ drop-at (map cellOf seg) (map countOf seg) n (length-map seg cellOf ∙ h .sized)
 
-  row-counts : drop 11 row ≡ map countOf seg
-  unfolding recordToWords
-  row-counts = ap (drop 11) (h .words) ∙ drop-at (map cellOf seg) (map countOf seg) 8 (length-map seg cellOf ∙ h .eight)
+  counts-part : take (length row - (3 + n)) (drop (3 + n) row) ≡ map countOf seg
+  counts-part = tail-all row (3 + n) ∙ row-counts
 
-  counts-part : take (length row - 11) (drop 11 row) ≡ map countOf seg
-  counts-part = tail-all row 11 ∙ row-counts
-
-  pub counts-sum : sum (take (length row - 11) (drop 11 row)) ≡ total countOf seg
+  pub counts-sum : sum (take (length row - (3 + n)) (drop (3 + n) row)) ≡ total countOf seg
   counts-sum = ap sum counts-part ∙ sum-map countOf seg
 
-  pub counts-few : sum (take (length row - 11) (drop 11 row)) ≤ 1048576
+  pub counts-few : sum (take (length row - (3 + n)) (drop (3 + n) row)) ≤ 1048576
   counts-few = omega (arith, counts-sum, h .few)
 
-  pub row-counted : (r n : ℕ) → r ≡ inUse (getD row 0 0) (getD row 1 0) → n ≡ sum (take (length row - 11) (drop 11 row))
-      → Counts seg (record { refusal = 0; cells = ones (getD row 0 0); records = r; counts = n })
+  pub row-counted : (r k : ℕ) → r ≡ inUse (getD row 0 0) (getD row 1 0) → k ≡ sum (take (length row - (3 + n)) (drop (3 + n) row))
+      → Counts seg (record { refusal = 0; cells = ones (getD row 0 0); records = r; counts = k })
   unfolding recordToWords
-  row-counted r n e f = record {
+  row-counted r k e f = record {
     cells = ap (λ (ws : List ℕ). ones (getD ws 0 0)) (h .words) ∙ ones-mask isHeld seg ∙ held-cells seg;
     records = e ∙ ap (λ (ws : List ℕ). inUse (getD ws 0 0) (getD ws 1 0)) (h .words) ∙ use-free seg;
     counts = f ∙ counts-sum;
@@ -104,10 +100,10 @@ module _ (row : List ℕ) (h : Row row) where
 cells-most : (seg : Segment) → length (cellsOf seg) ≤ length seg
 cells-most seg = omega (arith, held-cells seg, count-most isHeld seg)
 
-named-most : (segs : List Segment) → Each (λ (s : Segment). length s ≡ 8) segs → length (namedCells segs) ≤ length segs * 8
+named-most : (n : ℕ) (segs : List Segment) → Each (λ (s : Segment). length s ≡ n) segs → length (namedCells segs) ≤ length segs * n
 unfolding namedCells joined
-named-most [] h = omega arith
-named-most (x ∷ xs) h = omega (arith, length-append (cellsOf x) (rows cellsOf xs), named-most xs (h .1), cells-most x, h .0)
+named-most n [] h = omega (arith, zero-mul n)
+named-most n (x ∷ xs) h = omega (arith, length-append (cellsOf x) (rows cellsOf xs), named-most n xs (h .1), cells-most x, h .0, suc-mul (length xs) n)
 
 named-next : (x : Segment) (xs : List Segment) → length (namedCells (x ∷ xs)) ≡ length (cellsOf x) + length (namedCells xs)
 unfolding namedCells joined
@@ -119,44 +115,48 @@ total-one k [] h = absurd (omega arith)
 total-one zero (x ∷ xs) h = omega arith
 total-one (suc k) (x ∷ xs) h = omega (arith, total-one k xs (omega (arith, h)))
 
-module _ (ws : List ℕ) (h : Rows ws) where
+-- rows of w words, as the code has their width
+module _ (n w : ℕ) (ew : w ≡ recordWords n) (most : n ≤ 16) (ws : List ℕ) (h : Rows n ws) where
   abbrev segs : List Segment
-  segs = recordsIn 8 ws
+  segs = recordsIn n ws
 
   pub going-start : Going segs 0 0 0 0
   going-start = record { inside = omega arith; cells = zero-add _; records = zero-add _; counts = zero-add _ }
 
-  count-is : length segs ≡ length ws / 19
-  count-is = records-count ws
+  count-is : length segs ≡ length ws / w
+  count-is = rw ew (records-count n ws)
 
   few-records : length segs ≤ 4096
-  few-records = omega (arith, records-length ws segs (h .told), h .short)
+  few-records = omega (arith, records-count n ws, rows-few (length ws) (recordWords n) (omega arith) 4096 (h .short))
 
-  module _ (k : ℕ) (l : k < length ws / 19) where
+  module _ (k : ℕ) (l : k < length ws / w) where
+    abbrev row : List ℕ
+    row = take (k * w + w - k * w) (drop (k * w) ws)
+
     inside : k < length segs
     inside = omega (arith, l, count-is)
 
-    pub row-room : k * 19 + 19 ≤ length ws
-    row-room = room-at ws segs (h .told) k inside
+    pub row-room : k * w + w ≤ length ws
+    row-room = rw ew (room-at n ws segs (h .told) k inside)
 
-    row-is : take (k * 19 + 19 - k * 19) (drop (k * 19) ws) ≡ recordToWords (getD segs k [])
-    row-is = let e : k * 19 + 19 - k * 19 ≡ 19 = omega arith in ap (λ (n : ℕ). take n (drop (k * 19) ws)) e ∙ row-at ws segs (h .told) k inside
+    row-is : row ≡ recordToWords (getD segs k [])
+    row-is = part-is ws (k * w) w ∙ rw ew (row-at n ws segs (h .told) k inside)
 
-    segment-is : segmentIn 8 (take (k * 19 + 19 - k * 19) (drop (k * 19) ws)) ≡ getD segs k []
-    segment-is = ap (segmentIn 8) row-is ∙ segment-back 8 (getD segs k []) (eight-at ws segs (h .told) k inside)
+    segment-is : segmentIn n row ≡ getD segs k []
+    segment-is = ap (segmentIn n) row-is ∙ segment-back n (getD segs k []) (count-at n ws segs (h .told) k inside)
 
-    pub row-at-k : Row (take (k * 19 + 19 - k * 19) (drop (k * 19) ws))
+    pub row-at-k : Row n row
     row-at-k = record {
-      eight = ap length segment-is ∙ eight-at ws segs (h .told) k inside;
+      sized = ap length segment-is ∙ count-at n ws segs (h .told) k inside;
       words = row-is ∙ ap recordToWords (sym segment-is);
       few = omega (arith, ap (total countOf) segment-is, total-one k segs inside, h .few);
     }
 
-    module _ (c r n : ℕ) (g : Going segs k c r n) (one : Tally) (o : Counts (segmentIn 8 (take (k * 19 + 19 - k * 19) (drop (k * 19) ws))) one) where
+    module _ (c r m : ℕ) (g : Going segs k c r m) (one : Tally) (o : Counts (segmentIn n row) one) where
       next : drop k segs ≡ getD segs k [] ∷ drop (k + 1) segs
       next = drop-next segs k [] inside
 
-      pub going-next : Going segs (k + 1) (c + one .cells) (r + one .records) (n + one .counts)
+      pub going-next : Going segs (k + 1) (c + one .cells) (r + one .records) (m + one .counts)
       unfolding count total
       going-next = record {
         inside = omega (arith, inside);
@@ -165,56 +165,70 @@ module _ (ws : List ℕ) (h : Rows ws) where
         counts = omega (arith, g .counts, ap (total (total countOf)) next, o .counts, ap (total countOf) segment-is);
       }
 
-      pub going-small : (c + one .cells ≤ 32768) × (r + one .records ≤ 4096) × (n + one .counts ≤ 1048576)
+      pub going-small : (c + one .cells ≤ 65536) × (r + one .records ≤ 4096) × (m + one .counts ≤ 1048576)
       going-small = (
-        omega (arith, going-next .cells, named-most segs (h .told .eights), few-records),
+        omega (arith, going-next .cells, named-most n segs (h .told .sized), mul-le-mul few-records most),
         omega (arith, going-next .records, count-most (λ (s : Segment). not (isFree s)) segs, few-records),
         omega (arith, going-next .counts, h .few),
       )
 
-  pub going-end : (k c r n : ℕ) → length ws / 19 ≤ k → Going segs k c r n → record { refusal = 0; cells = c; records = r; counts = n } ≡ tallied segs
+  pub going-end : (k c r m : ℕ) → length ws / w ≤ k → Going segs k c r m → record { refusal = 0; cells = c; records = r; counts = m } ≡ tallied segs
   unfolding count total namedCells joined
-  going-end k c r n l g =
+  going-end k c r m l g =
       let d : drop k segs ≡ [] = drop-end segs k (omega (arith, l, count-is)) in
       let a : c ≡ length (namedCells segs) = omega (arith, g .cells, ap (λ (xs : List Segment). length (namedCells xs)) d) in
       let b : r ≡ count (λ seg. not (isFree seg)) segs = omega (arith, g .records, ap (count (λ seg. not (isFree seg))) d) in
-      let e : n ≡ total (total countOf) segs = omega (arith, g .counts, ap (total (total countOf)) d) in
+      let e : m ≡ total (total countOf) segs = omega (arith, g .counts, ap (total (total countOf)) d) in
       λ i. record { refusal = 0; cells = a i; records = b i; counts = e i }
 
 -- ---- a sound store
 
 module _ {pool table : List ℕ} (h : Sound pool table) (at : ℕ) (e : at ≡ recordsFrom (shapeOf table)) where
+  abbrev positions : ℕ
+  positions = shapeOf table .measures .segmentBlocks
+
   pub at-in : (at ≤ length table) × (at ≤ 1051720)
   unfolding shapeOf tableWords
   at-in =
       let (a, b) = sizes (getD table 0 0) (getD table 1 0) (getD table 2 0) (header h .tills) (header h .versions) (header h .blocks) in
       (omega (arith, e, long h), omega (arith, e, b))
 
-  part-is : take (length table - at) (drop at table) ≡ drop (recordsFrom (shapeOf table)) table
-  part-is = tail-all table at ∙ ap (λ (k : ℕ). drop k table) e
+  lent-is : take (length table - at) (drop at table) ≡ drop (recordsFrom (shapeOf table)) table
+  lent-is = tail-all table at ∙ ap (λ (k : ℕ). drop k table) e
 
-  records-are : recordsIn 8 (take (length table - at) (drop at table)) ≡ stateIn (shapeOf table) pool table .shelf .records
-  unfolding stateIn shelfIn shapeOf
-  records-are = ap (recordsIn 8) part-is
+  records-are : recordsIn positions (take (length table - at) (drop at table)) ≡ stateIn (shapeOf table) pool table .shelf .records
+  unfolding stateIn shelfIn
+  records-are = ap (recordsIn positions) lent-is
 
-  told : RecordsTold (take (length table - at) (drop at table)) (stateIn (shapeOf table) pool table .shelf .records)
+  told : RecordsTold positions (take (length table - at) (drop at table)) (stateIn (shapeOf table) pool table .shelf .records)
   unfolding shapeOf
   told = record {
-    eights = fits h .records;
+    sized = fits h .records;
     words =
-        part-is
+        lent-is
         ∙ subst (λ (ws : List ℕ). recordsPart (shapeOf table .capacities) ws ≡ rows recordToWords (stateIn (shapeOf table) pool table .shelf .records)) (found h .words)
         (records-part (shapeOf table) (stateIn (shapeOf table) pool table) (fits h));
   }
 
-  pub rows-of : Rows (take (length table - at) (drop at table))
+  rows-of : Rows positions (take (length table - at) (drop at table))
   unfolding shapeOf
   rows-of = record {
-    told = subst (λ (xs : List Segment). RecordsTold (take (length table - at) (drop at table)) xs) (sym records-are) told;
-    short = omega (arith, records-length _ _ told, fits h .recordCount, header h .records);
-    few = omega (arith, ap (total (total countOf)) records-are, counts-most (shapeOf table) (base-fit (shapeOf table .capacities)) (stateIn (shapeOf table) pool table) (found h .sound));
+    told = subst (λ (xs : List Segment). RecordsTold positions (take (length table - at) (drop at table)) xs) (sym records-are) told;
+    short =
+        let w : ℕ = recordWords positions in
+        let m : getD table 3 0 * w ≤ 4096 * w = mul-le-mul-right w (header h .records) in
+        omega (arith, m, records-length positions _ _ told ∙ ap (λ (k : ℕ). k * w) (fits h .recordCount));
+    few = omega (arith, ap (total (total countOf)) records-are, counts-most (shapeOf table) (fit h) (stateIn (shapeOf table) pool table) (found h .sound));
   }
 
-  pub tally-is : tallied (recordsIn 8 (take (length table - at) (drop at table))) ≡ tallyOf pool table
+  tally-is : tallied (recordsIn positions (take (length table - at) (drop at table))) ≡ tallyOf pool table
   unfolding tallyOf tallyIn
   tally-is = ap tallied records-are ∙ sym (ap tallyIn (h .is))
+
+  -- with the measures as the code read them
+  module _ (m : Measures) (em : m ≡ shapeOf table .measures) where
+    pub rows-read : (m .segmentBlocks ≤ 16) × Rows (m .segmentBlocks) (take (length table - at) (drop at table))
+    rows-read = rw em (header h .measured .mostBlocks, rows-of)
+
+    pub tally-read : tallied (recordsIn (m .segmentBlocks) (take (length table - at) (drop at table))) ≡ tallyOf pool table
+    tally-read = rw em tally-is

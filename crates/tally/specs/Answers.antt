@@ -2,9 +2,10 @@
 use mathlib.Core.Path.{_≡_}
 use mathlib.Core.Bool.{cond, not}
 use mathlib.Core.List.{List}
-use Prim.Native.Nat.{ℕ, zero, suc, _+_, _≤_}
+use Prim.Native.Nat.{ℕ, zero, suc, _+_, _*_, _≤_}
 use lib.ListN.{length, drop}
 use Rattle.lists.specs.Lists.{count, total}
+use Rattle.model.specs.Measures.{recordWords}
 use Rattle.model.specs.State.{Segment}
 use Rattle.model.specs.Records.{isFree, cellsOf, namedCells, countOf}
 use Rattle.model.specs.Table.{recordToWords, segmentIn, recordsIn}
@@ -25,11 +26,11 @@ inUse zero zero = 0
 inUse zero (suc r) = 1
 inUse (suc h) r = 1
 
--- a row of words is a record's
-pub record Row (row : List ℕ) : Type 0 where
-  pub eight : length (segmentIn 8 row) ≡ 8
-  pub words : row ≡ recordToWords (segmentIn 8 row)
-  pub few : total countOf (segmentIn 8 row) ≤ 1048576
+-- a row of words is that of a record of n positions
+pub record Row (n : ℕ) (row : List ℕ) : Type 0 where
+  pub sized : length (segmentIn n row) ≡ n
+  pub words : row ≡ recordToWords (segmentIn n row)
+  pub few : total countOf (segmentIn n row) ≤ 1048576
 
 -- the tally of one record
 pub record Counts (seg : Segment) (r : Tally) : Type 0 where
@@ -38,10 +39,10 @@ pub record Counts (seg : Segment) (r : Tally) : Type 0 where
   pub counts : r .counts ≡ total countOf seg
 
 -- words are records', whose counts are not too large to add
-pub record Rows (ws : List ℕ) : Type 0 where
-  pub told : RecordsTold ws (recordsIn 8 ws)
-  pub short : length ws ≤ 77824
-  pub few : total (total countOf) (recordsIn 8 ws) ≤ 1048576
+pub record Rows (n : ℕ) (ws : List ℕ) : Type 0 where
+  pub told : RecordsTold n ws (recordsIn n ws)
+  pub short : length ws ≤ 4096 * recordWords n
+  pub few : total (total countOf) (recordsIn n ws) ≤ 1048576
 
 -- the tally of all records
 abbrev pub tallied : List Segment → calls.TallyAnswer

@@ -3,7 +3,7 @@ ghost use mathlib.Core.Path.{_≡_};
 ghost use Prim.Native.Nat.{_≤_};
 ghost use Rattle.model.specs.Table.{segmentIn, recordsIn};
 ghost use Rattle.model.specs.Calls.{tallyOf};
-ghost use Rattle.laws.proofs.Stores.{Sound};
+ghost use Rattle.laws.specs.Stores.{Sound};
 ghost use Rattle.tally.specs.Answers.{sum, inUse, Row, Counts, Rows, tallied, tallyAnswer};
 
 // Refusal 0 is an accepted call.
@@ -41,13 +41,14 @@ fn in_use(held: u32, removed: u32) -> u32
     0
 }
 
-// One record.
-fn tally_row(row: &[u32]) -> Tally
-    requires { ⌜ Row (now row) ⌝ }
-    ensures { λ r. ⌜ Counts (segmentIn 8 (now (row .entry))) r ⌝ }
+// One record, of n positions.
+fn tally_row(row: &[u32], n: usize) -> Tally
+    requires { ⌜ (n ≤ 16) × Row n (now row) ⌝ }
+    ensures { λ r. ⌜ Counts (segmentIn n (now (row .entry))) r ⌝ }
 {
     let records = in_use(row[0], row[1]);
-    let counts = add_all(&row[11..]);
+    let from = 3 + n;
+    let counts = add_all(&row[from..]);
     Tally {
         refusal: 0,
         cells: u32::count_ones(row[0]),
@@ -56,18 +57,20 @@ fn tally_row(row: &[u32]) -> Tally
     }
 }
 
-fn tally_rows(words: &[u32]) -> Tally
-    requires { ⌜ Rows (now words) ⌝ }
-    ensures { λ r. ⌜ tallyAnswer r ≡ tallied (recordsIn 8 (now (words .entry))) ⌝ }
+// All records.
+fn tally_rows(words: &[u32], n: usize) -> Tally
+    requires { ⌜ (n ≤ 16) × Rows n (now words) ⌝ }
+    ensures { λ r. ⌜ tallyAnswer r ≡ tallied (recordsIn n (now (words .entry))) ⌝ }
 {
-    let n = words.len() / 19;
+    let width = numbers::row_words(n);
+    let count = numbers::parts(words.len(), width);
     let mut cells: u32 = 0;
     let mut records: u32 = 0;
     let mut counts: u32 = 0;
     let mut k: usize = 0;
-    while k < n {
-        let at = k * 19;
-        let one = tally_row(&words[at..at + 19]);
+    while k < count {
+        let at = k * width;
+        let one = tally_row(&words[at..at + width], n);
         cells = cells + one.cells;
         records = records + one.records;
         counts = counts + one.counts;
@@ -85,6 +88,7 @@ pub fn tally_store(pool: &[u8], table: &[u32]) -> Tally
     requires { ⌜ Sound (now pool) (now table) ⌝ }
     ensures { λ r. ⌜ tallyAnswer r ≡ tallyOf (now (pool .entry)) (now (table .entry)) ⌝ }
 {
+    let m = layout::measures_in(table);
     let at = tills::records_at(table);
-    tally_rows(&table[at..])
+    tally_rows(&table[at..], m.blocks)
 }

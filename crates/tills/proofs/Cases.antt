@@ -9,7 +9,8 @@ use Rattle.model.specs.State.{Version, Till}
 use Rattle.model.specs.Table.{shapeOf, stateIn}
 use Rattle.model.specs.Calls.{ListingAnswer, tillOf, oldestNumber, newestNumber, listingRefusal, listTill, listingIn, listingOf}
 use Rattle.laws.proofs.Measures.{sizes}
-use Rattle.laws.proofs.Stores.{tillAt, Sound, Header, header}
+use Rattle.laws.specs.Stores.{tillAt, Sound, Header}
+use Rattle.laws.proofs.Stores.{header}
 use Rattle.laws.proofs.Tills.{From, till, given, last-most, numbers, in-words, last-word, held-word, oldest-from, newest-from}
 use Rattle.tills.specs.declared.Head.{Head}
 use Rattle.tills.specs.Answers.{tillSize, HeadOf}

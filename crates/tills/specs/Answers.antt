@@ -6,7 +6,7 @@ use lib.ListN.{length, getD}
 use Rattle.model.specs.Measures.{tillWords}
 use Rattle.model.specs.Table.{shapeOf, stateIn}
 use Rattle.model.specs.Calls as calls
-use Rattle.laws.proofs.Stores.{tillAt}
+use Rattle.laws.specs.Stores.{tillAt}
 use Rattle.tills.specs.declared.Head.{Head}
 use Rattle.tills.specs.declared.Listing.{Listing}
 

@@ -4,7 +4,7 @@ ghost use Prim.Native.Nat.{ℕ, _<_};
 ghost use lib.ListN.{length, getD};
 ghost use Rattle.model.specs.Table.{shapeOf};
 ghost use Rattle.model.specs.Calls.{listingOf};
-ghost use Rattle.laws.proofs.Stores.{recordsFrom, Sound, Header};
+ghost use Rattle.laws.specs.Stores.{recordsFrom, Sound, Header};
 ghost use Rattle.tills.specs.Answers.{tillSize, HeadOf, listingAnswer};
 
 // Refusal 0 is an accepted call.

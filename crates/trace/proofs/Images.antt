@@ -15,7 +15,7 @@ use Rattle.lists.proofs.Each.{each-counted}
 use Rattle.lists.proofs.Rows.{getD-rows, length-joined}
 use Rattle.lists.proofs.Slices.{drop-end, take-replicate}
 use Rattle.model.specs.Image.{zeroBlock}
-use Rattle.model.specs.Measures.{baseMeasures, partsFor}
+use Rattle.model.specs.Measures.{Measures, recordWords}
 use Rattle.model.specs.Records.{cellOf, countOf, cellAt, positionAt}
 use Rattle.model.specs.State.{Segment, nullPosition, Shelf, direct, indirect, nullPointer, Pointer, Version, Block}
 use Rattle.model.specs.Table.{recordToWords, shelfIn, recordsIn, wordToPointer, pointerOf, versionsIn, versionIn}
@@ -23,10 +23,11 @@ use Rattle.model.specs.Trace.{blockAt, endOf, tracedBlock, tracedBlocks, imageO
 use Rattle.shelf.specs.Fits.{Fits}
 use Rattle.shelf.specs.Stored.{RecordsTold, Stored}
 use Rattle.shelf.proofs.Lowers.{fits-direct, direct-word}
-use Rattle.shelf.proofs.Read.{records-length, wide-of, eight-at, cells-length, stored-records}
+use Rattle.shelf.proofs.Read.{row-inside, wide-of, count-at, cells-length, stored-records}
+use Rattle.lists.proofs.Places.{row-room}
 use Rattle.lists.proofs.Joins.{row-joined}
-use Rattle.kept.proofs.Named.{named-in, whole-cells}
-use Rattle.trace.specs.Versions.{Traceable, Direct, pointersAt}
+use Rattle.kept.proofs.Named.{named-in}
+use Rattle.trace.specs.Versions.{noVersion, Traceable, Direct, pointersAt}
 use Rattle.trace.proofs.Traces.{ends-fit, length-versions, version-row}
 
 -- ---- the cell of a position
@@ -37,143 +38,148 @@ cell-row seg i h =
     let q : 3 + i ≡ suc (suc (suc i)) = omega arith in
     rw q (List·getD-append (map cellOf seg) (map countOf seg) 0 i (omega (arith, length-map seg cellOf)) ∙ List·getD-map cellOf seg i nullPosition)
 
-pub cell-word : (ws : List ℕ) (segs : List Segment) → RecordsTold ws segs → (k i : ℕ) → k * 19 + 19 ≤ length ws → i < 8
-    → getD ws (k * 19 + (3 + i)) 0 ≡ cellOf (getD (getD segs k []) i nullPosition)
-cell-word ws segs r k i h l =
-    let hk : k < length segs = omega (arith, records-length ws segs r) in
-    ap (λ (x : List ℕ). getD x (k * 19 + (3 + i)) 0) (r .words)
-    ∙ getD-rows recordToWords 19 [] 0 segs (wide-of segs (r .eights)) k (3 + i) hk (omega arith)
-    ∙ cell-row (getD segs k []) i (omega (arith, eight-at ws segs r k hk))
+pub cell-word : (n : ℕ) (ws : List ℕ) (segs : List Segment) → RecordsTold n ws segs → (k i : ℕ) → k * recordWords n + recordWords n ≤ length ws → i < n
+    → getD ws (k * recordWords n + (3 + i)) 0 ≡ cellOf (getD (getD segs k []) i nullPosition)
+cell-word n ws segs r k i h l =
+    let hk : k < length segs = row-inside n ws segs r k h in
+    ap (λ (x : List ℕ). getD x (k * recordWords n + (3 + i)) 0) (r .words)
+    ∙ getD-rows recordToWords (recordWords n) [] 0 segs (wide-of n segs (r .sized)) k (3 + i) hk (omega arith)
+    ∙ cell-row (getD segs k []) i (omega (arith, count-at n ws segs r k hk))
 
 -- ---- the block of a pointer
 
-module _ (pool words : List ℕ) (s : Stored pool words) where
+module _ (m : Measures) (pool words : List ℕ) (s : Stored m pool words) where
+  abbrev size : ℕ
+  size = m .blockBytes
+
+  abbrev n : ℕ
+  n = m .segmentBlocks
+
   abbrev sh : Shelf
-  sh = shelfIn baseMeasures pool words
+  sh = shelfIn m pool words
 
-  pub cell-below : (k i : ℕ) → k * 19 + 19 ≤ length words → i < 8 → cellOf (getD (getD (recordsIn 8 words) k []) i nullPosition) < length pool / 64
-  cell-below k i h l =
-      let hk : k < length (recordsIn 8 words) = omega (arith, records-length words (recordsIn 8 words) (stored-records s)) in
-      let e : getD (map cellOf (getD (recordsIn 8 words) k [])) i 0 ≡ cellOf (getD (getD (recordsIn 8 words) k []) i nullPosition) =
-      List·getD-map cellOf (getD (recordsIn 8 words) k []) i nullPosition in
-      rw (← e) (named-in pool words s (length pool / 64) (whole-cells pool words s) .inside k i hk)
+  cell-there : (k i : ℕ) → k * recordWords n + recordWords n ≤ length words → i < n → cellOf (getD (getD (recordsIn n words) k []) i nullPosition) < length (sh .cells)
+  cell-there k i h l =
+      let hk : k < length (recordsIn n words) = row-inside n words (recordsIn n words) (stored-records m s) k h in
+      let e : getD (map cellOf (getD (recordsIn n words) k [])) i 0 ≡ cellOf (getD (getD (recordsIn n words) k []) i nullPosition) =
+      List·getD-map cellOf (getD (recordsIn n words) k []) i nullPosition in
+      rw (← e) (named-in m pool words s (length (sh .cells)) (sym (cells-length size pool (sh .cells) (s .told .cells))) .inside k i hk)
 
-  cell-bytes : (c : ℕ) → c < length pool / 64 → take 64 (drop (c * 64) pool) ≡ getD (sh .cells) c []
-  cell-bytes c h =
-      ap (λ (p : List ℕ). take 64 (drop (c * 64) p)) (s .told .cells .bytes)
-      ∙ row-joined 64 (sh .cells) (s .told .cells .blocks) c (omega (arith, cells-length pool (sh .cells) (s .told .cells)))
+  -- the cell lies in the pool
+  pub cell-room : (k i : ℕ) → k * recordWords n + recordWords n ≤ length words → i < n
+      → cellOf (getD (getD (recordsIn n words) k []) i nullPosition) * size + size ≤ length pool
+  cell-room k i h l = omega (arith, cells-length size pool (sh .cells) (s .told .cells), row-room _ _ size (cell-there k i h l))
+
+  cell-bytes : (c : ℕ) → c < length (sh .cells) → take size (drop (c * size) pool) ≡ getD (sh .cells) c []
+  cell-bytes c h = ap (λ (p : List ℕ). take size (drop (c * size) p)) (s .told .cells .joins) ∙ row-joined size (sh .cells) (s .told .cells .blocks) c h
 
   -- the block that a direct pointer leads to
-  block-direct : (k i : ℕ) → k * 19 + 19 ≤ length words → i < 8
-      → take 64 (drop (cellOf (getD (getD (recordsIn 8 words) k []) i nullPosition) * 64) pool) ≡ blockAt 64 sh (direct k i)
+  block-direct : (k i : ℕ) → k * recordWords n + recordWords n ≤ length words → i < n
+      → take size (drop (cellOf (getD (getD (recordsIn n words) k []) i nullPosition) * size) pool) ≡ blockAt size sh (direct k i)
   unfolding blockAt cellAt positionAt shelfIn
-  block-direct k i h l = cell-bytes (cellOf (getD (getD (recordsIn 8 words) k []) i nullPosition)) (cell-below k i h l)
+  block-direct k i h l = cell-bytes (cellOf (getD (getD (recordsIn n words) k []) i nullPosition)) (cell-there k i h l)
 
-  pub length-block : (p : Pointer) → Fits (length words) p → length (blockAt 64 sh p) ≡ 64
+  pub length-block : (p : Pointer) → Fits n (length words) p → length (blockAt size sh p) ≡ size
   unfolding Fits
-  length-block nullPointer f = unfold blockAt zeroBlock in length-replicate {A = ℕ} 64 0
+  length-block nullPointer f = unfold blockAt zeroBlock in length-replicate {A = ℕ} size 0
   length-block (direct k i) f =
       sym (ap length (block-direct k i (f .0) (f .1)))
-      ∙ length-take-le 64 (drop (cellOf (getD (getD (recordsIn 8 words) k []) i nullPosition) * 64) pool)
-      (omega (arith, cell-below k i (f .0) (f .1), length-drop (cellOf (getD (getD (recordsIn 8 words) k []) i nullPosition) * 64) pool))
-  length-block (indirect n) f = unfold blockAt zeroBlock in length-replicate {A = ℕ} 64 0
+      ∙ length-take-le size (drop (cellOf (getD (getD (recordsIn n words) k []) i nullPosition) * size) pool)
+      (omega (arith, cell-room k i (f .0) (f .1), length-drop (cellOf (getD (getD (recordsIn n words) k []) i nullPosition) * size) pool))
+  length-block (indirect b) f = unfold blockAt zeroBlock in length-replicate {A = ℕ} size 0
 
   -- a part filled from a cell
-  pub put-cell : (w m from c : ℕ) (part ys : List ℕ) → w / 16777216 ≡ 1 → Fits (length words) (wordToPointer w) → m ≡ length part → m ≤ 64
-      → c ≡ cellOf (getD (getD (recordsIn 8 words) (w % 16777216 / 16) []) (w % 16777216 % 16) nullPosition) → from ≡ c * 64
-      → (let t = midOf from ((from + m) - from) pool in ys ≡ t ++ drop (length t) part) → ys ≡ take m (blockAt 64 sh (wordToPointer w))
-  put-cell w m from c part ys e f lm h ec ef ey =
-      let (room, hi) = fits-direct (length words) w e f in
-      let below = cell-below (w % 16777216 / 16) (w % 16777216 % 16) room hi in
-      let k : (from + m) - from ≡ m = omega arith in
-      let inside : from + m ≤ length pool = omega (arith, below, ec) in
-      let lt : length (midOf from ((from + m) - from) pool) ≡ m = mid-len from (from + m) pool inside ∙ k in
+  pub put-cell : (w l from c : ℕ) (part ys : List ℕ) → w / 16777216 ≡ 1 → Fits n (length words) (wordToPointer w) → l ≡ length part → l ≤ size
+      → c ≡ cellOf (getD (getD (recordsIn n words) (w % 16777216 / 16) []) (w % 16777216 % 16) nullPosition) → from ≡ c * size
+      → (let t = midOf from ((from + l) - from) pool in ys ≡ t ++ drop (length t) part) → ys ≡ take l (blockAt size sh (wordToPointer w))
+  put-cell w l from c part ys e f lm h ec ef ey =
+      let (room, hi) = fits-direct n (length words) w e f in
+      let below = cell-room (w % 16777216 / 16) (w % 16777216 % 16) room hi in
+      let k : (from + l) - from ≡ l = omega arith in
+      let ec′ : c * size ≡ cellOf (getD (getD (recordsIn n words) (w % 16777216 / 16) []) (w % 16777216 % 16) nullPosition) * size = ap (λ (i : ℕ). i * size) ec in
+      let inside : from + l ≤ length pool = omega (arith, below, ec′) in
+      let lt : length (midOf from ((from + l) - from) pool) ≡ l = mid-len from (from + l) pool inside ∙ k in
       ey
-      ∙ rw (drop-end part (length (midOf from ((from + m) - from) pool)) (omega arith), append-nil, k)
-      (sym (take-take m 64 (drop from pool) h)
-      ∙ ap (λ (i : ℕ). take m (take 64 (drop i pool))) (ef ∙ ap (λ (i : ℕ). i * 64) ec)
-      ∙ ap (take m) (block-direct (w % 16777216 / 16) (w % 16777216 % 16) room hi ∙ ap (blockAt 64 sh) (sym (direct-word w e))))
+      ∙ rw (drop-end part (length (midOf from ((from + l) - from) pool)) (omega arith), append-nil, k)
+      (sym (take-take l size (drop from pool) h)
+      ∙ ap (λ (i : ℕ). take l (take size (drop i pool))) (ef ∙ ec′)
+      ∙ ap (take l) (block-direct (w % 16777216 / 16) (w % 16777216 % 16) room hi ∙ ap (blockAt size sh) (sym (direct-word w e))))
 
   -- a part cleared
-  zero-other : (w : ℕ) → (w / 16777216 ≡ 1 → ⊥) → blockAt 64 sh (wordToPointer w) ≡ zeroBlock 64
+  zero-other : (w : ℕ) → (w / 16777216 ≡ 1 → ⊥) → blockAt size sh (wordToPointer w) ≡ zeroBlock size
   unfolding blockAt wordToPointer pointerOf
   zero-other w f = go (w / 16777216) f
     where
-      go : (k : ℕ) → (k ≡ 1 → ⊥) → blockAt 64 sh (pointerOf k (w % 16777216)) ≡ zeroBlock 64
+      go : (k : ℕ) → (k ≡ 1 → ⊥) → blockAt size sh (pointerOf k (w % 16777216)) ≡ zeroBlock size
       go zero f = refl
       go (suc zero) f = absurd (f refl)
       go (suc (suc zero)) f = refl
       go (suc (suc (suc k))) f = refl
 
-  pub put-zero : (w : ℕ) (part ys : List ℕ) → (w / 16777216 ≡ 1 → ⊥) → length part ≤ 64 → ys ≡ replicate (length part) 0
-      → ys ≡ take (length part) (blockAt 64 sh (wordToPointer w))
+  pub put-zero : (w : ℕ) (part ys : List ℕ) → (w / 16777216 ≡ 1 → ⊥) → length part ≤ size → ys ≡ replicate (length part) 0
+      → ys ≡ take (length part) (blockAt size sh (wordToPointer w))
   unfolding zeroBlock
-  put-zero w part ys f h e = e ∙ sym (ap (take (length part)) (zero-other w f) ∙ take-replicate (length part) 64 0 h)
+  put-zero w part ys f h e = e ∙ sym (ap (take (length part)) (zero-other w f) ∙ take-replicate (length part) size 0 h)
 
   -- ---- the image
 
-  module _ (b h : ℕ) (slots : List ℕ) (ok : Traceable b h slots) (dir : Direct b h slots (length words)) where
+  module _ (b h : ℕ) (slots : List ℕ) (ok : Traceable size b h slots) (dir : Direct n size b h slots (length words)) where
     abbrev vs : List Version
-    vs = versionsIn 64 b h slots
+    vs = versionsIn size b h slots
 
-    pub fits-end : (n : ℕ) → Fits (length words) (endOf vs n)
-    fits-end n = ends-fit (length words) vs (dir .fit) n
+    pub fits-end : (i : ℕ) → Fits n (length words) (endOf vs i)
+    fits-end i = ends-fit n (length words) vs (dir .fit) i
 
     -- the first c blocks
     abbrev pub traced : ℕ → List Block
-    traced c = counted (tracedBlock 64 sh vs) 0 c
+    traced c = counted (tracedBlock size sh vs) 0 c
 
-    sized : (c : ℕ) → Each (λ (x : Block). length x ≡ 64) (traced c)
+    sized : (c : ℕ) → Each (λ (x : Block). length x ≡ size) (traced c)
     unfolding tracedBlock
-    sized c = each-counted (λ (x : Block). length x ≡ 64) (tracedBlock 64 sh vs) (λ n. length-block (endOf vs n) (fits-end n)) 0 c
+    sized c = each-counted (λ (x : Block). length x ≡ size) (tracedBlock size sh vs) (λ n. length-block (endOf vs n) (fits-end n)) 0 c
 
-    pub length-traced : (c : ℕ) → length (joined (traced c)) ≡ c * 64
-    length-traced c = length-joined 64 (traced c) (sized c) ∙ ap (λ (i : ℕ). i * 64) (length-counted (tracedBlock 64 sh vs) 0 c)
+    pub length-traced : (c : ℕ) → length (joined (traced c)) ≡ c * size
+    length-traced c = length-joined size (traced c) (sized c) ∙ ap (λ (i : ℕ). i * size) (length-counted (tracedBlock size sh vs) 0 c)
 
     -- the front of block n, whose tracing ends at the pointer of w
-    pub traced-at : (c n w : ℕ) → wordToPointer w ≡ endOf vs n → n < c → (m : ℕ) → m ≤ 64
-        → take m (drop (n * 64) (joined (traced c))) ≡ take m (blockAt 64 sh (wordToPointer w))
+    pub traced-at : (c j w : ℕ) → wordToPointer w ≡ endOf vs j → j < c → (l : ℕ) → l ≤ size
+        → take l (drop (j * size) (joined (traced c))) ≡ take l (blockAt size sh (wordToPointer w))
     unfolding tracedBlock
-    traced-at c n w e l m k =
-        sym (take-take m 64 (drop (n * 64) (joined (traced c))) k)
-        ∙ ap (take m) (row-joined 64 (traced c) (sized c) n (omega (arith, length-counted (tracedBlock 64 sh vs) 0 c)) ∙ counted-at (tracedBlock 64 sh vs) 0 c n [] l ∙ ap (tracedBlock 64 sh vs) (zero-add n) ∙ ap (blockAt 64 sh) (sym e))
+    traced-at c j w e h l k =
+        sym (take-take l size (drop (j * size) (joined (traced c))) k)
+        ∙ ap (take l) (row-joined size (traced c) (sized c) j (omega (arith, length-counted (tracedBlock size sh vs) 0 c)) ∙ counted-at (tracedBlock size sh vs) 0 c j [] h ∙ ap (tracedBlock size sh vs) (zero-add j) ∙ ap (blockAt size sh) (sym e))
 
-    cut : vs ≡ getD vs 0 (versionIn 64 []) ∷ drop 1 vs
-    cut = drop-cons vs 0 (versionIn 64 []) (omega (arith, ok .some, length-versions b h slots))
+    cut : vs ≡ getD vs 0 noVersion ∷ drop 1 vs
+    cut = drop-cons vs 0 noVersion (omega (arith, ok .some, length-versions size b h slots))
 
-    first-length : getD vs 0 (versionIn 64 []) .length ≡ getD slots 1 0
+    first-length : getD vs 0 noVersion .length ≡ getD slots 1 0
     unfolding versionIn
     first-length =
-        ap (λ (v : Version). v .length) (version-row b h slots 0 (ok .some))
+        ap (λ (v : Version). v .length) (version-row size b h slots 0 (ok .some))
         ∙ getD-take (3 + b) (drop (0 * (3 + b)) slots) 1 0 (omega arith)
         ∙ getD-drop (0 * (3 + b)) slots 1 0
         ∙ ap (λ (i : ℕ). getD slots i 0) (let z : 0 * (3 + b) + 1 ≡ 1 = omega (arith, zero-mul (3 + b)) in z)
 
-    image-of : imageOf 64 sh vs ≡ take (getD vs 0 (versionIn 64 []) .length) (joined (traced (length (pointersAt vs 0))))
+    image-of : imageOf size sh vs ≡ take (getD vs 0 noVersion .length) (joined (traced (length (pointersAt vs 0))))
     unfolding imageOf tracedBlocks
     image-of = go vs cut
       where
-        go : (us : List Version) → us ≡ getD us 0 (versionIn 64 []) ∷ drop 1 us
-            → imageOf 64 sh us ≡ take (getD us 0 (versionIn 64 []) .length) (joined (counted (tracedBlock 64 sh us) 0 (length (pointersAt us 0))))
+        go : (us : List Version) → us ≡ getD us 0 noVersion ∷ drop 1 us
+            → imageOf size sh us ≡ take (getD us 0 noVersion .length) (joined (counted (tracedBlock size sh us) 0 (length (pointersAt us 0))))
         go [] e = let z : _≡_ {A = ℕ} 0 1 = ap length e in absurd (omega arith)
         go (v ∷ us) e = refl
 
-    pub image-is : (c : ℕ) → length (pointersAt vs 0) ≡ c → take (getD slots 1 0) (joined (traced c)) ≡ imageOf 64 sh vs
+    pub image-is : (c : ℕ) → length (pointersAt vs 0) ≡ c → take (getD slots 1 0) (joined (traced c)) ≡ imageOf size sh vs
     image-is c e = sym (image-of ∙ ap₂ (λ (l n : ℕ). take l (joined (traced n))) first-length e)
 
     pub chain-is : (c : ℕ) → length (pointersAt vs 0) ≡ c → longestChain vs ≡ largest (counted (hops vs) 0 c)
     unfolding longestChain
     chain-is c e = go vs cut ∙ ap (λ (n : ℕ). largest (counted (hops vs) 0 n)) e
       where
-        go : (us : List Version) → us ≡ getD us 0 (versionIn 64 []) ∷ drop 1 us → longestChain us ≡ largest (counted (hops us) 0 (length (pointersAt us 0)))
+        go : (us : List Version) → us ≡ getD us 0 noVersion ∷ drop 1 us → longestChain us ≡ largest (counted (hops us) 0 (length (pointersAt us 0)))
         go [] e = let z : _≡_ {A = ℕ} 0 1 = ap length e in absurd (omega arith)
         go (v ∷ us) e = refl
 
--- how many blocks a length has, as the code counts them
-pub blocks-of : (l : ℕ) → partsFor 64 l ≡ (l + 63) / 64
-unfolding partsFor
-blocks-of l = refl
-
 -- a part of the output is short
-pub part-short : (at end : ℕ) (out : List ℕ) → end ≤ length out → end ≤ at + 64 → length (midOf at (end - at) out) ≤ 64
-part-short at end out h k = omega (arith, mid-len at end out h)
+pub part-short : (size at end : ℕ) (out : List ℕ) → end ≤ length out → end ≤ at + size → length (midOf at (end - at) out) ≤ size
+part-short size at end out h k = omega (arith, mid-len at end out h)

@@ -2,7 +2,7 @@
 use mathlib.Core.Path.{_≡_, refl, sym, ap, _∙_}
 use mathlib.Core.List.{List, _++_, append-assoc}
 use Prim.Native.Nat.{ℕ, suc, _+_, _-_, _*_, _≤_, _<_, max, min}
-use native.Mathlib.Nat.{zero-mul}
+use native.Mathlib.Nat.{zero-mul, mul-le-mul-right}
 use native.Mathlib.Numerals.{add-one}
 use native.Mathlib.Omega.{arith}
 use lib.ListN.{length, take, drop}
@@ -10,6 +10,7 @@ use lib.Seq.{drop-drop, take-at, drop-at, take-add, length-take-le}
 use lib.Arith.{digits-lt}
 use borrow.Rule.Slice.PartMut.{midOf, putMid, mid-len, same-len-mid}
 use Rattle.lists.specs.Lists.{largest, counted}
+use Rattle.lists.proofs.Places.{row-room, row-next}
 use Rattle.trace.specs.Versions.{Traceable}
 
 -- ---- the bytes
@@ -24,16 +25,18 @@ piece-more img out b d m h e =
     sym (drop-drop m d (take d img ++ drop d out)) ∙ ap (λ (x : List ℕ). drop m x) (drop-at (take d img) (drop d out) d l) ∙ drop-drop m d out in
     rw (f, g, ← e, take-add d m img) (sym (append-assoc (take d img) (take m (drop d img)) (drop (d + m) out)))
 
--- the part from byte 64 n on was lent, and has come back with the front of block n
-restore-turn : (img out₀ out ys block : List ℕ) (n len count at end : ℕ) → length img ≡ count * 64 → n < count → count * 64 < len + 64 → len ≤ length out
-    → at ≡ n * 64 → end ≡ min (at + 64) len → ((m : ℕ) → m ≤ 64 → take m (drop (n * 64) img) ≡ take m block)
-    → out ≡ take (min (n * 64) len) img ++ drop (min (n * 64) len) out₀
+-- the part from block n on was lent, and has come back with the front of block n
+restore-turn : (size : ℕ) (img out₀ out ys block : List ℕ) (n len count at end : ℕ) → length img ≡ count * size → n < count → count * size < len + size → len ≤ length out
+    → at ≡ n * size → end ≡ min (at + size) len → ((m : ℕ) → m ≤ size → take m (drop (n * size) img) ≡ take m block)
+    → out ≡ take (min (n * size) len) img ++ drop (min (n * size) len) out₀
     → ys ≡ take (length (midOf at (end - at) out)) block
-    → putMid at (end - at) out ys ≡ take (min ((n + 1) * 64) len) img ++ drop (min ((n + 1) * 64) len) out₀
-restore-turn img out₀ out ys block n len count at end li l h o ea ee f e ey =
+    → putMid at (end - at) out ys ≡ take (min ((n + 1) * size) len) img ++ drop (min ((n + 1) * size) len) out₀
+restore-turn size img out₀ out ys block n len count at end li l h o ea ee f e ey =
     let m : ℕ = end - at in
-    let d : min (n * 64) len ≡ at = omega arith in
-    let d′ : min ((n + 1) * 64) len ≡ at + m = omega arith in
+    let room : n * size + size ≤ count * size = row-room n count size l in
+    let next : (n + 1) * size ≡ n * size + size = row-next n size in
+    let d : min (n * size) len ≡ at = omega arith in
+    let d′ : min ((n + 1) * size) len ≡ at + m = omega arith in
     let lm : length (midOf at (end - at) out) ≡ m = mid-len at end out (omega arith) in
     let by : ys ≡ take m (drop at img) = ey ∙ ap (λ (i : ℕ). take i block) lm ∙ sym (f m (omega arith)) ∙ ap (λ (i : ℕ). take m (drop i img)) (sym ea) in
     let o′ : out ≡ take at img ++ drop at out₀ = e ∙ ap (λ (i : ℕ). take i img ++ drop i out₀) d in
@@ -52,34 +55,34 @@ chain-next f count most n h =
 
 -- ---- the loop
 
-pub record Restoring (img : List ℕ) (f : ℕ → ℕ) (out₀ : List ℕ) (len count : ℕ) (out : List ℕ) (most n : ℕ) : Type 0 where
+pub record Restoring (size : ℕ) (img : List ℕ) (f : ℕ → ℕ) (out₀ : List ℕ) (len count : ℕ) (out : List ℕ) (most n : ℕ) : Type 0 where
   pub inside : n ≤ count
   pub long : length out ≡ length out₀
-  pub bytes : out ≡ take (min (n * 64) len) img ++ drop (min (n * 64) len) out₀
+  pub bytes : out ≡ take (min (n * size) len) img ++ drop (min (n * size) len) out₀
   pub chain : max most (largest (counted f n (count - n))) ≡ largest (counted f 0 count)
 
-module _ (img : List ℕ) (f : ℕ → ℕ) (out₀ : List ℕ) (len count : ℕ) where
-  pub restore-start : Restoring img f out₀ len count out₀ 0 0
+module _ (size : ℕ) (img : List ℕ) (f : ℕ → ℕ) (out₀ : List ℕ) (len count : ℕ) where
+  pub restore-start : Restoring size img f out₀ len count out₀ 0 0
   restore-start =
-      let e : min 0 len ≡ 0 = omega arith in
+      let e : min (0 * size) len ≡ 0 = omega (arith, zero-mul size) in
       let q : count - 0 ≡ count = omega arith in
       record { inside = omega arith; long = refl; bytes = rw e; chain = rw q (omega arith) }
 
-  module _ (out : List ℕ) (most n : ℕ) (s : Restoring img f out₀ len count out most n) where
-    pub restore-next : (ys block : List ℕ) (at end most′ hop : ℕ) → length img ≡ count * 64 → n < count → count * 64 < len + 64 → len ≤ length out₀
-        → at ≡ n * 64 → end ≡ min (at + 64) len → ((m : ℕ) → m ≤ 64 → take m (drop (n * 64) img) ≡ take m block)
+  module _ (out : List ℕ) (most n : ℕ) (s : Restoring size img f out₀ len count out most n) where
+    pub restore-next : (ys block : List ℕ) (at end most′ hop : ℕ) → length img ≡ count * size → n < count → count * size < len + size → len ≤ length out₀
+        → at ≡ n * size → end ≡ min (at + size) len → ((m : ℕ) → m ≤ size → take m (drop (n * size) img) ≡ take m block)
         → ys ≡ take (length (midOf at (end - at) out)) block → length ys ≡ length (midOf at (end - at) out) → most′ ≡ max most hop → hop ≡ f n
-        → Restoring img f out₀ len count (putMid at (end - at) out ys) most′ (n + 1)
+        → Restoring size img f out₀ len count (putMid at (end - at) out ys) most′ (n + 1)
     restore-next ys block at end most′ hop li h k o ea ee eb ey ly em eh = record {
       inside = omega arith;
       long = same-len-mid at (end - at) out ys ly ∙ s .long;
-      bytes = restore-turn img out₀ out ys block n len count at end li h k (omega (arith, s .long)) ea ee eb (s .bytes) ey;
+      bytes = restore-turn size img out₀ out ys block n len count at end li h k (omega (arith, s .long)) ea ee eb (s .bytes) ey;
       chain = rw (em, eh) (chain-next f count most n h) ∙ s .chain;
     }
 
-    pub restore-bytes : count ≤ n → len ≤ count * 64 → out ≡ take len img ++ drop len out₀
+    pub restore-bytes : count ≤ n → len ≤ count * size → out ≡ take len img ++ drop len out₀
     restore-bytes h k =
-        let d : min (n * 64) len ≡ len = omega (arith, s .inside) in
+        let d : min (n * size) len ≡ len = omega (arith, mul-le-mul-right size h) in
         rw d at (s .bytes)
 
     pub restore-chain : count ≤ n → most ≡ largest (counted f 0 count)
@@ -89,7 +92,7 @@ module _ (img : List ℕ) (f : ℕ → ℕ) (out₀ : List ℕ) (len count : ℕ
         let q : max most (largest (counted f n 0)) ≡ largest (counted f 0 count) = rw e at (s .chain) in
         omega (arith, q)
 
-pub slots-long : (b h : ℕ) (slots : List ℕ) → Traceable b h slots → 2 < length slots
-slots-long b h slots ok =
+pub slots-long : (size b h : ℕ) (slots : List ℕ) → Traceable size b h slots → 2 < length slots
+slots-long size b h slots ok =
     let d : 0 * (3 + b) + 2 < h * (3 + b) = digits-lt {c = 3 + b} (ok .some) (omega arith) in
     omega (arith, zero-mul (3 + b), ok .rows)

@@ -12,45 +12,42 @@ use lib.Arith.{digits-lt}
 use lib.Dec.{ltb}
 use borrow.Author.Tests.{ltb-true, ltb-false}
 use Rattle.lists.specs.Rows.{parts}
+use Rattle.lists.proofs.Sets.{map-at}
 use Rattle.lists.proofs.Cuts.{part-at, length-parts}
 use Rattle.model.specs.Measures.{partsFor}
 use Rattle.model.specs.State.{Pointer, nullPointer, direct, indirect, Version}
 use Rattle.model.specs.Table.{wordToPointer, pointerOf, versionIn, versionsIn}
 use Rattle.model.specs.Trace.{hopsVia, endVia, hops, endOf}
 use Rattle.shelf.specs.Fits.{Fits}
-use Rattle.trace.specs.Versions.{pointersAt, LeadsTo, Traceable}
+use Rattle.trace.specs.Versions.{noVersion, pointersAt, LeadsTo, Traceable}
 
 null-word : wordToPointer 0 ≡ nullPointer
 unfolding wordToPointer pointerOf
 null-word = refl
 
-none-length : length (versionIn 64 [] .pointers) ≡ 0
-unfolding versionIn partsFor
-none-length = refl
-
-pub length-versions : (b h : ℕ) (slots : List ℕ) → length (versionsIn 64 b h slots) ≡ h
+pub length-versions : (bytes b h : ℕ) (slots : List ℕ) → length (versionsIn bytes b h slots) ≡ h
 unfolding versionsIn
-length-versions b h slots = length-map (parts (3 + b) h slots) (versionIn 64) ∙ length-parts (3 + b) h slots
+length-versions bytes b h slots = length-map (parts (3 + b) h slots) (versionIn bytes) ∙ length-parts (3 + b) h slots
 
 -- a version that has a block is there
-pub version-there : (b h : ℕ) (slots : List ℕ) (i j : ℕ) → j < length (pointersAt (versionsIn 64 b h slots) i) → i < h
-version-there b h slots i j l = go (ltb i h) refl
+pub version-there : (bytes b h : ℕ) (slots : List ℕ) (i j : ℕ) → j < length (pointersAt (versionsIn bytes b h slots) i) → i < h
+version-there bytes b h slots i j l = go (ltb i h) refl
   where
     go : (t : Bool) → ltb i h ≡ t → i < h
     go true e = ltb-true i h e
     go false e =
-        let d : getD (versionsIn 64 b h slots) i (versionIn 64 []) ≡ versionIn 64 [] =
-        List·getD-eq-default (versionsIn 64 b h slots) (versionIn 64 []) {n = i} (omega (arith, ltb-false i h e, length-versions b h slots)) in
-        absurd (omega (arith, ap (λ (v : Version). length (v .pointers)) d, none-length))
+        let d : getD (versionsIn bytes b h slots) i noVersion ≡ noVersion =
+        List·getD-eq-default (versionsIn bytes b h slots) noVersion {n = i} (omega (arith, ltb-false i h e, length-versions bytes b h slots)) in
+        absurd (omega (arith, ap (λ (v : Version). length (v .pointers)) d))
 
-pub version-row : (b h : ℕ) (slots : List ℕ) (i : ℕ) → i < h → getD (versionsIn 64 b h slots) i (versionIn 64 []) ≡ versionIn 64 (take (3 + b) (drop (i * (3 + b)) slots))
+pub version-row : (bytes b h : ℕ) (slots : List ℕ) (i : ℕ) → i < h → getD (versionsIn bytes b h slots) i noVersion ≡ versionIn bytes (take (3 + b) (drop (i * (3 + b)) slots))
 unfolding versionsIn
-version-row b h slots i l = List·getD-map (versionIn 64) (parts (3 + b) h slots) i [] ∙ ap (versionIn 64) (part-at (3 + b) h slots i l)
+version-row bytes b h slots i l = map-at (versionIn bytes) (parts (3 + b) h slots) i [] noVersion (omega (arith, length-parts (3 + b) h slots)) ∙ ap (versionIn bytes) (part-at (3 + b) h slots i l)
 
-row-pointer : (b : ℕ) (row : List ℕ) (j : ℕ) → j < length (versionIn 64 row .pointers) → getD (versionIn 64 row .pointers) j nullPointer ≡ wordToPointer (getD row (3 + j) 0)
+row-pointer : (bytes b : ℕ) (row : List ℕ) (j : ℕ) → j < length (versionIn bytes row .pointers) → getD (versionIn bytes row .pointers) j nullPointer ≡ wordToPointer (getD row (3 + j) 0)
 unfolding versionIn
-row-pointer b row j l =
-    let c : ℕ = partsFor 64 (getD row 1 0) in
+row-pointer bytes b row j l =
+    let c : ℕ = partsFor bytes (getD row 1 0) in
     let n : length (map wordToPointer (take c (drop 3 row))) ≡ min c (length (drop 3 row)) = length-map (take c (drop 3 row)) wordToPointer ∙ length-take c (drop 3 row) in
     let h : j < c = omega arith in
     ap (λ (p : Pointer). getD (map wordToPointer (take c (drop 3 row))) j p) (sym null-word)
@@ -58,14 +55,14 @@ row-pointer b row j l =
     ∙ ap wordToPointer (getD-take c (drop 3 row) j 0 h ∙ getD-drop 3 row j 0)
 
 -- a block's pointer is that of its word
-pub word-at : (b h : ℕ) (slots : List ℕ) (i j : ℕ) → j < length (pointersAt (versionsIn 64 b h slots) i) → length (pointersAt (versionsIn 64 b h slots) i) ≤ b
-    → getD (pointersAt (versionsIn 64 b h slots) i) j nullPointer ≡ wordToPointer (getD slots (i * (3 + b) + (3 + j)) 0)
-word-at b h slots i j l f =
-    let e = version-row b h slots i (version-there b h slots i j l) in
+pub word-at : (bytes b h : ℕ) (slots : List ℕ) (i j : ℕ) → j < length (pointersAt (versionsIn bytes b h slots) i) → length (pointersAt (versionsIn bytes b h slots) i) ≤ b
+    → getD (pointersAt (versionsIn bytes b h slots) i) j nullPointer ≡ wordToPointer (getD slots (i * (3 + b) + (3 + j)) 0)
+word-at bytes b h slots i j l f =
+    let e = version-row bytes b h slots i (version-there bytes b h slots i j l) in
     let row : List ℕ = take (3 + b) (drop (i * (3 + b)) slots) in
-    let k : j < length (versionIn 64 row .pointers) = rw (← e) l in
+    let k : j < length (versionIn bytes row .pointers) = rw (← e) l in
     ap (λ (v : Version). getD (v .pointers) j nullPointer) e
-    ∙ row-pointer b row j k
+    ∙ row-pointer bytes b row j k
     ∙ ap wordToPointer (getD-take (3 + b) (drop (i * (3 + b)) slots) (3 + j) 0 (omega arith) ∙ getD-drop (i * (3 + b)) slots (3 + j) 0)
 
 -- ---- the loop
@@ -94,18 +91,18 @@ hops-other w n f = go (w / 16777216) n
     go (suc (suc zero)) n = absurd (n refl)
     go (suc (suc (suc k))) n = refl
 
-pub record Tracing (b h : ℕ) (slots : List ℕ) (block v n w : ℕ) : Type 0 where
-  pub there : n < length (pointersAt (versionsIn 64 b h slots) v)
+pub record Tracing (bytes b h : ℕ) (slots : List ℕ) (block v n w : ℕ) : Type 0 where
+  pub there : n < length (pointersAt (versionsIn bytes b h slots) v)
   pub inside : v < h
   pub word : w ≡ getD slots (v * (3 + b) + (3 + n)) 0
-  pub ends : endOf (drop v (versionsIn 64 b h slots)) n ≡ endOf (versionsIn 64 b h slots) block
-  pub hop : v + hops (drop v (versionsIn 64 b h slots)) n ≡ hops (versionsIn 64 b h slots) block
+  pub ends : endOf (drop v (versionsIn bytes b h slots)) n ≡ endOf (versionsIn bytes b h slots) block
+  pub hop : v + hops (drop v (versionsIn bytes b h slots)) n ≡ hops (versionsIn bytes b h slots) block
 
-module _ (b h : ℕ) (slots : List ℕ) (ok : Traceable b h slots) (block : ℕ) where
+module _ (bytes b h : ℕ) (slots : List ℕ) (ok : Traceable bytes b h slots) (block : ℕ) where
   abbrev vs : List Version
-  vs = versionsIn 64 b h slots
+  vs = versionsIn bytes b h slots
 
-  pub trace-start : block < length (pointersAt vs 0) → Tracing b h slots block 0 block (getD slots (3 + block) 0)
+  pub trace-start : block < length (pointersAt vs 0) → Tracing bytes b h slots block 0 block (getD slots (3 + block) 0)
   trace-start l = record {
     there = l;
     inside = ok .some;
@@ -114,12 +111,12 @@ module _ (b h : ℕ) (slots : List ℕ) (ok : Traceable b h slots) (block : ℕ)
     hop = zero-add (hops vs block);
   }
 
-  module _ (v n w : ℕ) (t : Tracing b h slots block v n w) where
+  module _ (v n w : ℕ) (t : Tracing bytes b h slots block v n w) where
     pointer : getD (pointersAt vs v) n nullPointer ≡ wordToPointer w
-    pointer = word-at b h slots v n (t .there) (ok .fits v) ∙ ap wordToPointer (sym (t .word))
+    pointer = word-at bytes b h slots v n (t .there) (ok .fits v) ∙ ap wordToPointer (sym (t .word))
 
-    cut : drop v vs ≡ getD vs v (versionIn 64 []) ∷ drop (suc v) vs
-    cut = drop-cons vs v (versionIn 64 []) (omega (arith, t .inside, length-versions b h slots))
+    cut : drop v vs ≡ getD vs v noVersion ∷ drop (suc v) vs
+    cut = drop-cons vs v noVersion (omega (arith, t .inside, length-versions bytes b h slots))
 
     end-via : endOf (drop v vs) n ≡ endVia (wordToPointer w) (λ k. endOf (drop (suc v) vs) k)
     unfolding endOf
@@ -134,12 +131,12 @@ module _ (b h : ℕ) (slots : List ℕ) (ok : Traceable b h slots) (block : ℕ)
     next-there e = subst (λ (p : Pointer). LeadsTo (length (pointersAt vs (suc v))) p) (pointer ∙ indirect-word w e) (ok .leads v n)
 
     pub next-inside : w / 16777216 ≡ 2 → v + 1 < h
-    next-inside e = rw (add-one v) (version-there b h slots (suc v) (w % 16777216) (next-there e))
+    next-inside e = rw (add-one v) (version-there bytes b h slots (suc v) (w % 16777216) (next-there e))
 
     pub next-block : w / 16777216 ≡ 2 → w % 16777216 < b
     next-block e = omega (arith, next-there e, ok .fits (suc v))
 
-    pub trace-next : w / 16777216 ≡ 2 → Tracing b h slots block (v + 1) (w % 16777216) (getD slots ((v + 1) * (3 + b) + (3 + w % 16777216)) 0)
+    pub trace-next : w / 16777216 ≡ 2 → Tracing bytes b h slots block (v + 1) (w % 16777216) (getD slots ((v + 1) * (3 + b) + (3 + w % 16777216)) 0)
     unfolding endVia hopsVia
     trace-next e =
         let i = next-inside e in
@@ -160,20 +157,20 @@ module _ (b h : ℕ) (slots : List ℕ) (ok : Traceable b h slots) (block : ℕ)
     trace-hops f = sym (add-zero v) ∙ ap (λ (x : ℕ). v + x) (sym (hops-other w f (λ k. hops (drop (suc v) vs) k)) ∙ sym hop-via) ∙ t .hop
 
 -- where every pointer fits, so does the last one
-pub ends-fit : (m : ℕ) (vs : List Version) → ((i j : ℕ) → Fits m (getD (pointersAt vs i) j nullPointer)) → (n : ℕ) → Fits m (endOf vs n)
+pub ends-fit : (m l : ℕ) (vs : List Version) → ((i j : ℕ) → Fits m l (getD (pointersAt vs i) j nullPointer)) → (n : ℕ) → Fits m l (endOf vs n)
 unfolding endOf endVia Fits
-ends-fit m [] f n = tt
-ends-fit m (v ∷ vs) f n = go (getD (v .pointers) n nullPointer) (f 0 n) (λ k. ends-fit m vs (λ i j. f (suc i) j) k)
+ends-fit m l [] f n = tt
+ends-fit m l (v ∷ vs) f n = go (getD (v .pointers) n nullPointer) (f 0 n) (λ k. ends-fit m l vs (λ i j. f (suc i) j) k)
   where
-    go : (p : Pointer) → Fits m p → ((k : ℕ) → Fits m (endOf vs k)) → Fits m (endVia p (λ k. endOf vs k))
+    go : (p : Pointer) → Fits m l p → ((k : ℕ) → Fits m l (endOf vs k)) → Fits m l (endVia p (λ k. endOf vs k))
     go nullPointer a r = tt
     go (direct k i) a r = a
     go (indirect k) a r = r k
 
 -- ---- places
 
-pub place-inside : (b h : ℕ) (slots : List ℕ) → Traceable b h slots → (v n : ℕ) → v < h → n < b → v * (3 + b) + (3 + n) < length slots
-place-inside b h slots ok v n l k = rw (ok .rows) (digits-lt {c = 3 + b} l (omega arith))
+pub place-inside : (bytes b h : ℕ) (slots : List ℕ) → Traceable bytes b h slots → (v n : ℕ) → v < h → n < b → v * (3 + b) + (3 + n) < length slots
+place-inside bytes b h slots ok v n l k = rw (ok .rows) (digits-lt {c = 3 + b} l (omega arith))
 
-pub start-inside : (b h : ℕ) (slots : List ℕ) → Traceable b h slots → (n : ℕ) → n < length (pointersAt (versionsIn 64 b h slots) 0) → 3 + n < length slots
-start-inside b h slots ok n l = omega (arith, zero-mul (3 + b), place-inside b h slots ok 0 n (ok .some) (omega (arith, ok .fits 0)))
+pub start-inside : (bytes b h : ℕ) (slots : List ℕ) → Traceable bytes b h slots → (n : ℕ) → n < length (pointersAt (versionsIn bytes b h slots) 0) → 3 + n < length slots
+start-inside bytes b h slots ok n l = omega (arith, zero-mul (3 + b), place-inside bytes b h slots ok 0 n (ok .some) (omega (arith, ok .fits 0)))

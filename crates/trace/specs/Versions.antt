@@ -4,14 +4,17 @@ use mathlib.Core.List.{List, []}
 use Prim.Native.Nat.{ℕ, suc, _+_, _*_, _≤_, _<_}
 use lib.ListN.{length, getD}
 use Rattle.model.specs.State.{Pointer, nullPointer, direct, indirect, Version}
-use Rattle.model.specs.Table.{wordToPointer, versionIn, versionsIn}
+use Rattle.model.specs.Table.{wordToPointer, versionsIn}
 use Rattle.model.specs.Trace.{endOf, hops}
 use Rattle.shelf.specs.Fits.{Fits}
 use Rattle.trace.specs.declared.Traced.{Traced}
 
+abbrev pub noVersion : Version
+noVersion = record { number = 0; length = 0; pointers = [] }
+
 -- the pointers of version i, none past the end
 abbrev pub pointersAt : List Version → ℕ → List Pointer
-pointersAt vs i = getD vs i (versionIn 64 []) .pointers
+pointersAt vs i = getD vs i noVersion .pointers
 
 -- an indirect pointer names one of n blocks
 unfoldable pub LeadsTo : ℕ → Pointer → Type 0
@@ -20,17 +23,17 @@ LeadsTo n (direct k i) = Unit {0}
 LeadsTo n (indirect m) = m < n
 
 -- the slots of the first version, and of the newer ones: each indirect pointer names a block of the next one
-pub record Traceable (b h : ℕ) (slots : List ℕ) : Type 0 where
+pub record Traceable (bytes b h : ℕ) (slots : List ℕ) : Type 0 where
   pub rows : length slots ≡ h * (3 + b)
   pub some : 0 < h
   pub few : h ≤ 64
   pub small : b ≤ 1024
-  pub fits : (i : ℕ) → length (pointersAt (versionsIn 64 b h slots) i) ≤ b
-  pub leads : (i j : ℕ) → LeadsTo (length (pointersAt (versionsIn 64 b h slots) (suc i))) (getD (pointersAt (versionsIn 64 b h slots) i) j nullPointer)
+  pub fits : (i : ℕ) → length (pointersAt (versionsIn bytes b h slots) i) ≤ b
+  pub leads : (i j : ℕ) → LeadsTo (length (pointersAt (versionsIn bytes b h slots) (suc i))) (getD (pointersAt (versionsIn bytes b h slots) i) j nullPointer)
 
--- each direct pointer names a position of the records' n words
-pub record Direct (b h : ℕ) (slots : List ℕ) (n : ℕ) : Type 0 where
-  pub fit : (i j : ℕ) → Fits n (getD (pointersAt (versionsIn 64 b h slots) i) j nullPointer)
+-- each direct pointer names a position of the records' l words, of n positions each
+pub record Direct (n bytes b h : ℕ) (slots : List ℕ) (l : ℕ) : Type 0 where
+  pub fit : (i j : ℕ) → Fits n l (getD (pointersAt (versionsIn bytes b h slots) i) j nullPointer)
 
 -- where the tracing of a block of the first version ends, and how many pointers it follows
 pub record Traces (vs : List Version) (n : ℕ) (t : Traced) : Type 0 where

@@ -3,16 +3,18 @@ ghost use mathlib.Core.Path.{_≡_};
 ghost use mathlib.Core.List.{List, [], _++_};
 ghost use Prim.Native.Nat.{ℕ, _+_, _*_, _≤_, _<_, max};
 ghost use lib.ListN.{length, take, drop, getD};
-ghost use Rattle.model.specs.Measures.{baseMeasures, partsFor};
+ghost use Rattle.model.specs.Measures.{partsFor, recordWords};
 ghost use Rattle.model.specs.State.{nullPosition};
 ghost use Rattle.model.specs.Records.{cellOf};
 ghost use Rattle.model.specs.Table.{wordToPointer, recordsIn, shelfIn, versionsIn};
 ghost use Rattle.model.specs.Trace.{blockAt, imageOf, longestChain};
+ghost use Rattle.numbers.specs.Measures.{measuresOf};
 ghost use Rattle.shelf.specs.Stored.{RecordsTold, Stored};
 ghost use Rattle.shelf.specs.Fits.{Fits};
 ghost use Rattle.trace.specs.Versions.{pointersAt, Traceable, Direct, Traces};
 use numbers::Block;
 use numbers::Cell;
+use numbers::Measures;
 use numbers::RecordNumber;
 
 // The word at which the tracing of a block ends, and how many pointers it followed.
@@ -21,11 +23,11 @@ pub struct Traced {
     pub hops: u32,
 }
 
-// A block of the first of h slots is traced through the newer ones; a slot is for images of b blocks.
-pub fn trace(slots: &[u32], b: usize, h: usize, block: Block) -> Traced
-    requires { ⌜ Traceable b h (now slots) ⌝ }
-    requires { ⌜ block .0 < length (pointersAt (versionsIn 64 b h (now slots)) 0) ⌝ }
-    ensures { λ r. ⌜ Traces (versionsIn 64 b h (now (slots .entry))) (block .0) r ⌝ }
+// A block of the first of h slots is traced through the newer ones; a slot is for images of b blocks of so many bytes.
+pub fn trace(slots: &[u32], bytes: usize, b: usize, h: usize, block: Block) -> Traced
+    requires { ⌜ Traceable bytes b h (now slots) ⌝ }
+    requires { ⌜ block .0 < length (pointersAt (versionsIn bytes b h (now slots)) 0) ⌝ }
+    ensures { λ r. ⌜ Traces (versionsIn bytes b h (now (slots .entry))) (block .0) r ⌝ }
 {
     let mut v: usize = 0;
     let mut n = block.0;
@@ -41,27 +43,26 @@ pub fn trace(slots: &[u32], b: usize, h: usize, block: Block) -> Traced
     }
 }
 
-// The cell of a position.
-pub fn cell_of(words: &[u32], number: RecordNumber, position: u32) -> Cell
-    requires { ⌜ RecordsTold (now words) (recordsIn 8 (now words)) ⌝ }
-    requires { ⌜ (number .0 * 19 + 19 ≤ length (now words)) × (position < 8) × (number .0 < 1048576) ⌝ }
-    ensures { λ r. ⌜ r .0 ≡ cellOf (getD (getD (recordsIn 8 (now (words .entry))) (number .0) []) position nullPosition) ⌝ }
+// The cell of a position, of n.
+pub fn cell_of(words: &[u32], number: RecordNumber, position: u32, n: usize) -> Cell
+    requires { ⌜ (n ≤ 16) × RecordsTold n (now words) (recordsIn n (now words)) ⌝ }
+    requires { ⌜ (number .0 * recordWords n + recordWords n ≤ length (now words)) × (position < n) ⌝ }
+    ensures { λ r. ⌜ r .0 ≡ cellOf (getD (getD (recordsIn n (now (words .entry))) (number .0) []) position nullPosition) ⌝ }
 {
-    let k = number.0;
-    let at = (k * 19 + (3 + position)) as usize;
+    let at = number.word(n) + (3 + position as usize);
     Cell(words[at])
 }
 
 // A part of the output is filled with the front of the block that a pointer's word, which is not indirect, leads to.
-pub fn put_block(pool: &[u8], words: &[u32], pointer: u32, part: &mut [u8])
-    requires { ⌜ Stored (now pool) (now words) ⌝ }
-    requires { ⌜ Fits (length (now words)) (wordToPointer pointer) × (length (now part) ≤ 64) ⌝ }
-    ensures { λ _. ⌜ now (part .exit) ≡ take (length (now (part .entry))) (blockAt 64 (shelfIn baseMeasures (now (pool .entry)) (now (words .entry))) (wordToPointer pointer)) ⌝ }
+pub fn put_block(pool: &[u8], words: &[u32], pointer: u32, part: &mut [u8], m: Measures)
+    requires { ⌜ Stored (measuresOf m) (now pool) (now words) ⌝ }
+    requires { ⌜ Fits (m .blocks) (length (now words)) (wordToPointer pointer) × (length (now part) ≤ m .bytes) ⌝ }
+    ensures { λ _. ⌜ now (part .exit) ≡ take (length (now (part .entry))) (blockAt (m .bytes) (shelfIn (measuresOf m) (now (pool .entry)) (now (words .entry))) (wordToPointer pointer)) ⌝ }
 {
     if pointer / 16777216 == 1 {
         let rest = pointer % 16777216;
-        let cell = cell_of(words, RecordNumber(rest / 16), rest % 16);
-        let from = cell.byte();
+        let cell = cell_of(words, RecordNumber(rest / 16), rest % 16, m.blocks);
+        let from = cell.byte(m.bytes);
         let end = from + part.len();
         blocks::copy_in(&pool[from..end], part);
         return;
@@ -75,7 +76,7 @@ fn larger(a: u32, b: u32) -> u32
     if a < b { b } else { a }
 }
 
-// The image of the first of h slots, and the longest chain. The output's part from byte 64 n on is lent to the block copier.
+// The image of the first of h slots, and the longest chain. The output's part from block n on is lent to the block copier.
 pub fn restore_image(
     pool: &[u8],
     words: &[u32],
@@ -83,23 +84,25 @@ pub fn restore_image(
     b: usize,
     h: usize,
     out: &mut [u8],
+    m: Measures,
 ) -> u32
-    requires { ⌜ Stored (now pool) (now words) ⌝ }
-    requires { ⌜ Traceable b h (now slots) × Direct b h (now slots) (length (now words)) ⌝ }
-    requires { ⌜ (length (pointersAt (versionsIn 64 b h (now slots)) 0) ≡ partsFor 64 (getD (now slots) 1 0)) × (getD (now slots) 1 0 ≤ length (now out)) ⌝ }
-    ensures bytes { λ r. ⌜ now (out .exit) ≡ imageOf 64 (shelfIn baseMeasures (now (pool .entry)) (now (words .entry))) (versionsIn 64 b h (now (slots .entry))) ++ drop (getD (now (slots .entry)) 1 0) (now (out .entry)) ⌝ }
-    ensures hops { λ r. ⌜ r ≡ longestChain (versionsIn 64 b h (now (slots .entry))) ⌝ }
+    requires { ⌜ Stored (measuresOf m) (now pool) (now words) ⌝ }
+    requires { ⌜ Traceable (m .bytes) b h (now slots) × Direct (m .blocks) (m .bytes) b h (now slots) (length (now words)) ⌝ }
+    requires { ⌜ (length (pointersAt (versionsIn (m .bytes) b h (now slots)) 0) ≡ partsFor (m .bytes) (getD (now slots) 1 0)) × (getD (now slots) 1 0 ≤ length (now out)) ⌝ }
+    ensures bytes { λ r. ⌜ now (out .exit) ≡ imageOf (m .bytes) (shelfIn (measuresOf m) (now (pool .entry)) (now (words .entry))) (versionsIn (m .bytes) b h (now (slots .entry))) ++ drop (getD (now (slots .entry)) 1 0) (now (out .entry)) ⌝ }
+    ensures hops { λ r. ⌜ r ≡ longestChain (versionsIn (m .bytes) b h (now (slots .entry))) ⌝ }
 {
     let len = slots[1] as usize;
-    let count = (len + 63) / 64;
+    let bytes = m.bytes;
+    let count = numbers::parts_for(bytes, len);
     let mut most: u32 = 0;
     let mut n: usize = 0;
     while n < count {
         let block = Block(n as u32);
-        let traced = trace(slots, b, h, block);
-        let at = block.byte();
-        let end = blocks::least(at + Block::BYTES, len);
-        put_block(pool, words, traced.word, &mut out[at..end]);
+        let traced = trace(slots, bytes, b, h, block);
+        let at = block.byte(bytes);
+        let end = blocks::least(at + bytes, len);
+        put_block(pool, words, traced.word, &mut out[at..end], m);
         most = larger(most, traced.hops);
         n = n + 1;
     }

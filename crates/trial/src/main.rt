@@ -1,5 +1,6 @@
 // The page's unstarred cases, and long drawn histories on small stores beside a keeper of whole images. Prints what was counted.
 use layout::Capacities;
+use numbers::Measures;
 use trial_report::tell;
 
 fn capacities(tills: u32, versions: u32, blocks: u32, records: u32, cells: u32) -> Capacities {
@@ -9,19 +10,29 @@ fn capacities(tills: u32, versions: u32, blocks: u32, records: u32, cells: u32) 
         blocks,
         records,
         cells,
+        measures: Measures::base(),
     }
 }
 
-// The page's store, some that run out of records or of cells, the least, a roomy one.
+fn measured(five: Capacities, bytes: u32, blocks: u32, percent: u32) -> Capacities {
+    let mut c = five;
+    c.measures = Measures::chosen(bytes, blocks, percent);
+    c
+}
+
+// The page's store, some that run out of records or of cells, the least, a roomy one; and some of other measures.
 fn store_of(n: u32) -> Capacities {
-    match n % 7 {
+    match n % 10 {
         0 => capacities(1, 4, 16, 8, 32),
         1 => capacities(2, 3, 10, 6, 24),
         2 => capacities(3, 2, 5, 3, 12),
         3 => capacities(1, 1, 1, 1, 1),
         4 => capacities(2, 5, 20, 16, 64),
         5 => capacities(3, 5, 9, 20, 20),
-        _ => capacities(1, 5, 17, 4, 60),
+        6 => capacities(1, 5, 17, 4, 60),
+        7 => measured(capacities(2, 4, 5, 12, 20), 128, 4, 0),
+        8 => measured(capacities(1, 4, 2, 4, 8), 512, 16, 100),
+        _ => measured(capacities(2, 3, 20, 10, 48), 64, 16, 50),
     }
 }
 
@@ -35,9 +46,10 @@ fn histories(count: u32, pool: &mut [u8], table: &mut [u32], counts: &mut [u64])
 
 fn trial(pool: &mut [u8], table: &mut [u32], counts: &mut [u64]) {
     trial_cases::unstarred();
+    trial_refusals::measures(counts);
     trial_refusals::layouts(pool, table, counts);
     trial_refusals::last_number(counts);
-    histories(14, pool, table, counts);
+    histories(20, pool, table, counts);
     tell::report(counts);
 }
 

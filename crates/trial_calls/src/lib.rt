@@ -135,7 +135,7 @@ pub fn tally(c: Capacities, pool: &[u8], table: &[u32], counts: &mut [u64]) {
     counts::answered(counts, counts::TALLIES, a.refusal, 0);
     counts::expect(
         counts,
-        a.cells == trial_compare::filled_cells(pool, c.cells),
+        a.cells == trial_compare::filled_cells(pool, c.cells, trial_keeper::block_bytes(c)),
     );
     counts::expect(counts, a.cells <= a.counts);
     counts::expect(counts, a.records <= a.cells);

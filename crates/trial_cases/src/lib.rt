@@ -1,6 +1,7 @@
 // The page's case 11, on fresh stores of 1 till, 4 versions, 16 blocks per image, 8 records and 32 cells.
 use backup::BackedUp;
 use layout::Capacities;
+use numbers::Measures;
 use restore::Restored;
 use tally::Tally;
 use trial_draw::images;
@@ -13,6 +14,7 @@ fn capacities() -> Capacities {
         blocks: 16,
         records: 8,
         cells: 32,
+        measures: Measures::base(),
     }
 }
 

@@ -4,6 +4,7 @@ ghost use mathlib.Core.Path.{_≡_};
 ghost use Prim.Native.Nat.{_-_, _≤_};
 ghost use lib.ListN.{length, drop, replicate};
 ghost use Rattle.trial_compare.specs.Bytes.{wrongHead, others, Compared};
+use numbers::Cell;
 use trial_draw::dice::mixed;
 
 fn differs_at(bytes: &[u8], at: usize, byte: u8) -> usize
@@ -97,11 +98,12 @@ pub fn sum_of(pool: &[u8], table: &[u32]) -> u64 {
 }
 
 // 1 if it has a byte other than zero.
-fn filled_at(pool: &[u8], cell: u32) -> u32
+fn filled_at(pool: &[u8], cell: Cell, bytes: usize) -> u32
+    requires { ⌜ bytes ≤ 512 ⌝ }
     ensures { λ r. ⌜ r ≤ 1 ⌝ }
 {
-    let at = cell as usize * 64;
-    let end = at + 64;
+    let at = cell.byte(bytes);
+    let end = at + bytes;
     if pool.len() < end {
         return 0;
     }
@@ -111,14 +113,15 @@ fn filled_at(pool: &[u8], cell: u32) -> u32
     1
 }
 
-// How many cells have a byte other than zero.
-pub fn filled_cells(pool: &[u8], cells: u32) -> u32
+// How many cells, of so many bytes, have a byte other than zero.
+pub fn filled_cells(pool: &[u8], cells: u32, bytes: usize) -> u32
+    requires { ⌜ bytes ≤ 512 ⌝ }
     ensures { λ r. ⌜ r ≤ cells ⌝ }
 {
     let mut n = 0;
     let mut cell = 0;
     while cell < cells {
-        n += filled_at(pool, cell);
+        n += filled_at(pool, Cell(cell), bytes);
         cell += 1;
     }
     n

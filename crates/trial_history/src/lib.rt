@@ -1,5 +1,6 @@
 // Long histories of drawn calls on one store.
 use layout::Capacities;
+use numbers::Cell;
 use trial_draw::dice::Dice;
 use trial_report::counts;
 
@@ -61,7 +62,7 @@ pub fn history(
     table: &mut [u32],
     counts: &mut [u64],
 ) {
-    let bytes = c.cells as usize * 64;
+    let bytes = Cell(c.cells).byte(trial_keeper::block_bytes(c));
     let words = store::table_length(c).words as usize;
     if pool.len() < bytes {
         counts::expect(counts, false);

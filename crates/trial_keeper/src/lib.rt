@@ -4,6 +4,7 @@ ghost use mathlib.Core.Path.{_≡_};
 ghost use Prim.Native.Nat.{_+_, _*_, _%_, _≤_};
 ghost use lib.ListN.{getD, set};
 use layout::Capacities;
+use numbers::Block;
 
 // At most so many tills, versions per till and bytes per image.
 const TILLS: usize = 3;
@@ -139,6 +140,28 @@ pub fn wrong_in(images: &[u8], notes: &[u32], till: u32, version: u32, output: &
     std::num::wrapping_add_usize(wrong, trial_compare::unmarked(&output[n..]))
 }
 
+// Of a store in range, a block's bytes.
+pub fn block_bytes(c: Capacities) -> usize
+    ensures { λ r. ⌜ r ≤ 512 ⌝ }
+{
+    let m = c.measures;
+    if m.bytes < Block::MOST_BYTES {
+        return m.bytes;
+    }
+    Block::MOST_BYTES
+}
+
+// An image's most bytes.
+pub fn image_bytes(c: Capacities) -> usize
+    ensures { λ r. ⌜ r ≤ 65536 ⌝ }
+{
+    let bytes = Block(c.blocks).byte(block_bytes(c));
+    if bytes < 65536 {
+        return bytes;
+    }
+    65536
+}
+
 // The number that the page's order gives a backup, 14 and 16 apart.
 pub fn backup_refusal(c: Capacities, notes: &[u32], till: u32, bytes: usize) -> u32 {
     if c.tills <= till {
@@ -147,7 +170,7 @@ pub fn backup_refusal(c: Capacities, notes: &[u32], till: u32, bytes: usize) -> 
     if bytes == 0 {
         return 4;
     }
-    if c.blocks as usize * 64 < bytes {
+    if image_bytes(c) < bytes {
         return 4;
     }
     if c.versions <= held(notes, till) {

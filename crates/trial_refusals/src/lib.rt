@@ -1,8 +1,9 @@
 // Refusals that no drawn call meets: capacities out of range, buffers of another length, a till whose numbers have run out.
 ghost use Prim.Native.Nat.{_≤_};
 use layout::Capacities;
+use numbers::Measures;
 
-// The n-th of the five capacities is `value`, the others 1.
+// The n-th of the first five capacities is `value`, the others 1.
 fn with_one(n: u32, value: u32) -> Capacities {
     let mut c = Capacities {
         tills: 1,
@@ -10,6 +11,7 @@ fn with_one(n: u32, value: u32) -> Capacities {
         blocks: 1,
         records: 1,
         cells: 1,
+        measures: Measures::base(),
     };
     if n == 0 {
         c.tills = value;
@@ -94,6 +96,40 @@ fn too_short(pool: &mut [u8], table: &mut [u32], counts: &mut [u64]) {
 fn too_long(pool: &mut [u8], table: &mut [u32], counts: &mut [u64]) {
     lay_out_ones(pool, table, 65, 35, counts, 2);
     lay_out_ones(pool, table, 64, 36, counts, 2);
+}
+
+// An image of so many blocks of these measures, the other four capacities 1.
+fn length_of(bytes: u32, blocks: u32, percent: u32, image: u32, counts: &mut [u64], expected: u32) {
+    let mut c = with_one(2, image);
+    c.measures = Measures::chosen(bytes, blocks, percent);
+    trial_calls::table_length(c, counts, expected);
+}
+
+fn measures_in_range(counts: &mut [u64]) {
+    length_of(64, 4, 0, 1024, counts, 0);
+    length_of(128, 8, 100, 512, counts, 0);
+    length_of(256, 16, 50, 256, counts, 0);
+    length_of(512, 16, 20, 128, counts, 0);
+}
+
+fn no_such_block(counts: &mut [u64]) {
+    length_of(0, 8, 20, 1, counts, 1);
+    length_of(96, 8, 20, 1, counts, 1);
+    length_of(1024, 8, 20, 1, counts, 1);
+    length_of(512, 8, 20, 129, counts, 1);
+}
+
+fn no_such_segment(counts: &mut [u64]) {
+    length_of(64, 0, 20, 1, counts, 1);
+    length_of(64, 5, 20, 1, counts, 1);
+    length_of(64, 32, 20, 1, counts, 1);
+    length_of(64, 8, 101, 1, counts, 1);
+}
+
+pub fn measures(counts: &mut [u64]) {
+    measures_in_range(counts);
+    no_such_block(counts);
+    no_such_segment(counts);
 }
 
 pub fn layouts(pool: &mut [u8], table: &mut [u32], counts: &mut [u64]) {

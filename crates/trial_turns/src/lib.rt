@@ -14,18 +14,18 @@ fn till_of(c: Capacities, d: Dice) -> u32 {
 
 // None, a byte too many, full, or any length.
 fn bytes_of(c: Capacities, d: Dice) -> usize {
-    let most = c.blocks as u64 * 64;
+    let most = trial_keeper::image_bytes(c);
     let kind = d.pick(48, 16);
     if kind == 0 {
         return 0;
     }
     if kind == 1 {
-        return most as usize + 1;
+        return most + 1;
     }
     if kind < 8 {
-        return most as usize;
+        return most;
     }
-    d.drawn(50, most) as usize + 1
+    d.drawn(50, most as u64) as usize + 1
 }
 
 // How many bytes the image has that now stands at the front; more than there is room for: none.

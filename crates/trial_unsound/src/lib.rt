@@ -56,9 +56,9 @@ fn refuse_all(till: u32, version: u32, pool: &mut [u8], table: &mut [u32], count
     refuse_reads(till, pool, table, counts);
 }
 
-// With a reserved word of the header that is not zero, for as long as the calls are tried.
+// With a reserved word of the first till that is not zero, for as long as the calls are tried.
 pub fn damaged(d: Dice, pool: &mut [u8], table: &mut [u32], counts: &mut [u64]) {
-    let at = d.pick(8, 3) as usize + 5;
+    let at = d.pick(8, 2) as usize + 10;
     trial_keeper::put_note(table, at, d.pick(16, 65536) + 1);
     refuse_all(d.pick(24, 4), d.pick(32, 4), pool, table, counts);
     trial_keeper::put_note(table, at, 0);

@@ -1,10 +1,10 @@
 -- Laws of turning: the target of a pointer's word, and the words that turn.
-use mathlib.Core.Path.{_∙_, _≡_, ap, ap₂, refl, sym}
+use mathlib.Core.Path.{_∙_, _≡_, ap, ap₂, refl, subst, sym}
 use mathlib.Core.Bool.{Bool, cond, false, true}
 use mathlib.Core.List.{List, [], _++_, _∷_, append-nil, map}
 use mathlib.Core.Option.{Option, none, some}
 use Prim.Native.Nat.{_%_, _*_, _+_, _-_, _/_, _<_, _≤_, suc, zero, ℕ}
-use native.Mathlib.Nat.{le-of-suc-le-suc, not-suc-le-zero}
+use native.Mathlib.Nat.{le-of-suc-le-suc, mul-le-mul-left, mul-le-mul-right, not-suc-le-zero, suc-mul}
 use native.Mathlib.Numerals.{add-one}
 use native.Mathlib.Omega.{arith}
 use lib.ListN.{List·getD-map, drop, getD, length, set, take}
@@ -17,43 +17,52 @@ use Rattle.lists.proofs.Cuts.{part-word}
 use Rattle.lists.proofs.Each.{each-at}
 use Rattle.lists.proofs.Slices.{drop-end, drop-next}
 use Rattle.model.specs.Image.{blockFrom, blocksFrom, imageBlocks}
-use Rattle.model.specs.Measures.{baseMeasures, partsFor}
+use Rattle.model.specs.Measures.{Measures, partsFor, recordWords}
 use Rattle.model.specs.Records.{cellAt, cellOf, positionAt}
 use Rattle.model.specs.State.{Block, Pointer, Segment, Shelf, direct, indirect, nullPointer, nullPosition}
 use Rattle.model.specs.Table.{cellsIn, pointerOf, pointerWord, recordToWords, recordsIn, shelfIn, wordToPointer}
 use Rattle.model.specs.Turn.{indirectTo, isFound, target, turn, turning}
-use Rattle.laws.proofs.Image.{length-blocks}
-use Rattle.laws.proofs.RoundTrip.{length-record}
-use Rattle.place_words.specs.Stored.{SegmentFits, Stored}
-use Rattle.place_words.specs.Words.{asOption}
+use Rattle.laws.proofs.Image.{length-blocks, blocks-next}
+use Rattle.laws.proofs.Measures.{parts-few}
+use Rattle.shelf.specs.Fits.{Fits}
+use Rattle.shelf.specs.Stored.{Stored}
+use Rattle.shelf.proofs.Inside.{cell-bytes, cell-inside, cell-room}
 use Rattle.lists.proofs.Puts.{first-found}
-use Rattle.place_words.proofs.Reading.{as-none, as-some, blocks-next, cell-at, cell-word, cellWords}
-use Rattle.place_words.proofs.Rowing.{words-cells}
-use Rattle.place_words.proofs.Storing.{count-is, row-is}
 use Rattle.turn.specs.Turn.{TargetOk, WordFits, keptWord, releasedOf, targetOf, targetWord, turnWord}
 
 -- ---- the first equal block
 
-module _ (f : Block → Bool) (image : List ℕ) (count : ℕ) where
-  find-step : (at n : ℕ) → n < count → firstFrom f n (blocksFrom 64 image at (count - n)) ≡ cond (f (blockFrom 64 image at)) (some n) (firstFrom f (n + 1) (blocksFrom 64 image (at + 64) (count - (n + 1))))
+-- block n of an image begins in it
+pub begins-in : (bytes n len : ℕ) → 0 < bytes → n < partsFor bytes len → n * bytes < len
+begins-in bytes n len pos h =
+    let a : suc n * bytes ≤ partsFor bytes len * bytes = mul-le-mul-right bytes h in
+    omega (arith, a, suc-mul n bytes, parts-few bytes len pos)
+
+-- a block's number is at most its first byte's
+pub next-at : (bytes n : ℕ) → 0 < bytes → n ≤ n * bytes
+next-at bytes n h = let a : n * 1 ≤ n * bytes = mul-le-mul-left n h in omega (arith, a)
+
+module _ (bytes : ℕ) (f : Block → Bool) (image : List ℕ) (count : ℕ) where
+  find-step : (at n : ℕ) → n < count → firstFrom f n (blocksFrom bytes image at (count - n)) ≡ cond (f (blockFrom bytes image at)) (some n) (firstFrom f (n + 1) (blocksFrom bytes image (at + bytes) (count - (n + 1))))
   unfolding firstFrom
-  find-step at n h =
-      let z : count - n - 1 ≡ count - (n + 1) = omega arith in
-      rw (blocks-next image at (count - n) (omega arith), z, add-one n)
+  find-step at n h = rw (blocks-next bytes image at count n h, add-one n)
 
-  pub find-yes : (at n : ℕ) → n < count → true ≡ f (blockFrom 64 image at) → asOption count n ≡ firstFrom f n (blocksFrom 64 image at (count - n))
-  find-yes at n h e = rw (lt-ltb n count h) (sym (find-step at n h ∙ rw (← e)))
+  pub find-yes : (at n : ℕ) → n < count → true ≡ f (blockFrom bytes image at) → n ≡ targetWord (firstFrom f n (blocksFrom bytes image at (count - n)))
+  unfolding targetWord
+  find-yes at n h e =
+      let found : firstFrom f n (blocksFrom bytes image at (count - n)) ≡ some n = find-step at n h ∙ rw (← e) in
+      sym (ap targetWord found)
 
-  pub find-no : (at n : ℕ) → n < count → false ≡ f (blockFrom 64 image at) → firstFrom f n (blocksFrom 64 image at (count - n)) ≡ firstFrom f (n + 1) (blocksFrom 64 image (at + 64) (count - (n + 1)))
+  pub find-no : (at n : ℕ) → n < count → false ≡ f (blockFrom bytes image at) → firstFrom f n (blocksFrom bytes image at (count - n)) ≡ firstFrom f (n + 1) (blocksFrom bytes image (at + bytes) (count - (n + 1)))
   find-no at n h e = find-step at n h ∙ rw (← e)
 
-  pub find-end : (at n : ℕ) → count ≤ n → asOption count n ≡ firstFrom f n (blocksFrom 64 image at (count - n))
-  unfolding firstFrom blocksFrom
-  find-end at n h = let z : count - n ≡ 0 = omega arith in rw (le-ltb n count h, z)
+  pub find-end : (at n : ℕ) → count ≤ n → 4294967295 ≡ targetWord (firstFrom f n (blocksFrom bytes image at (count - n)))
+  unfolding firstFrom blocksFrom targetWord
+  find-end at n h = let z : count - n ≡ 0 = omega arith in rw z
 
-pub find-start : (f : Block → Bool) (image : List ℕ) (count : ℕ) → count ≡ (length image + 63) / 64 → firstFrom f 0 (blocksFrom 64 image 0 (count - 0)) ≡ firstFrom f 0 (imageBlocks 64 image)
-unfolding imageBlocks partsFor
-find-start f image count e = let z : count - 0 ≡ count = omega arith in rw (z, e)
+  pub find-start : count ≡ partsFor bytes (length image) → firstFrom f 0 (blocksFrom bytes image 0 (count - 0)) ≡ firstFrom f 0 (imageBlocks bytes image)
+  unfolding imageBlocks
+  find-start e = let z : count - 0 ≡ count = omega arith in rw (z, e)
 
 -- ---- the target of a word
 
@@ -64,51 +73,38 @@ kind-none w (suc zero) n shelf image h = absurd (h refl)
 kind-none w (suc (suc zero)) n shelf image h = refl
 kind-none w (suc (suc (suc k))) n shelf image h = refl
 
-pub target-none : (image pool ws : List ℕ) (w : ℕ) → (w / 16777216 ≡ 1 → ⊥) → 4294967295 ≡ targetOf image pool ws w
+pub target-none : (m : Measures) (image pool ws : List ℕ) (w : ℕ) → (w / 16777216 ≡ 1 → ⊥) → 4294967295 ≡ targetOf m image pool ws w
 unfolding targetOf targetWord wordToPointer
-target-none image pool ws w h = rw (kind-none w (w / 16777216) (w % 16777216) (shelfIn baseMeasures pool ws) (imageBlocks 64 image) h)
+target-none m image pool ws w h = rw (kind-none w (w / 16777216) (w % 16777216) (shelfIn m pool ws) (imageBlocks (m .blockBytes) image) h)
 
-module _ (image pool ws : List ℕ) (st : Stored 4294967295 pool ws) (w : ℕ) (fit : WordFits (length ws / 19) w) (one : w / 16777216 ≡ 1) where
+-- a word of kind 1 and its cell
+module _ (m : Measures) (image pool ws : List ℕ) (st : Stored m pool ws) (w : ℕ) (one : w / 16777216 ≡ 1) where
   abbrev k : ℕ
   k = w % 16777216 / 16
 
   abbrev i : ℕ
   i = w % 16777216 % 16
 
-  pub place-in : k * 19 + (3 + i) < length ws
-  place-in = omega (arith, fit .record-in one, fit .position-in one, st .sized .tableSize)
+  pub there : Fits (m .segmentBlocks) (length ws) (wordToPointer w) → (k * recordWords (m .segmentBlocks) + recordWords (m .segmentBlocks) ≤ length ws) × (i < m .segmentBlocks)
+  unfolding wordToPointer pointerOf Fits
+  there f = rw one at f
 
-  -- the cell word is the position's cell
-  pub cell-there : getD ws (k * 19 + (3 + i)) 0 ≡ cellOf (positionAt (shelfIn baseMeasures pool ws) k i)
-  unfolding positionAt cellWords shelfIn
-  cell-there =
-      let h = fit .record-in one in
-      let l = fit .position-in one in
-      let rec : Segment = getD (recordsIn 8 ws) k [] in
-      let eight : length rec ≡ 8 = each-at (SegmentFits 4294967295 (length (cellsIn 64 pool))) [] (recordsIn 8 ws) (st .wf .segments) k (omega (arith, count-is st)) .eight in
-      let e : take 19 (drop (k * 19) ws) ≡ recordToWords rec = st .says k h ∙ ap recordToWords (row-is st k h) in
-      sym (part-word 19 ws k (3 + i) 0 (omega (arith, l)))
-      ∙ ap (λ (x : List ℕ). getD x (3 + i) 0) e
-      ∙ sym (cell-word (recordToWords rec) (length-record 8 rec eight) i l)
-      ∙ ap (λ (x : List ℕ). getD x i 0) (words-cells rec eight)
-      ∙ List·getD-map cellOf rec i nullPosition
+  module _ (c : ℕ) (ec : c ≡ cellOf (getD (getD (recordsIn (m .segmentBlocks) ws) k []) i nullPosition)) where
+    inside : c < length (cellsIn (m .blockBytes) pool)
+    unfolding shelfIn
+    inside = subst (λ (x : ℕ). x < length (cellsIn (m .blockBytes) pool)) (sym ec) (cell-inside st k i)
 
-  pub cell-small : getD ws (k * 19 + (3 + i)) 0 < length pool / 64
-  cell-small = rw (part-word 19 ws k (3 + i) 0 (omega (arith, fit .position-in one))) at (st .sized .fits k (fit .record-in one) i (fit .position-in one))
+    pub cell-fits : c * m .blockBytes + m .blockBytes ≤ length pool
+    unfolding shelfIn
+    cell-fits = cell-room st c inside
 
-  target-is : targetOf image pool ws w ≡ targetWord (firstFrom (sameNumbers (take 64 (drop (getD ws (k * 19 + (3 + i)) 0 * 64) pool))) 0 (imageBlocks 64 image))
-  unfolding targetOf wordToPointer pointerOf target
-  target-is =
-      rw (one, ← cell-there, cell-at (shelfIn baseMeasures pool ws) pool (getD ws (k * 19 + (3 + i)) 0) (unfold shelfIn in refl) cell-small)
-
-  module _ (c n : ℕ) (ec : c ≡ getD ws (k * 19 + (3 + i)) 0) (e : asOption ((length image + 63) / 64) n ≡ firstFrom (sameNumbers (take 64 (drop (c * 64) pool))) 0 (imageBlocks 64 image)) where
-    pub target-missing : (length image + 63) / 64 ≤ n → 4294967295 ≡ targetOf image pool ws w
-    unfolding targetWord
-    target-missing h = sym (target-is ∙ rw (← ec) (ap targetWord (sym e ∙ as-none ((length image + 63) / 64) n h)))
-
-    pub target-found : n < (length image + 63) / 64 → n ≡ targetOf image pool ws w
-    unfolding targetWord
-    target-found h = sym (target-is ∙ rw (← ec) (ap targetWord (sym e ∙ as-some ((length image + 63) / 64) n h)))
+    -- with the cell's first byte as the code has it
+    pub target-is : (start r : ℕ) → start ≡ c * m .blockBytes
+        → r ≡ targetWord (firstFrom (sameNumbers (take (start + m .blockBytes - start) (drop start pool))) 0 (imageBlocks (m .blockBytes) image)) → r ≡ targetOf m image pool ws w
+    unfolding targetOf wordToPointer pointerOf target positionAt cellAt shelfIn
+    target-is start r es e =
+        let z : start + m .blockBytes - start ≡ m .blockBytes = omega arith in
+        e ∙ rw (one, ← ec, z, es, cell-bytes (m .blockBytes) pool c (omega (arith, st .measured .someBytes)) cell-fits)
 
 -- ---- words and pointers
 
@@ -132,42 +128,43 @@ unfolding targetWord
 word-kept w p none ws ps e ok f = f
 word-kept w p (some n) ws ps e ok f = rw (ne-eqb n 4294967295 (λ z. omega (arith, ok)), e, f)
 
-module _ (image pool ws : List ℕ) (small : length image ≤ 65536) where
+module _ (m : Measures) (some-bytes : 0 < m .blockBytes) (image pool ws : List ℕ) (small : length image ≤ 65536) where
   abbrev shelf : Shelf
-  shelf = shelfIn baseMeasures pool ws
+  shelf = shelfIn m pool ws
 
-  found-small : (o : Option ℕ) (f : Block → Bool) → firstFrom f 0 (imageBlocks 64 image) ≡ o → Small o
-  unfolding imageBlocks partsFor
+  found-small : (o : Option ℕ) (f : Block → Bool) → firstFrom f 0 (imageBlocks (m .blockBytes) image) ≡ o → Small o
+  unfolding imageBlocks
   found-small none f e = tt
   found-small (some k) f e =
-      let q = first-found [] f (blocksFrom 64 image 0 ((length image + 63) / 64)) k e in
-      omega (arith, q .0, length-blocks 64 image 0 ((length image + 63) / 64))
+      let q = first-found [] f (blocksFrom (m .blockBytes) image 0 (partsFor (m .blockBytes) (length image))) k e in
+      let l : k < partsFor (m .blockBytes) (length image) = omega (arith, q .0, length-blocks (m .blockBytes) image 0 (partsFor (m .blockBytes) (length image))) in
+      omega (arith, small, begins-in (m .blockBytes) k (length image) some-bytes l, next-at (m .blockBytes) k some-bytes)
 
-  target-small : (p : Pointer) → Small (target shelf (imageBlocks 64 image) p)
+  target-small : (p : Pointer) → Small (target shelf (imageBlocks (m .blockBytes) image) p)
   unfolding target
   target-small nullPointer = tt
   target-small (direct k i) = found-small _ (sameNumbers (cellAt shelf (cellOf (positionAt shelf k i)))) refl
   target-small (indirect b) = tt
 
-  pub target-ok : (w : ℕ) → TargetOk (targetOf image pool ws w)
+  pub target-ok : (w : ℕ) → TargetOk (targetOf m image pool ws w)
   unfolding targetOf
   target-ok w = small-ok _ (target-small (wordToPointer w))
 
-  module _ (n : ℕ) where
-    pub turned-all : (vs : List ℕ) → ((b : ℕ) → b < length vs → WordFits n (getD vs b 0))
-        → over turnWord vs (map (targetOf image pool ws) vs) ≡ map pointerWord (turn shelf (imageBlocks 64 image) (map wordToPointer vs))
+  module _ (n l : ℕ) where
+    pub turned-all : (vs : List ℕ) → ((b : ℕ) → b < length vs → WordFits n l (getD vs b 0))
+        → over turnWord vs (map (targetOf m image pool ws) vs) ≡ map pointerWord (turn shelf (imageBlocks (m .blockBytes) image) (map wordToPointer vs))
     unfolding turn targetOf
     turned-all [] f = refl
     turned-all (v ∷ vs) f =
-        ap₂ (λ (x : ℕ) (xs : List ℕ). x ∷ xs) (word-turns v (wordToPointer v) (target shelf (imageBlocks 64 image) (wordToPointer v)) (f 0 (omega arith) .says) (target-small (wordToPointer v)))
+        ap₂ (λ (x : ℕ) (xs : List ℕ). x ∷ xs) (word-turns v (wordToPointer v) (target shelf (imageBlocks (m .blockBytes) image) (wordToPointer v)) (f 0 (omega arith) .says) (target-small (wordToPointer v)))
         (turned-all vs (λ b h. f (suc b) (omega arith)))
 
-    pub released-all : (vs : List ℕ) → ((b : ℕ) → b < length vs → WordFits n (getD vs b 0))
-        → releasedOf vs (map (targetOf image pool ws) vs) ≡ map pointerWord (turning shelf (imageBlocks 64 image) (map wordToPointer vs))
+    pub released-all : (vs : List ℕ) → ((b : ℕ) → b < length vs → WordFits n l (getD vs b 0))
+        → releasedOf vs (map (targetOf m image pool ws) vs) ≡ map pointerWord (turning shelf (imageBlocks (m .blockBytes) image) (map wordToPointer vs))
     unfolding turning keep targetOf releasedOf
     released-all [] f = refl
     released-all (v ∷ vs) f =
-        word-kept v (wordToPointer v) (target shelf (imageBlocks 64 image) (wordToPointer v)) (releasedOf vs (map (targetOf image pool ws) vs)) (turning shelf (imageBlocks 64 image) (map wordToPointer vs))
+        word-kept v (wordToPointer v) (target shelf (imageBlocks (m .blockBytes) image) (wordToPointer v)) (releasedOf vs (map (targetOf m image pool ws) vs)) (turning shelf (imageBlocks (m .blockBytes) image) (map wordToPointer vs))
         (f 0 (omega arith) .says) (target-small (wordToPointer v)) (released-all vs (λ b h. f (suc b) (omega arith)))
 
 -- ---- the words that are released, one by one

@@ -3,18 +3,24 @@ use mathlib.Core.Path.{_≡_}
 use mathlib.Core.Bool.{cond}
 use mathlib.Core.List.{List, [], _∷_}
 use mathlib.Core.Option.{Option, none, some}
-use Prim.Native.Nat.{_%_, _+_, _/_, _<_, _≤_, ℕ}
+use Prim.Native.Nat.{_+_, _≤_, ℕ}
 use lib.Dec.{eqb}
 use Rattle.model.specs.Image.{imageBlocks}
-use Rattle.model.specs.Measures.{baseMeasures}
+use Rattle.model.specs.Measures.{Measures}
+use Rattle.model.specs.State.{Pointer}
 use Rattle.model.specs.Table.{pointerWord, shelfIn, wordToPointer}
 use Rattle.model.specs.Turn.{target}
+use Rattle.shelf.specs.Fits.{Fits}
 
--- the word is that of a pointer, and a direct one names a position of the `n` records
-pub record WordFits (n w : ℕ) : Type 0 where
+-- the word is that of a pointer, which can be followed into the records' `l` words, of `n` positions each
+pub record WordFits (n l w : ℕ) : Type 0 where
   pub says : pointerWord (wordToPointer w) ≡ w
-  pub record-in : w / 16777216 ≡ 1 → w % 16777216 / 16 < n
-  pub position-in : w / 16777216 ≡ 1 → w % 16777216 % 16 < 8
+  pub fits : Fits n l (wordToPointer w)
+
+-- a pointer that its word gives back, and that can be followed there
+pub record Followable (n l : ℕ) (p : Pointer) : Type 0 where
+  pub back : wordToPointer (pointerWord p) ≡ p
+  pub fits : Fits n l p
 
 abbrev pub noTarget : ℕ
 noTarget = 4294967295
@@ -24,8 +30,8 @@ targetWord none = noTarget
 targetWord (some n) = n
 
 -- the target of a word, as a word
-unfoldable pub targetOf : List ℕ → List ℕ → List ℕ → ℕ → ℕ
-targetOf image pool ws w = targetWord (target (shelfIn baseMeasures pool ws) (imageBlocks 64 image) (wordToPointer w))
+unfoldable pub targetOf : Measures → List ℕ → List ℕ → List ℕ → ℕ → ℕ
+targetOf m image pool ws w = targetWord (target (shelfIn m pool ws) (imageBlocks (m .blockBytes) image) (wordToPointer w))
 
 abbrev pub turnWord : ℕ → ℕ → ℕ
 turnWord w t = cond (eqb t 4294967295) w (33554432 + t)

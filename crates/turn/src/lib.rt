@@ -1,58 +1,54 @@
 // Step 2 of a backup: the previous version's direct pointers turn to equal blocks of the new image.
 ghost use mathlib.Core.Path.{_≡_};
 ghost use mathlib.Core.List.{List, map, _++_};
-ghost use Prim.Native.Nat.{ℕ, _+_, _*_, _/_, _≤_, _<_};
+ghost use Prim.Native.Nat.{ℕ, _+_, _%_, _≤_, _<_};
 ghost use lib.ListN.{length, getD, take, drop};
 ghost use Rattle.lists.specs.Lists.{sameNumbers, firstFrom};
 ghost use Rattle.lists.specs.Over.{over};
-ghost use Rattle.model.specs.Measures.{baseMeasures};
 ghost use Rattle.model.specs.Image.{imageBlocks};
 ghost use Rattle.model.specs.Turn.{turn, turning};
 ghost use Rattle.model.specs.Table.{shelfIn, pointerWord, wordToPointer};
-ghost use Rattle.place_words.specs.Words.{asOption};
-ghost use Rattle.place_words.specs.Stored.{Stored};
-ghost use Rattle.turn.specs.Turn.{WordFits, targetOf, turnWord, releasedOf, TargetOk, keptWord};
+ghost use Rattle.numbers.specs.Measures.{measuresOf};
+ghost use Rattle.shelf.specs.Stored.{Stored};
+ghost use Rattle.turn.specs.Turn.{WordFits, targetWord, targetOf, turnWord, releasedOf, TargetOk, keptWord};
 use numbers::Block;
+use numbers::Measures;
 use numbers::Pointer;
+use numbers::RecordNumber;
 
 const NO_TARGET: u32 = 0xFFFF_FFFF;
 
-// The lowest block of the image that equals a cell, or how many blocks there are.
-fn find_block(image: &[u8], cell: &[u8]) -> usize
-    requires { ⌜ (length (now image) ≤ 65536) × (length (now cell) ≡ 64) ⌝ }
-    ensures { λ r. ⌜ (asOption ((length (now (image .entry)) + 63) / 64) r ≡ firstFrom (sameNumbers (now (cell .entry))) 0 (imageBlocks 64 (now (image .entry)))) × (r ≤ (length (now (image .entry)) + 63) / 64) ⌝ }
+// The lowest block of the image that equals a cell.
+fn find_block(image: &[u8], cell: &[u8], bytes: usize) -> u32
+    requires { ⌜ (length (now image) ≤ 65536) × (length (now cell) ≡ bytes) × (64 ≤ bytes) × (bytes ≤ 512) × (bytes % 64 ≡ 0) ⌝ }
+    ensures { λ r. ⌜ r ≡ targetWord (firstFrom (sameNumbers (now (cell .entry))) 0 (imageBlocks bytes (now (image .entry)))) ⌝ }
 {
-    let count = (image.len() + 63) / 64;
+    let count = numbers::parts_for(bytes, image.len());
     let mut at: usize = 0;
     let mut n: usize = 0;
     while n < count {
-        if blocks::block_same(image, at, cell) {
-            return n;
+        if blocks::block_same(image, at, cell, bytes) {
+            return n as u32;
         }
-        at = at + 64;
+        at = at + bytes;
         n = n + 1;
     }
-    n
+    NO_TARGET
 }
 
 // The target of a pointer's word.
-fn target_of(word: u32, image: &[u8], pool: &[u8], records: &[u32]) -> u32
-    requires { ⌜ (length (now image) ≤ 65536) × Stored 4294967295 (now pool) (now records) × WordFits (length (now records) / 19) word ⌝ }
-    ensures { λ r. ⌜ r ≡ targetOf (now (image .entry)) (now (pool .entry)) (now (records .entry)) word ⌝ }
+fn target_of(word: u32, image: &[u8], pool: &[u8], records: &[u32], m: Measures) -> u32
+    requires { ⌜ (length (now image) ≤ 65536) × Stored (measuresOf m) (now pool) (now records) × WordFits (m .blocks) (length (now records)) word ⌝ }
+    ensures { λ r. ⌜ r ≡ targetOf (measuresOf m) (now (image .entry)) (now (pool .entry)) (now (records .entry)) word ⌝ }
 {
     if word / 0x100_0000 != 1 {
         return NO_TARGET;
     }
-    let place = (word % 0x100_0000) as usize;
-    let at = place / 16 * 19 + (3 + place % 16);
-    let cell = records[at] as usize;
-    let start = cell * 64;
-    let end = start + 64;
-    let n = find_block(image, &pool[start..end]);
-    if n == (image.len() + 63) / 64 {
-        return NO_TARGET;
-    }
-    n as u32
+    let place = word % 0x100_0000;
+    let cell = trace::cell_of(records, RecordNumber(place / 16), place % 16, m.blocks);
+    let start = cell.byte(m.bytes);
+    let end = start + m.bytes;
+    find_block(image, &pool[start..end], m.bytes)
 }
 
 // The target of each pointer.
@@ -62,13 +58,14 @@ pub fn find_targets(
     pool: &[u8],
     records: &[u32],
     targets: &mut [u32],
+    m: Measures,
 )
-    requires { ⌜ (length (now image) ≤ 65536) × Stored 4294967295 (now pool) (now records) × (length (now targets) ≡ length (now pointers)) × ((b : ℕ) → b < length (now pointers) → WordFits (length (now records) / 19) (getD (now pointers) b 0)) ⌝ }
-    ensures { λ _. ⌜ now (targets .exit) ≡ map (targetOf (now (image .entry)) (now (pool .entry)) (now (records .entry))) (now (pointers .entry)) ⌝ }
+    requires { ⌜ (length (now image) ≤ 65536) × Stored (measuresOf m) (now pool) (now records) × (length (now targets) ≡ length (now pointers)) × ((b : ℕ) → b < length (now pointers) → WordFits (m .blocks) (length (now records)) (getD (now pointers) b 0)) ⌝ }
+    ensures { λ _. ⌜ now (targets .exit) ≡ map (targetOf (measuresOf m) (now (image .entry)) (now (pool .entry)) (now (records .entry))) (now (pointers .entry)) ⌝ }
 {
     let mut b: usize = 0;
     while b < pointers.len() {
-        targets[b] = target_of(pointers[b], image, pool, records);
+        targets[b] = target_of(pointers[b], image, pool, records, m);
         b = b + 1;
     }
 }
@@ -131,11 +128,12 @@ pub fn turn_pointers(
     records: &[u32],
     targets: &mut [u32],
     out: &mut [u32],
+    m: Measures,
 ) -> usize
-    requires { ⌜ (length (now image) ≤ 65536) × Stored 4294967295 (now pool) (now records) × (length (now targets) ≡ length (now pointers)) × (length (now pointers) ≤ length (now out)) × ((b : ℕ) → b < length (now pointers) → WordFits (length (now records) / 19) (getD (now pointers) b 0)) ⌝ }
-    ensures { λ r. ⌜ (now (pointers .exit) ≡ map pointerWord (turn (shelfIn baseMeasures (now (pool .entry)) (now (records .entry))) (imageBlocks 64 (now (image .entry))) (map wordToPointer (now (pointers .entry))))) × (take r (now (out .exit)) ≡ map pointerWord (turning (shelfIn baseMeasures (now (pool .entry)) (now (records .entry))) (imageBlocks 64 (now (image .entry))) (map wordToPointer (now (pointers .entry))))) × (r ≤ length (now (pointers .entry))) ⌝ }
+    requires { ⌜ (length (now image) ≤ 65536) × Stored (measuresOf m) (now pool) (now records) × (length (now targets) ≡ length (now pointers)) × (length (now pointers) ≤ length (now out)) × ((b : ℕ) → b < length (now pointers) → WordFits (m .blocks) (length (now records)) (getD (now pointers) b 0)) ⌝ }
+    ensures { λ r. ⌜ (now (pointers .exit) ≡ map pointerWord (turn (shelfIn (measuresOf m) (now (pool .entry)) (now (records .entry))) (imageBlocks (m .bytes) (now (image .entry))) (map wordToPointer (now (pointers .entry))))) × (take r (now (out .exit)) ≡ map pointerWord (turning (shelfIn (measuresOf m) (now (pool .entry)) (now (records .entry))) (imageBlocks (m .bytes) (now (image .entry))) (map wordToPointer (now (pointers .entry))))) × (r ≤ length (now (pointers .entry))) ⌝ }
 {
-    find_targets(pointers, image, pool, records, targets);
+    find_targets(pointers, image, pool, records, targets, m);
     let r = list_released(pointers, targets, out);
     turn_words(pointers, targets);
     r

@@ -12,6 +12,7 @@ const SEED: u64 = 1;
 /// Pool and table, before each timed call.
 pub struct Kept {
     pub name: &'static str,
+    pub capacities: Capacities,
     pub pool: Vec<u8>,
     pub table: Vec<u32>,
 }
@@ -35,11 +36,11 @@ pub struct Case {
 }
 
 impl Kept {
-    fn empty(name: &'static str) -> Kept {
-        let [_, words] = Twin.table_length(Capacities::LARGEST);
-        let (mut pool, mut table) = (vec![0; Capacities::LARGEST.pool_bytes()], vec![0; words as usize]);
-        Twin.lay_out(&mut pool, &mut table, Capacities::LARGEST);
-        Kept { name, pool, table }
+    fn empty(name: &'static str, capacities: Capacities) -> Kept {
+        let [_, words] = Twin.table_length(capacities);
+        let (mut pool, mut table) = (vec![0; capacities.pool_bytes()], vec![0; words as usize]);
+        Twin.lay_out(&mut pool, &mut table, capacities);
+        Kept { name, capacities, pool, table }
     }
 
     fn backup(&mut self, till: usize, image: &[u8]) {
@@ -47,15 +48,37 @@ impl Kept {
         assert_eq!(refusal, 0, "a backup in making the {} store", self.name);
     }
 
-    /// 64 closings of each till but one of till 0, so that it has room for one more.
-    fn closings(mut self, mut next: impl FnMut(usize) -> Vec<u8>) -> Kept {
-        for till in 0..64 * 16 {
-            let image = next(till % 16);
-            self.backup(till % 16, &image);
+    /// 64 closings of so many tills but one of till 0, so that it has room for one more.
+    fn closings(mut self, tills: usize, mut next: impl FnMut(usize) -> Vec<u8>) -> Kept {
+        for n in 0..64 * tills {
+            let image = next(n % tills);
+            self.backup(n % tills, &image);
         }
         assert_eq!(Twin.retire(&mut self.pool, &mut self.table, 0, 1)[0], 0);
         self
     }
+
+    /// A shop's closings, and the next one of till 0.
+    fn of_shop(name: &'static str, capacities: Capacities) -> (Rc<Kept>, Vec<u8>) {
+        let mut shop = Shop::new(SEED, 16);
+        let kept = Kept::empty(name, capacities).closings(16, |till| shop.close(till).to_vec());
+        (Rc::new(kept), shop.close(0).to_vec())
+    }
+
+    /// Closings with nothing shared, and the next one of till 0.
+    fn of_dense(name: &'static str, capacities: Capacities, fill: Fill) -> (Rc<Kept>, Vec<u8>) {
+        let segment = capacities.block_bytes * capacities.segment_blocks;
+        let mut dense = Dense::new(SEED, fill.tills, fill.length, segment as usize, fill.changes);
+        let kept = Kept::empty(name, capacities).closings(fill.tills, |till| dense.close(till).to_vec());
+        (Rc::new(kept), dense.close(0).to_vec())
+    }
+}
+
+/// How a store is filled: how many tills, how long their images, how many new segments at each closing.
+struct Fill {
+    tills: usize,
+    length: usize,
+    changes: usize,
 }
 
 impl fmt::Display for Kept {
@@ -65,19 +88,37 @@ impl fmt::Display for Kept {
     }
 }
 
-/// The cases of each store.
-pub fn all() -> [Vec<Case>; 3] {
-    let empty = Rc::new(Kept::empty("empty"));
-    let mut shop = Shop::new(SEED, 16);
-    let typical = Rc::new(Kept::empty("typical").closings(|till| shop.close(till).to_vec()));
-    let mut dense = Dense::new(SEED, 16, 65_536, 2);
-    let full = Rc::new(Kept::empty("full").closings(|till| dense.close(till).to_vec()));
-    let closing = shop.close(0).to_vec();
-    let long = dense.close(0).to_vec();
+/// The cases of each store: those of the page's measures, then large blocks and segments, then small segments.
+pub fn all() -> Vec<Vec<Case>> {
+    [page_cases(), large_cases(), small_cases()].into_iter().flatten().collect()
+}
 
+fn page_cases() -> Vec<Vec<Case>> {
+    let empty = Rc::new(Kept::empty("empty", Capacities::LARGEST));
+    let (typical, closing) = Kept::of_shop("typical", Capacities::LARGEST);
+    let fill = Fill { tills: 16, length: 65_536, changes: 2 };
+    let (full, long) = Kept::of_dense("full", Capacities::LARGEST, fill);
     let mut of_full = of_store(&full, &long[..LENGTH], true);
     of_full.push(Case { store: full, what: What::Backup { image: long }, passes: None });
-    [of_store(&empty, &closing, false), of_store(&typical, &closing, false), of_full]
+    vec![of_store(&empty, &closing, false), of_store(&typical, &closing, false), of_full]
+}
+
+/// Blocks of 512 bytes, 16 to a segment. A 16th till would ask for more cells than there are.
+fn large_cases() -> Vec<Vec<Case>> {
+    let capacities = Capacities::largest([512, 16, 20]);
+    let (typical, closing) = Kept::of_shop("typical, 512 × 16", capacities);
+    let fill = Fill { tills: 15, length: 65_536, changes: 2 };
+    let (full, long) = Kept::of_dense("full, 512 × 16", capacities, fill);
+    vec![of_store(&typical, &closing, false), of_store(&full, &long[..LENGTH], false)]
+}
+
+/// Blocks of 64 bytes, 4 to a segment. Longer images would ask for more records than there are.
+fn small_cases() -> Vec<Vec<Case>> {
+    let capacities = Capacities::largest([64, 4, 20]);
+    let (typical, closing) = Kept::of_shop("typical, 64 × 4", capacities);
+    let fill = Fill { tills: 16, length: 49_152, changes: 1 };
+    let (full, long) = Kept::of_dense("full, 64 × 4", capacities, fill);
+    vec![of_store(&typical, &closing, false), of_store(&full, &long[..LENGTH], false)]
 }
 
 fn of_store(store: &Rc<Kept>, closing: &[u8], targets: bool) -> Vec<Case> {
@@ -115,12 +156,15 @@ impl What {
     pub fn writes(&self) -> bool {
         matches!(self, What::LayOut | What::Retire { .. } | What::Backup { .. })
     }
+}
 
+impl Case {
     /// Makes the call once; its answer's refusal.
     pub fn make(&self, store: &dyn Calls, pool: &mut [u8], table: &mut [u32], output: &mut [u8]) -> u32 {
-        match self {
-            What::TableLength => store.table_length(std::hint::black_box(Capacities::LARGEST))[0],
-            What::LayOut => store.lay_out(pool, table, Capacities::LARGEST)[0],
+        let capacities = self.store.capacities;
+        match &self.what {
+            What::TableLength => store.table_length(std::hint::black_box(capacities))[0],
+            What::LayOut => store.lay_out(pool, table, capacities)[0],
             What::Listing => store.listing(pool, table, 0)[0],
             What::Tally => store.tally(pool, table)[0],
             What::Restore { version, room } => store.restore(pool, table, 0, *version, &mut output[..*room])[0],

@@ -70,7 +70,7 @@ fn once(case: &Case, store: &dyn Calls, work: &mut Work) -> (u32, Duration) {
     let mut refusal = 0;
     let start = Instant::now();
     for _ in 0..times {
-        refusal = black_box(case.what.make(store, &mut work.pool, &mut work.table, &mut work.output));
+        refusal = black_box(case.make(store, &mut work.pool, &mut work.table, &mut work.output));
     }
     (refusal, start.elapsed() / times)
 }

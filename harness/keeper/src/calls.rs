@@ -4,7 +4,7 @@ use crate::images::Images;
 use crate::whole::Till;
 use crate::{Keeper, Random};
 use std::fmt;
-use terms::{Capacities, BLOCK, LAST_NUMBER};
+use terms::{Capacities, BLOCK_BYTES, LAST_NUMBER, SEGMENT_BLOCKS};
 
 #[derive(Clone)]
 pub enum Call {
@@ -47,7 +47,7 @@ pub struct List {
 
 impl List {
     pub fn new(random: &mut Random, capacities: Capacities, style: Style) -> List {
-        List { capacities, style, images: Images::new(random, capacities.blocks as usize, style.kinds) }
+        List { capacities, style, images: Images::new(random, capacities, style.kinds) }
     }
 
     pub fn next(&self, random: &mut Random, keeper: &Keeper) -> Call {
@@ -85,9 +85,10 @@ impl List {
     fn restore(&self, random: &mut Random, number: u32, till: &Till, wrong: bool) -> Call {
         let version = if wrong { any_version(random, till) } else { held_version(random, till) };
         let length = till.held.get(&version).map_or(0, Vec::len);
+        let block = self.capacities.block_bytes as usize;
         let room = match random.below(6) {
-            0 => length.saturating_sub(1 + random.below(BLOCK)),
-            1 => length + random.below(3 * BLOCK),
+            0 => length.saturating_sub(1 + random.below(block)),
+            1 => length + random.below(3 * block),
             2 => self.capacities.image_bytes(),
             _ => length,
         };
@@ -96,18 +97,26 @@ impl List {
 
     /// The store's capacities but for one of them.
     fn capacities_near(&self, random: &mut Random) -> Capacities {
-        let mut five = self.capacities.to_array();
-        let one = random.below(5);
-        let largest = Capacities::LARGEST.to_array()[one];
-        five[one] = *random.pick(&[0, 1, largest, largest + 1, u32::MAX, five[one] + 1]);
-        let [tills, versions, blocks, records, cells] = five;
-        Capacities::new(tills, versions, blocks, records, cells)
+        let mut eight = self.capacities.to_array();
+        let one = random.below(eight.len());
+        let next = eight[one] + 1;
+        eight[one] = match one {
+            5 => *random.pick(&[&BLOCK_BYTES[..], &[0, 32, 96, 1_024, next, u32::MAX]].concat()),
+            6 => *random.pick(&[&SEGMENT_BLOCKS[..], &[0, 2, 12, 32, next, u32::MAX]].concat()),
+            7 => *random.pick(&[0, 20, 100, 101, next, u32::MAX]),
+            _ => {
+                let largest = Capacities::largest(self.capacities.measures()).to_array()[one];
+                *random.pick(&[0, 1, largest, largest + 1, next, u32::MAX])
+            }
+        };
+        Capacities::from_array(eight)
     }
 
     /// A laying out that the store's own buffers do not fit.
     fn refused_lay_out(&self, random: &mut Random) -> Call {
         let capacities = self.capacities_near(random);
-        if capacities == self.capacities {
+        let lengths = |capacities: Capacities| (capacities.pool_bytes(), capacities.table_words());
+        if capacities.in_range() && lengths(capacities) == lengths(self.capacities) {
             Call::Tally
         } else {
             Call::LayOut(capacities)

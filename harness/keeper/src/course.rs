@@ -44,8 +44,7 @@ impl Course {
 
     /// Starts from a sound store, whatever calls it may come from; the keeper gets what the first of the stores has.
     pub fn from_store(pool: &[u8], table: &[u32], stores: Vec<Box<dyn Calls>>) -> Course {
-        let [tills, versions, blocks, records, cells] = [0, 1, 2, 3, 4].map(|n| table[n]);
-        let capacities = Capacities::new(tills, versions, blocks, records, cells);
+        let capacities = Capacities::of_table(table).expect("a sound store");
         let keeper = keeper_of(stores[0].as_ref(), pool, table, capacities);
         let lane = |store| Lane { store, pool: pool.to_vec(), table: table.to_vec() };
         Course::start(capacities, stores.into_iter().map(lane).collect(), keeper)
@@ -80,8 +79,7 @@ impl Course {
         self.made += 1;
         self.accepted += accepted as usize;
         if accepted && matches!(call, Call::Backup { .. } | Call::Retire { .. }) {
-            let records = self.table.len() - 19 * self.capacities.records as usize;
-            self.events += Events::between(&self.table[records..], &self.lanes[0].table[records..]);
+            self.events += Events::between(&self.table, &self.lanes[0].table, self.capacities);
             self.pool.copy_from_slice(&self.lanes[0].pool);
             self.table.copy_from_slice(&self.lanes[0].table);
         }
@@ -129,7 +127,8 @@ impl Course {
                 assert_eq!(answer[1..], [listing.oldest, listing.newest, listing.last], "{}", self.place(call));
             }
             Call::Tally => {
-                let cells = self.pool.chunks(64).filter(|cell| cell.iter().any(|&byte| byte != 0)).count();
+                let cells = self.pool.chunks(self.capacities.block_bytes as usize);
+                let cells = cells.filter(|cell| cell.iter().any(|&byte| byte != 0)).count();
                 assert_eq!(answer[1] as usize, cells, "{}", self.place(call));
             }
             Call::TableLength(_) | Call::LayOut(_) => {}

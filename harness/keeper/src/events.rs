@@ -2,6 +2,7 @@
 //! lists went every way of the method.
 
 use std::ops::AddAssign;
+use terms::Capacities;
 
 #[derive(Clone, Copy, Debug, Default, PartialEq, Eq)]
 pub struct Events {
@@ -35,27 +36,31 @@ impl Events {
         [self.taken, self.shared, self.cleared, self.rebuilt, self.stuck, self.freed]
     }
 
-    /// From the records' words before and after a call.
-    pub fn between(before: &[u32], after: &[u32]) -> Events {
+    /// From the table before and after a call.
+    pub fn between(before: &[u32], after: &[u32], capacities: Capacities) -> Events {
+        let words = capacities.record_words();
+        let at = before.len() - words * capacities.records as usize;
         let mut events = Events::default();
-        for (old, new) in before.chunks(19).zip(after.chunks(19)).filter(|(old, new)| old != new) {
-            events += one(old, new);
+        for (old, new) in before[at..].chunks(words).zip(after[at..].chunks(words)).filter(|(old, new)| old != new) {
+            events += one(old, new, capacities);
         }
         events
     }
 }
 
-fn one(old: &[u32], new: &[u32]) -> Events {
+fn one(old: &[u32], new: &[u32], capacities: Capacities) -> Events {
+    let positions = capacities.segment_blocks as usize;
     let (held, kept) = (old[0], old[0] & new[0]);
     let (s, r) = (held.count_ones(), (held & !new[0]).count_ones());
-    let moved = (0..8).any(|i| kept >> i & 1 == 1 && old[3 + i] != new[3 + i]);
-    let more = (0..8).any(|i| new[11 + i] > old[11 + i]);
+    let few = 100 * r < capacities.rebuild_percent * s;
+    let moved = (0..positions).any(|i| kept >> i & 1 == 1 && old[3 + i] != new[3 + i]);
+    let more = (3 + positions..old.len()).any(|n| new[n] > old[n]);
     Events {
         taken: (held == 0) as usize,
         shared: (held != 0 && more) as usize,
-        cleared: (r > 0 && 5 * r < s) as usize,
+        cleared: (r > 0 && kept != 0 && few) as usize,
         rebuilt: (r > 0 && kept != 0 && moved) as usize,
-        stuck: (5 * r >= s && r > 0 && kept != 0 && !moved) as usize,
+        stuck: (r > 0 && kept != 0 && !few && !moved) as usize,
         freed: (held != 0 && new[0] == 0) as usize,
     }
 }

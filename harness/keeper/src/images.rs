@@ -2,43 +2,52 @@
 //! within an image, from version to version and from till to till.
 
 use crate::Random;
-use terms::{BLOCK, SEGMENT};
+use terms::Capacities;
 
-type Block = [u8; BLOCK];
+type Block = Vec<u8>;
 
+/// Images of the store's blocks and segments.
 pub struct Images {
     palette: Vec<Block>,
     blocks: usize,
+    bytes: usize,
+    segment: usize,
 }
 
 impl Images {
-    /// Images of up to so many blocks, from so many different ones.
-    pub fn new(random: &mut Random, blocks: usize, kinds: usize) -> Images {
-        Images { palette: (0..kinds).map(|n| block(random, n)).collect(), blocks }
+    /// Images for a store of these capacities, from so many different blocks.
+    pub fn new(random: &mut Random, capacities: Capacities, kinds: usize) -> Images {
+        let [blocks, bytes, segment] =
+            [capacities.blocks, capacities.block_bytes, capacities.segment_blocks].map(|one| one as usize);
+        Images { palette: (0..kinds).map(|n| block(random, n, bytes)).collect(), blocks, bytes, segment }
     }
 
     /// A till's next image, often near to its previous one or to another till's.
     pub fn next(&self, random: &mut Random, previous: Option<&[u8]>, other: Option<&[u8]>) -> Vec<u8> {
         let mut image = match (random.below(10), previous, other) {
             (0, _, _) | (_, None, None) => self.fresh(random),
-            (1, _, Some(other)) | (_, None, Some(other)) => blocks_of(other),
-            (_, Some(previous), _) => blocks_of(previous),
+            (1, _, Some(other)) | (_, None, Some(other)) => blocks_of(other, self.bytes),
+            (_, Some(previous), _) => blocks_of(previous, self.bytes),
         };
         for _ in 0..random.below(4) {
             self.change(random, &mut image);
         }
         let mut bytes = image.concat();
         if random.percent(35) {
-            bytes.truncate(bytes.len() - random.below(BLOCK));
+            bytes.truncate(bytes.len() - random.below(self.bytes));
         }
         bytes
     }
 
+    fn null(&self) -> Block {
+        vec![0; self.bytes]
+    }
+
     fn one(&self, random: &mut Random) -> Block {
         if random.percent(12) {
-            [0; BLOCK]
+            self.null()
         } else {
-            *random.pick(&self.palette)
+            random.pick(&self.palette).clone()
         }
     }
 
@@ -49,7 +58,7 @@ impl Images {
     fn fresh(&self, random: &mut Random) -> Vec<Block> {
         let count = random.between(1, self.blocks);
         match random.below(8) {
-            0 => vec![[0; BLOCK]; count],
+            0 => vec![self.null(); count],
             1 => vec![self.one(random); count],
             _ => self.some(random, count),
         }
@@ -58,38 +67,38 @@ impl Images {
     /// One of the things that happen to an image between closings.
     fn change(&self, random: &mut Random, image: &mut Vec<Block>) {
         let at = random.below(image.len());
-        let segment = at - at % SEGMENT;
-        let end = image.len().min(segment + SEGMENT);
+        let segment = at - at % self.segment;
+        let end = image.len().min(segment + self.segment);
         match random.below(9) {
             0 | 1 => image[at] = self.one(random),
-            2 => image[at] = block(random, 3),
-            3 => image[segment..end].copy_from_slice(&self.some(random, end - segment)),
+            2 => image[at] = block(random, 3, self.bytes),
+            3 => image[segment..end].clone_from_slice(&self.some(random, end - segment)),
             4 => image.extend_from_within(segment..end),
-            5 => image.extend(self.some(random, SEGMENT)),
+            5 => image.extend(self.some(random, self.segment)),
             6 => image.rotate_left(at),
             7 => image.truncate(at + 1),
-            _ => image[segment..end].fill([0; BLOCK]),
+            _ => image[segment..end].fill(self.null()),
         }
         image.truncate(self.blocks);
     }
 }
 
-/// An image's blocks, the last filled up with zeros.
-pub fn blocks_of(image: &[u8]) -> Vec<Block> {
-    let whole = |bytes: &[u8]| std::array::from_fn(|i| bytes.get(i).copied().unwrap_or(0));
-    image.chunks(BLOCK).map(whole).collect()
+/// An image's blocks of so many bytes, the last filled up with zeros.
+pub fn blocks_of(image: &[u8], bytes: usize) -> Vec<Block> {
+    let whole = |part: &[u8]| [part, &vec![0; bytes - part.len()]].concat();
+    image.chunks(bytes).map(whole).collect()
 }
 
 /// A block that is not null, of one of four sorts: a letter throughout, one byte at the start, one at the end, any.
-fn block(random: &mut Random, sort: usize) -> Block {
+fn block(random: &mut Random, sort: usize, bytes: usize) -> Block {
     let byte = random.between(1, 255) as u8;
-    let mut block = [0; BLOCK];
+    let mut block = vec![0; bytes];
     match sort % 4 {
         0 => block.fill(byte),
         1 => block[0] = byte,
-        2 => block[BLOCK - 1] = byte,
-        _ => random.fill(&mut block[..]),
+        2 => block[bytes - 1] = byte,
+        _ => random.fill(&mut block),
     }
-    block[0] |= (block == [0; BLOCK]) as u8;
+    block[0] |= block.iter().all(|&byte| byte == 0) as u8;
     block
 }

@@ -9,7 +9,9 @@ pub mod dense;
 pub mod events;
 pub mod images;
 pub mod inspect;
+pub mod settings;
 pub mod sketch;
+pub mod trial;
 pub mod whole;
 
 mod random;

@@ -1,5 +1,10 @@
 //! Pseudo-random numbers from a seed (SplitMix64), the same on every machine.
 
+use terms::{BLOCK_BYTES, SEGMENT_BLOCKS};
+
+/// Percentages at which a removal of few positions, or of most, just goes the one way or the other.
+const PERCENTAGES: [u32; 14] = [0, 6, 7, 12, 13, 20, 25, 26, 50, 51, 75, 88, 99, 100];
+
 pub struct Random(u64);
 
 impl Random {
@@ -37,8 +42,14 @@ impl Random {
         bytes.chunks_mut(8).for_each(|some| some.copy_from_slice(&self.number().to_le_bytes()[..some.len()]));
     }
 
+    /// Any measures that a store can have: block bytes, segment blocks, rebuild percentage.
+    pub fn measures(&mut self) -> [u32; 3] {
+        let percentage = if self.percent(60) { *self.pick(&PERCENTAGES) } else { self.below(101) as u32 };
+        [*self.pick(&BLOCK_BYTES), *self.pick(&SEGMENT_BLOCKS), percentage]
+    }
+
     /// A number that is often at the edge of something.
     pub fn edge(&mut self) -> u32 {
-        *self.pick(&[0, 1, 2, 63, 64, 65, 1_023, 1_024, 65_535, 65_536, 1 << 24, 2 << 24, 3 << 24, u32::MAX])
+        *self.pick(&[0, 1, 2, 8, 63, 64, 65, 128, 1_023, 1_024, 65_535, 65_536, 1 << 24, 2 << 24, 3 << 24, u32::MAX])
     }
 }

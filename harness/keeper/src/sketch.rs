@@ -2,7 +2,7 @@
 //! direct pointers where indirect ones would do, numbers that begin anywhere.
 
 use crate::Random;
-use terms::{Capacities, BLOCK, LAST_NUMBER, SEGMENT};
+use terms::{Capacities, LAST_NUMBER};
 
 #[derive(Clone, Copy, PartialEq)]
 enum Position {
@@ -31,15 +31,16 @@ struct Till {
 
 struct Sketch {
     capacities: Capacities,
-    records: Vec<[Position; SEGMENT]>,
+    records: Vec<Vec<Position>>,
     tills: Vec<Till>,
     pool: Vec<u8>,
 }
 
-/// A small sound store: its pool and its table.
+/// A small sound store of any measures: its pool and its table.
 pub fn sound_store(random: &mut Random) -> (Vec<u8>, Vec<u32>) {
+    let measures = random.measures();
     let mut upto = |most| random.between(1, most) as u32;
-    let capacities = Capacities::new(upto(3), upto(4), upto(20), upto(7), upto(56));
+    let capacities = Capacities::new(upto(3), upto(4), upto(20), upto(7), upto(56)).measured(measures);
     let mut sketch = Sketch { capacities, records: vec![], tills: vec![], pool: vec![0; capacities.pool_bytes()] };
     sketch.draw_records(random);
     sketch.tills = (0..capacities.tills).map(|_| sketch.draw_till(random)).collect();
@@ -51,6 +52,11 @@ pub fn sound_store(random: &mut Random) -> (Vec<u8>, Vec<u32>) {
 }
 
 impl Sketch {
+    /// Bytes of a block.
+    fn bytes(&self) -> usize {
+        self.capacities.block_bytes as usize
+    }
+
     /// Records with positions of each kind, held ones in cells of any order, all counts 0.
     fn draw_records(&mut self, random: &mut Random) {
         let mut cells: Vec<usize> = (0..self.capacities.cells as usize).collect();
@@ -62,7 +68,7 @@ impl Sketch {
                 _ if random.percent(removed) => Position::Removed,
                 _ => Position::Null,
             };
-            self.records.push(std::array::from_fn(&mut draw));
+            self.records.push((0..self.capacities.segment_blocks).map(&mut draw).collect());
         }
     }
 
@@ -80,12 +86,12 @@ impl Sketch {
 
     fn draw_version(&self, random: &mut Random, newer: &[Pointer]) -> Version {
         let length = random.between(1, self.capacities.image_bytes());
-        let length = if random.percent(50) { length.next_multiple_of(BLOCK) } else { length };
+        let length = if random.percent(50) { length.next_multiple_of(self.bytes()) } else { length };
         let (directs, indirects) = (random.below(101), random.below(101));
         let named: Vec<usize> = (0..newer.len()).filter(|&n| newer[n] != Pointer::Null).collect();
         let held = |k: usize, i: usize| matches!(self.records[k][i], Position::Held { .. });
         let mut draw = || {
-            let (k, i) = (random.below(self.records.len()), random.below(SEGMENT));
+            let (k, i) = (random.below(self.records.len()), random.below(self.records[0].len()));
             if !named.is_empty() && random.percent(indirects) {
                 Pointer::Indirect(*random.pick(&named))
             } else if held(k, i) && random.percent(directs) {
@@ -94,7 +100,7 @@ impl Sketch {
                 Pointer::Null
             }
         };
-        Version { length, pointers: (0..length.div_ceil(BLOCK)).map(|_| draw()).collect() }
+        Version { length, pointers: (0..length.div_ceil(self.bytes())).map(|_| draw()).collect() }
     }
 
     /// Counts every direct pointer.
@@ -118,7 +124,7 @@ impl Sketch {
                 }
             }
             if !record.iter().any(|position| matches!(position, Position::Held { .. })) {
-                *record = [Position::Null; SEGMENT];
+                record.fill(Position::Null);
             }
         }
     }
@@ -126,17 +132,18 @@ impl Sketch {
     /// Few different blocks, so that cells and records come out equal; zero after the ends of versions.
     fn fill_cells(&mut self, random: &mut Random) {
         let (letters, alike) = (random.between(1, 4), random.percent(50));
+        let (bytes, positions) = (self.bytes(), self.capacities.segment_blocks as usize);
         for (n, position) in self.records.iter().flatten().enumerate() {
             if let Position::Held { cell, .. } = *position {
-                let letter = if alike { n % SEGMENT % letters } else { random.below(letters) };
-                self.pool[BLOCK * cell..BLOCK * (cell + 1)].fill(b'a' + letter as u8);
+                let letter = if alike { n % positions % letters } else { random.below(letters) };
+                self.pool[bytes * cell..bytes * (cell + 1)].fill(b'a' + letter as u8);
             }
         }
         for till in &self.tills {
             for (n, version) in till.versions.iter().enumerate() {
                 let traced = self.trace(till, n, version.pointers.len() - 1);
-                if let (Some(cell), tail @ 1..) = (traced, version.length % BLOCK) {
-                    self.pool[BLOCK * cell + tail..BLOCK * (cell + 1)].fill(0);
+                if let (Some(cell), tail @ 1..) = (traced, version.length % bytes) {
+                    self.pool[bytes * cell + tail..bytes * (cell + 1)].fill(0);
                 }
             }
         }
@@ -156,7 +163,7 @@ impl Sketch {
     /// The table's words.
     fn words(&self) -> Vec<u32> {
         let [_, versions, blocks, ..] = self.capacities.to_array().map(|one| one as usize);
-        let mut words = [&self.capacities.to_array()[..], &[0; 3]].concat();
+        let mut words = self.capacities.header().to_vec();
         for till in &self.tills {
             let held = till.versions.len() as u32;
             words.extend([till.last, held, 0, 0]);
@@ -180,15 +187,16 @@ fn pointer_word(pointer: &Pointer) -> u32 {
     }
 }
 
-fn record_words(record: &[Position; SEGMENT]) -> [u32; 19] {
-    let mut words = [0; 19];
+fn record_words(record: &[Position]) -> Vec<u32> {
+    let positions = record.len();
+    let mut words = vec![0; 3 + 2 * positions];
     for (i, position) in record.iter().enumerate() {
         match *position {
             Position::Null => {}
             Position::Removed => words[1] |= 1 << i,
             Position::Held { cell, count } => {
                 words[0] |= 1 << i;
-                (words[3 + i], words[11 + i]) = (cell as u32, count);
+                (words[3 + i], words[3 + positions + i]) = (cell as u32, count);
             }
         }
     }

@@ -52,7 +52,7 @@ impl Refusal {
             Refusal::Capacity => "a capacity outside its range",
             Refusal::Lengths => "in laying out, pool or table of another length than needed",
             Refusal::NoSuchTill => "till number not below the tills",
-            Refusal::ImageLength => "image empty, or longer than 64 × blocks per image",
+            Refusal::ImageLength => "image empty, or longer than block size × blocks per image",
             Refusal::ShortOutput => "output shorter than the version",
             Refusal::Unsound => "pool and table are not a sound store",
             Refusal::TillFull => "the till holds its full number of versions",

@@ -4,7 +4,7 @@ use crate::arguments::Named;
 use crate::names::{quoted, shown};
 use crate::words::counted;
 use crate::{image, Failure};
-use lurdempos::{Capacities, Listing, Refusal, Store, BLOCK, LAST_NUMBER, SEGMENT};
+use lurdempos::{Capacities, Listing, Refusal, Store, LAST_NUMBER, LONGEST_IMAGE};
 use std::collections::HashSet;
 use std::path::Path;
 
@@ -65,11 +65,11 @@ impl<'a> Call<'a> {
     }
 
     fn image_length(&self) -> (String, String) {
-        let (most, any) = (self.store.capacities().image_bytes(), Capacities::LARGEST.image_bytes());
+        let most = self.store.capacities().image_bytes();
         let length = image::length(self.image);
         let advice = format!(
             "see that the image is the till's whole memory and nothing else; \
-             for longer images make a store with `lurdempos init --image-bytes` (at most {any})."
+             for longer images make a store with `lurdempos init --image-bytes` (at most {LONGEST_IMAGE})."
         );
         (format!("the image has {length}, this store takes 1 to {most}"), advice)
     }
@@ -116,7 +116,7 @@ impl<'a> Call<'a> {
             _ => (counted(cells, "cell"), "--cells", cells == Capacities::LARGEST.cells),
         };
         if self.store.tally().is_ok_and(|tally| tally.cells == 0) {
-            let need = Need::of(self.image);
+            let need = Need::of(self.image, self.store.capacities());
             let here = format!("the store is empty, and its {what} are too few for this image alone");
             let advice = format!(
                 "make a store with at least `--records {} --cells {}`, which this image takes.",
@@ -149,9 +149,11 @@ pub struct Need {
 
 impl Need {
     /// A segment of zeros takes nothing, one that comes again nothing more.
-    pub fn of(image: &[u8]) -> Need {
-        let cells = |segment: &[u8]| segment.chunks(BLOCK).filter(|block| block.iter().any(|&byte| byte != 0)).count();
-        let different: HashSet<Vec<u8>> = image.chunks(BLOCK * SEGMENT).map(filled_up).collect();
+    pub fn of(image: &[u8], capacities: Capacities) -> Need {
+        let block = capacities.block_bytes as usize;
+        let segment = block * capacities.segment_blocks as usize;
+        let cells = |segment: &[u8]| segment.chunks(block).filter(|block| block.iter().any(|&byte| byte != 0)).count();
+        let different: HashSet<Vec<u8>> = image.chunks(segment).map(|some| filled_up(some, segment)).collect();
         let taken = different.iter().map(|segment| cells(segment)).filter(|&cells| cells > 0);
         taken.fold(Need { records: 0, cells: 0 }, |need, cells| Need {
             records: need.records + 1,
@@ -159,16 +161,17 @@ impl Need {
         })
     }
 
-    /// The most that an image of so many blocks can take.
-    pub fn of_blocks(blocks: u32) -> Need {
-        Need { records: (blocks as usize).div_ceil(SEGMENT), cells: blocks as usize }
+    /// The most that an image can take.
+    pub fn of_longest(capacities: Capacities) -> Need {
+        let Capacities { blocks, segment_blocks, .. } = capacities;
+        Need { records: blocks.div_ceil(segment_blocks) as usize, cells: blocks as usize }
     }
 }
 
 /// A segment whose missing bytes are zero.
-fn filled_up(segment: &[u8]) -> Vec<u8> {
+fn filled_up(segment: &[u8], bytes: usize) -> Vec<u8> {
     let mut segment = segment.to_vec();
-    segment.resize(BLOCK * SEGMENT, 0);
+    segment.resize(bytes, 0);
     segment
 }
 

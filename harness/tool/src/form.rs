@@ -4,7 +4,7 @@
 use crate::checksum::crc32c;
 use crate::ranges;
 use crate::words::counted;
-use lurdempos::{table_length, Capacities};
+use lurdempos::{Capacities, BLOCK_BYTES, SEGMENT_BLOCKS};
 use std::fmt;
 use std::ops::Range;
 
@@ -107,9 +107,8 @@ impl Parts {
             return Err(Misfit::Form { found: form });
         }
         let [pool, table] = [16, 24].map(|at| u64::from(word(head, at)) | u64::from(word(head, at + 4)) << 32);
-        // Measured against the largest store first: only then can no sum overflow.
-        let (most_pool, most_table) = largest_parts();
-        if pool > most_pool || table > most_table {
+        // Measured against the largest stores first: only then can no sum overflow.
+        if !largest_parts().any(|most| pool <= most.pool as u64 && table <= most.table as u64) {
             return Err(Misfit::Parts { pool, table });
         }
         Ok(Parts { form, pool: pool as usize, table: table as usize })
@@ -162,16 +161,22 @@ pub fn is_store(bytes: &[u8]) -> bool {
     bytes.starts_with(MAGIC)
 }
 
-/// Bytes of the pool and words of the table of the largest store.
-fn largest_parts() -> (u64, u64) {
-    let words = table_length(Capacities::LARGEST).unwrap_or(0);
-    (Capacities::LARGEST.pool_bytes() as u64, words as u64)
+/// The parts of the largest store of each block size and segment: larger blocks make the pool larger, but the table
+/// smaller.
+fn largest_parts() -> impl Iterator<Item = Parts> {
+    let measures = BLOCK_BYTES.into_iter().flat_map(|bytes| SEGMENT_BLOCKS.map(|blocks| [bytes, blocks, 0]));
+    let largest = measures.map(Capacities::largest);
+    largest.map(|capacities| Parts::new(capacities.pool_bytes(), capacities.table_words()))
+}
+
+/// Bytes of the largest pool.
+pub fn largest_pool() -> usize {
+    largest_parts().map(|parts| parts.pool).max().unwrap_or(0)
 }
 
 /// Bytes of the largest store's file.
 pub fn largest() -> u64 {
-    let (pool, table) = largest_parts();
-    Parts::new(pool as usize, table as usize).length() as u64
+    largest_parts().map(|parts| parts.length() as u64).max().unwrap_or(0)
 }
 
 /// The file of a pool and a table, made in the pool's own memory: new memory costs more time than all else here.
@@ -236,7 +241,13 @@ pub fn number(four: &[u8]) -> Option<u32> {
 
 #[cfg(test)]
 mod tests {
-    use super::{decode, encode, Parts};
+    use super::{decode, encode, largest, largest_pool, Parts};
+
+    /// As docs/FORMAT.md has them.
+    #[test]
+    fn the_largest_file() {
+        assert_eq!((largest_pool(), largest()), (16_777_216, 18_027_304));
+    }
 
     /// Every single bit that flips, wherever it is, is noticed.
     #[test]

@@ -45,7 +45,7 @@ pub fn of(command: &Command) -> String {
 
 /// Options, each in a line.
 fn listed<'a>(options: impl Iterator<Item = &'a Opt>) -> String {
-    options.map(|option| format!("  {:<16}  {}\n", option.shown(), option.about)).collect()
+    options.map(|option| format!("  {:<19}  {}\n", option.shown(), option.about)).collect()
 }
 
 pub fn version() -> String {

@@ -5,14 +5,14 @@ use crate::names::shown;
 use crate::target::cannot_read;
 use crate::words::bytes;
 use crate::Failure;
-use lurdempos::Capacities;
+use lurdempos::LONGEST_IMAGE;
 use std::fs::File;
 use std::io::{self, Read};
 use std::path::Path;
 
 /// The image in a file, or on standard input for `-`; or its beginning if it is longer than any store takes.
 pub fn read(path: &Path) -> Result<Vec<u8>, Failure> {
-    let most = Capacities::LARGEST.image_bytes() as u64 + 1;
+    let most = u64::from(LONGEST_IMAGE) + 1;
     let mut image = Vec::new();
     let read = if is_input(path) {
         io::stdin().lock().take(most).read_to_end(&mut image)
@@ -40,7 +40,7 @@ pub fn name(path: &Path) -> String {
 
 /// Its length in words. Of one that is longer than any store takes only the beginning was read.
 pub fn length(image: &[u8]) -> String {
-    let most = Capacities::LARGEST.image_bytes();
+    let most = LONGEST_IMAGE as usize;
     if image.len() > most {
         return format!("more than {most} bytes");
     }

@@ -30,7 +30,7 @@ pub fn draw(drawing: &Drawing) -> String {
     let positions = positions(drawing);
     let mut picture = Picture { body: String::new(), y: MARGIN };
     picture.titles(drawing);
-    let heights = [picture.grid(0, &cells), picture.grid(RIGHT, &positions)];
+    let heights = [picture.grid(0, &cells, 1), picture.grid(RIGHT, &positions, positions_each(drawing))];
     picture.y += heights[0].max(heights[1]);
     picture.legend(&cells, &positions, drawing.tills);
     picture.chains(drawing.tills);
@@ -53,6 +53,11 @@ fn positions(drawing: &Drawing) -> Vec<Mark> {
         record.iter().map(|position| Mark::of(*position, is_free(record), drawing.uses)).collect()
     };
     drawing.records.iter().flat_map(of).collect()
+}
+
+/// How many positions a record has, the same in all.
+fn positions_each(drawing: &Drawing) -> usize {
+    drawing.records.first().map_or(1, Vec::len)
 }
 
 /// Whether a record is free: all its positions are null.
@@ -83,13 +88,15 @@ impl Picture {
         self.y += 20;
         self.heading(0, &format!("{name}: {occupied} of {} occupied", counted(uses.len() as u64, "cell")));
         let records = counted(records.len() as u64, "record");
-        self.heading(RIGHT, &format!("{in_use} of {records} in use, {whole} whole; eight positions each"));
+        let each = in_letters(positions_each(drawing));
+        self.heading(RIGHT, &format!("{in_use} of {records} in use, {whole} whole; {each} positions each"));
         self.y += 16;
     }
 
-    /// Marks in rows, from the left and from the top; those of one kind that lie side by side are one piece.
-    fn grid(&mut self, x: usize, all: &[Mark]) -> usize {
-        let columns = columns(all.len());
+    /// Marks in rows, from the left and from the top, so many always in one row; those of one kind that lie side by
+    /// side are one piece.
+    fn grid(&mut self, x: usize, all: &[Mark], together: usize) -> usize {
+        let columns = columns(all.len(), together);
         let side = (WIDTH / columns).min(32);
         for mark in marks().filter(|mark| all.contains(mark)) {
             let mut path = String::new();
@@ -169,9 +176,19 @@ fn shown(mark: Mark, tills: &[Vec<Version>]) -> bool {
     }
 }
 
+/// The numbers of positions that a record can have.
+fn in_letters(number: usize) -> String {
+    match number {
+        4 => "four".into(),
+        8 => "eight".into(),
+        16 => "sixteen".into(),
+        other => other.to_string(),
+    }
+}
+
 /// Places side by side: twice as many columns as rows, at most 256, and always whole records.
-fn columns(places: usize) -> usize {
-    let mut columns = 8;
+fn columns(places: usize, together: usize) -> usize {
+    let mut columns = together.max(8);
     while columns < 256 && columns * columns < 2 * places {
         columns *= 2;
     }

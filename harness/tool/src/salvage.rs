@@ -5,7 +5,7 @@
 use crate::form::{number, Parts};
 use crate::table::{Layout, Pointer, Position, MASK_WORDS, SLOT_WORDS};
 use crate::{outline, ranges};
-use lurdempos::{Capacities, BLOCK, LAST_NUMBER, SEGMENT};
+use lurdempos::{Capacities, LAST_NUMBER};
 use std::ops::Range;
 
 /// An image that was traced.
@@ -99,7 +99,7 @@ impl<'a> Wreck<'a> {
         for slot in (0..self.slots_in_use(till)).rev() {
             let length = self.length_of(till, slot);
             let traced: Vec<Traced> =
-                (0..length.div_ceil(BLOCK)).map(|block| self.traced(till, slot, block, &newer)).collect();
+                (0..length.div_ceil(self.block_bytes())).map(|block| self.traced(till, slot, block, &newer)).collect();
             if length > 0 {
                 found.push(self.found(till, slot, length, &traced));
             }
@@ -139,7 +139,7 @@ impl<'a> Wreck<'a> {
             return said;
         }
         let points = |block: &usize| self.word(at + SLOT_WORDS + block).is_some_and(|word| word != 0);
-        (0..capacities.blocks as usize).rfind(points).map_or(0, |block| BLOCK * (block + 1))
+        (0..capacities.blocks as usize).rfind(points).map_or(0, |block| self.block_bytes() * (block + 1))
     }
 
     fn traced(&self, till: usize, slot: usize, block: usize, newer: &[Traced]) -> Traced {
@@ -160,8 +160,8 @@ impl<'a> Wreck<'a> {
 
     /// Where a direct pointer leads.
     fn position(&self, record: usize, position: usize) -> Traced {
-        let Capacities { records, cells, .. } = self.layout.capacities;
-        if record >= records as usize || position >= SEGMENT {
+        let Capacities { records, cells, segment_blocks, .. } = self.layout.capacities;
+        if record >= records as usize || position >= segment_blocks as usize {
             return LOST;
         }
         let at = self.layout.record(record);
@@ -179,11 +179,12 @@ impl<'a> Wreck<'a> {
     }
 
     fn found(&self, till: usize, slot: usize, length: usize, traced: &[Traced]) -> Found {
-        let mut image = Vec::with_capacity(length.next_multiple_of(BLOCK));
+        let block_bytes = self.block_bytes();
+        let mut image = Vec::with_capacity(length.next_multiple_of(block_bytes));
         let (mut doubtful, mut missing) = (Vec::new(), Vec::new());
         for (block, traced) in traced.iter().enumerate() {
-            let from = BLOCK * block;
-            let place = from..length.min(from + BLOCK);
+            let from = block_bytes * block;
+            let place = from..length.min(from + block_bytes);
             let bytes = match traced.end {
                 End::Cell(cell) => self.bytes.get(self.cell_at(cell)),
                 _ => None,
@@ -193,7 +194,8 @@ impl<'a> Wreck<'a> {
                 (End::Null, _) | (End::Cell(_), Some(_)) => ranges::add(&mut doubtful, place),
                 _ => ranges::add(&mut missing, place),
             }
-            image.extend_from_slice(bytes.unwrap_or(&[0; BLOCK]));
+            image.extend_from_slice(bytes.unwrap_or_default());
+            image.resize(from + block_bytes, 0);
         }
         image.truncate(length);
         let at = self.layout.slot(till, slot);
@@ -221,7 +223,7 @@ impl<'a> Wreck<'a> {
     fn capacities_hold(&self) -> bool {
         let read = outline::header(self.bytes, self.parts) == Some(self.layout.capacities);
         let fits = || self.is_good(&Parts::HEAD) && outline::told(self.bytes).is_some();
-        read && ((0..5).all(|at| self.word_is_good(at)) || fits())
+        read && ((0..8).all(|at| self.word_is_good(at)) || fits())
     }
 
     fn word_at(&self, at: usize) -> Range<usize> {
@@ -239,7 +241,11 @@ impl<'a> Wreck<'a> {
     }
 
     fn cell_at(&self, cell: usize) -> Range<usize> {
-        self.parts.cell(cell, BLOCK)
+        self.parts.cell(cell, self.block_bytes())
+    }
+
+    fn block_bytes(&self) -> usize {
+        self.layout.capacities.block_bytes as usize
     }
 
     fn is_good(&self, range: &Range<usize>) -> bool {

@@ -1,13 +1,12 @@
 //! What the words of a sound store's table say about each version and each record (docs/FORMAT.md). Only for stores
 //! that the library has found sound; what the library answers itself is asked of it.
 
-use lurdempos::{Capacities, Store, BLOCK, SEGMENT};
+use lurdempos::{Capacities, Store};
 
 const HEADER_WORDS: usize = 8;
 const TILL_WORDS: usize = 4;
 /// Words of a slot before its pointers.
 pub const SLOT_WORDS: usize = 3;
-const RECORD_WORDS: usize = 3 + 2 * SEGMENT;
 /// Words of a record before its cells.
 pub const MASK_WORDS: usize = 3;
 
@@ -27,7 +26,7 @@ impl Layout {
     }
 
     pub fn record(self, record: usize) -> usize {
-        self.till(self.capacities.tills as usize) + record * RECORD_WORDS
+        self.till(self.capacities.tills as usize) + record * self.capacities.record_words()
     }
 
     fn slot_words(self) -> usize {
@@ -126,17 +125,18 @@ fn versions(store: &Store, till: u32, records: &[Vec<Position>]) -> Vec<Version>
     for slot in (0..held(store, till) as usize).rev() {
         let newer = versions.last().map_or(&[][..], |newer| &newer.traced);
         let words = store.table().get(layout.slot(till as usize, slot)..).unwrap_or_default();
-        let version = version(words, newer, records);
+        let version = version(words, layout.capacities, newer, records);
         versions.push(version);
     }
     versions.reverse();
     versions
 }
 
-fn version(slot: &[u32], newer: &[Traced], records: &[Vec<Position>]) -> Version {
+fn version(slot: &[u32], capacities: Capacities, newer: &[Traced], records: &[Vec<Position>]) -> Version {
     let (number, bytes) = (slot[0], slot[1]);
+    let blocks = bytes.div_ceil(capacities.block_bytes) as usize;
     let mut version = Version { number, bytes, direct: 0, indirect: 0, null: 0, traced: Vec::new() };
-    for &word in slot.iter().skip(SLOT_WORDS).take((bytes as usize).div_ceil(BLOCK)) {
+    for &word in slot.iter().skip(SLOT_WORDS).take(blocks) {
         let traced = match Pointer::of(word) {
             Pointer::Direct { record, position } => {
                 version.direct += 1;
@@ -166,11 +166,11 @@ fn cell_of(records: &[Vec<Position>], record: usize, position: usize) -> Option<
 
 /// The positions of each record.
 pub fn records(store: &Store) -> Vec<Vec<Position>> {
-    let layout = Layout { capacities: store.capacities() };
-    let words = store.table().get(layout.record(0)..).unwrap_or_default();
+    let capacities = store.capacities();
+    let words = store.table().get(Layout { capacities }.record(0)..).unwrap_or_default();
     let one = |words: &[u32]| {
         let position = |n: usize| Position::of(words[0], words[1], n, words[MASK_WORDS + n]);
-        (0..SEGMENT).map(position).collect()
+        (0..capacities.segment_blocks as usize).map(position).collect()
     };
-    words.chunks_exact(RECORD_WORDS).map(one).collect()
+    words.chunks_exact(capacities.record_words()).map(one).collect()
 }

@@ -75,13 +75,19 @@ fn lengths_that_do_not_fit() {
     cannot_be_read(&bytes[..bytes.len() - 1], &format!("{needed} {}", bytes.len() - 1));
     cannot_be_read(&[&bytes[..], b"\0"].concat(), &format!("{needed} {}", bytes.len() + 1));
     cannot_be_read(&bytes[..32], &format!("{needed} 32"));
-    for (at, most) in [(16, u64::MAX), (24, u64::MAX), (16, 1 << 62), (24, 1 << 62), (16, 2_097_153), (24, 1_129_545)] {
+    for (at, most) in [(16, u64::MAX), (24, u64::MAX), (16, 1 << 62), (24, 1 << 62), (16, 16_777_217), (24, 1_195_081)]
+    {
         let mut bytes = bytes.clone();
         bytes[at..at + 8].copy_from_slice(&most.to_le_bytes());
         cannot_be_read(&bytes, "its lengths do not fit: no store has a pool of");
     }
+    // There are such pools and such tables, but not in one store: blocks are large or many.
+    let mut both = good();
+    both[16..24].copy_from_slice(&16_777_216u64.to_le_bytes());
+    both[24..32].copy_from_slice(&1_195_080u64.to_le_bytes());
+    cannot_be_read(&both, "no store has a pool of 16777216 bytes and a table of 1195080 words");
     let mut bytes = good();
-    bytes[16..24].copy_from_slice(&2_097_152u64.to_le_bytes());
+    bytes[16..24].copy_from_slice(&16_777_216u64.to_le_bytes());
     cannot_be_read(&bytes, "its lengths do not fit: by its head");
 }
 

@@ -87,11 +87,12 @@ fn json_for_programs() {
                     {\"till\": 0, \"oldest\": 0, \"newest\": 0, \"last\": 0, \"versions\": []},\n  \
                     {\"till\": 1, \"oldest\": 1, \"newest\": 2, \"last\": 2, \"versions\": [\n    \
                       {\"version\": 1, \"bytes\": 192, \"chain\": 1, \"direct\": 0, \"indirect\": 2, \"null\": 1},\n    \
-                      {\"version\": 2, \"bytes\": 150, \"chain\": 0, \"direct\": 3, \"indirect\": 0, \"null\": 0}]}]}\n";
-    assert_eq!(bench.run("list --json s").accepted().out, listed);
-    let tallied = "{\"file\": \"s\", \"cells\": 3, \"records\": 1, \"counts\": 3, \"versions\": 2, \"bytes\": 342, \
-                   \"capacities\": {\"tills\": 2, \"versions\": 4, \"blocks\": 16, \"records\": 8, \"cells\": 64}}\n";
-    assert_eq!(bench.run("tally s --json").accepted().out, tallied);
+                      {\"version\": 2, \"bytes\": 150, \"chain\": 0, \"direct\": 3, \"indirect\": 0, \"null\": 0}]}]";
+    let capacities = "\"capacities\": {\"tills\": 2, \"versions\": 4, \"blocks\": 16, \"records\": 8, \"cells\": 64, \
+                      \"block_bytes\": 64, \"segment_blocks\": 8, \"rebuild_percent\": 20}}\n";
+    assert_eq!(bench.run("list --json s").accepted().out, format!("{listed}, {capacities}"));
+    let tallied = "{\"file\": \"s\", \"cells\": 3, \"records\": 1, \"counts\": 3, \"versions\": 2, \"bytes\": 342";
+    assert_eq!(bench.run("tally s --json").accepted().out, format!("{tallied}, {capacities}"));
     std::fs::rename(bench.path("s"), bench.path("a\"b\\c\nd")).unwrap();
     let mut command = bench.command("list --json");
     let out = command.arg("a\"b\\c\nd").arg("0").output().unwrap();

@@ -32,6 +32,15 @@ fn capacities_1() {
         ("--cells 0", "--cells 0, but 1 to 32768"),
         ("--cells 4294967295", "--cells 4294967295, but 1 to 32768"),
         ("--image-bytes 4294967295", "--image-bytes 4294967295, but 1 to 65536"),
+        ("--block-bytes 0", "--block-bytes 0, but 64, 128, 256 or 512 can be had"),
+        ("--block-bytes 96", "--block-bytes 96, but 64, 128, 256 or 512 can be had"),
+        ("--block-bytes 1024 --image-bytes 9", "--block-bytes 1024, but 64, 128, 256 or 512 can be had"),
+        ("--block-bytes 512 --blocks 129", "--blocks 129, but 1 to 128"),
+        ("--block-bytes 256 --image-bytes 65537", "--image-bytes 65537, but 1 to 65536"),
+        ("--segment-blocks 0", "--segment-blocks 0, but 4, 8 or 16 can be had"),
+        ("--segment-blocks 5 --tills 17", "--segment-blocks 5, but 4, 8 or 16 can be had"),
+        ("--rebuild-percent 101", "--rebuild-percent 101, but 0 to 100 can be had"),
+        ("--rebuild-percent 4294967295", "--rebuild-percent 4294967295, but 0 to 100"),
     ];
     for (option, words) in out_of_range {
         refused(&bench, &format!("init s {option}"), 1, &[words, "choose each from its range"]);

@@ -79,7 +79,7 @@ fn a_sound_store_too() {
     bench.run("salvage s out").accepted().says("s: every checksum holds\n").says("5 versions: 5 certain\n");
     assert_eq!(salvaged(&bench, "out"), (5, 0));
     bench.run("salvage s out").fails(3, &["out: exists already"]);
-    bench.shell("head -c 9000000 /dev/zero >> s").accepted();
+    bench.shell("head -c 19000000 /dev/zero >> s").accepted();
     bench.run("check s").fails(3, &["too long for a store"]);
     bench.run("salvage s lengthened").accepted().says("5 versions: 5 certain\n");
     bench.run("init e --cells 600").accepted();
@@ -195,7 +195,7 @@ fn damaged_capacities_are_worked_out() {
     let store = store();
     let good = file_of(store.pool(), store.table());
     let header = 32 + store.pool().len();
-    for at in (0..32).chain(header..header + 20) {
+    for at in (0..32).chain(header..header + 32) {
         let mut bytes = good.clone();
         bytes[at] ^= 4;
         bench.write("s", &bytes);

@@ -51,7 +51,7 @@ fn no_command() {
 }
 
 /// Wrong lines, and what is said about them.
-const WRONG: [(&str, &str); 43] = [
+const WRONG: [(&str, &str); 46] = [
     ("init", "FILE is missing"),
     ("init n m", "one argument too many: m"),
     ("init n --till 3", "unknown option --till"),
@@ -80,6 +80,9 @@ const WRONG: [(&str, &str); 43] = [
     ("grow s", "NEW is missing"),
     ("grow s -", "NEW has to be a file"),
     ("salvage s -", "FOLDER has to be a folder"),
+    ("init n --rebuild-percent -1", "--rebuild-percent"),
+    ("init n --block-bytes many", "--block-bytes"),
+    ("grow s n --image-bytes 960", "NEW would have 960 bytes of an image, OLD has 1024"),
     ("grow s n --cells 63", "NEW would have 63 cells, OLD has 64"),
     ("backup s 0 image --wait soon", "--wait has to be a number"),
     ("backup s 0 image --keep 3", "unknown option --keep"),

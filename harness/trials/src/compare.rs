@@ -1,10 +1,11 @@
 //! Any pool and table, sound or not: both stores give the same answers and leave the same buffers.
 
 use keeper::course::{answer, Lane};
+use keeper::trial::letters;
 use keeper::{Call, Random};
 use lurdempos::Proved;
 use std::collections::BTreeSet;
-use terms::{BLOCK, SEGMENT};
+use terms::Capacities;
 use twin::Twin;
 
 /// What one round of calls was answered.
@@ -36,34 +37,39 @@ pub fn compare(pool: &[u8], table: &[u32], calls: &[Call]) -> Refusals {
 
 /// One call of each sort that reads a store, for this sound one.
 pub fn each_call(random: &mut Random, pool: &[u8], table: &[u32]) -> Vec<Call> {
-    let [tills, blocks] = [0, 2].map(|n| table[n] as usize);
-    let till = random.below(tills) as u32;
+    let capacities = Capacities::of_table(table).expect("a sound store");
+    let till = random.below(capacities.tills as usize) as u32;
     let version = random.below(6) as u32;
-    let mut image = if random.percent(70) { of_records(random, pool, table) } else { of_letters(random) };
-    image.truncate(BLOCK * blocks);
+    let mut image = if random.percent(70) {
+        of_records(random, pool, table, capacities)
+    } else {
+        of_letters(random, capacities.block_bytes)
+    };
+    image.truncate(capacities.image_bytes());
     vec![
         Call::Tally,
         Call::Listing { till },
-        Call::Restore { till, version, room: BLOCK * blocks },
+        Call::Restore { till, version, room: capacities.image_bytes() },
         Call::Retire { till, version },
         Call::Backup { till, image },
     ]
 }
 
-fn of_letters(random: &mut Random) -> Vec<u8> {
-    let letters: Vec<u8> = (0..random.between(1, 20)).map(|_| b'a' + random.below(4) as u8).collect();
-    letters.iter().flat_map(|&letter| [letter; BLOCK]).collect()
+fn of_letters(random: &mut Random, bytes: u32) -> Vec<u8> {
+    let text: String = (0..random.between(1, 20)).map(|_| *random.pick(&['a', 'b', 'c', 'd'])).collect();
+    letters(&text, bytes)
 }
 
 /// An image of segments that records have.
-fn of_records(random: &mut Random, pool: &[u8], table: &[u32]) -> Vec<u8> {
-    let records: Vec<&[u32]> = table[table.len() - 19 * table[3] as usize..].chunks(19).collect();
+fn of_records(random: &mut Random, pool: &[u8], table: &[u32], capacities: Capacities) -> Vec<u8> {
+    let (bytes, size) = (capacities.block_bytes as usize, capacities.record_words());
+    let records: Vec<&[u32]> = table[table.len() - size * capacities.records as usize..].chunks(size).collect();
     let mut image = Vec::new();
     for _ in 0..3 {
         let record = *random.pick(&records);
-        for i in 0..SEGMENT {
-            let at = BLOCK * record[3 + i] as usize;
-            let block = if record[0] >> i & 1 == 1 { &pool[at..at + BLOCK] } else { &[0; BLOCK] };
+        for i in 0..capacities.segment_blocks as usize {
+            let at = bytes * record[3 + i] as usize;
+            let block = if record[0] >> i & 1 == 1 { &pool[at..at + bytes] } else { &vec![0; bytes] };
             image.extend_from_slice(block);
         }
     }

@@ -1,14 +1,15 @@
 //! Damage to a sound store: plausible words and bytes in wrong places, and buffers of wrong lengths.
 
 use keeper::Random;
-use terms::BLOCK;
+use terms::{Capacities, BASE};
 
-/// Alters pool or table in one place or two. The store has so many records.
-pub fn damage(random: &mut Random, pool: &mut [u8], table: &mut [u32], records: usize) {
-    let at = table.len() - 19 * records;
+/// Alters pool or table in one place or two. The store was one of these capacities before any damage.
+pub fn damage(random: &mut Random, pool: &mut [u8], table: &mut [u32], capacities: Capacities) {
+    let (block, size) = (capacities.block_bytes as usize, capacities.record_words());
+    let at = table.len() - size * capacities.records as usize;
     let (here, there) = (random.below(table.len()), random.below(table.len()));
-    let (cell, other) = (BLOCK * random.below(pool.len() / BLOCK), BLOCK * random.below(pool.len() / BLOCK));
-    match random.below(15) {
+    let (cell, other) = (block * random.below(pool.len() / block), block * random.below(pool.len() / block));
+    match random.below(16) {
         0 => table[here] ^= 1 << random.below(32),
         1 => table[here] = random.edge(),
         2 => table[here] = table[there],
@@ -17,29 +18,42 @@ pub fn damage(random: &mut Random, pool: &mut [u8], table: &mut [u32], records: 
         5 => table[here] = table[here].wrapping_sub(1),
         6 => table[here] = 0,
         7 => table[here] = (1 + random.below(3) as u32) << 24 | random.below(100) as u32,
-        8 => pool[cell..cell + BLOCK].fill(0),
-        9 => pool[cell + random.below(BLOCK)] ^= 1 << random.below(8),
-        10 => pool.copy_within(cell..cell + BLOCK, other),
-        11 => swap_records(random, &mut table[at..]),
+        8 => pool[cell..cell + block].fill(0),
+        9 => pool[cell + random.below(block)] ^= 1 << random.below(8),
+        10 => pool.copy_within(cell..cell + block, other),
+        11 => swap_records(random, &mut table[at..], size),
         12 => renumber(random, &mut table[..at]),
-        13 => double(random, pool, &mut table[at..]),
-        _ => swap_cells(random, pool, &mut table[at..]),
+        13 => double(random, pool, &mut table[at..], capacities),
+        14 => measure_anew(random, table),
+        _ => swap_cells(random, pool, &mut table[at..], capacities),
     }
 }
 
+/// Other measures in the header: sound at most where the percentage alone is another one.
+fn measure_anew(random: &mut Random, table: &mut [u32]) {
+    let measures = match random.below(4) {
+        0 => BASE,
+        1 => [table[5], table[6], random.below(102) as u32],
+        2 => [*random.pick(&[0, 64, 96, 128]), *random.pick(&[0, 4, 5, 8]), *random.pick(&[0, 20, 101])],
+        _ => random.measures(),
+    };
+    table[5..8].copy_from_slice(&measures);
+}
+
 /// Two records change places, their pointers stay: mostly unsound, but not if the two have the same counts.
-fn swap_records(random: &mut Random, records: &mut [u32]) {
-    let (one, other) = (random.below(records.len() / 19), random.below(records.len() / 19));
-    (0..19).for_each(|n| records.swap(19 * one + n, 19 * other + n));
+fn swap_records(random: &mut Random, records: &mut [u32], size: usize) {
+    let (one, other) = (random.below(records.len() / size), random.below(records.len() / size));
+    (0..size).for_each(|n| records.swap(size * one + n, size * other + n));
 }
 
 /// Two cells change places, with the positions that name them: as sound as before.
-fn swap_cells(random: &mut Random, pool: &mut [u8], records: &mut [u32]) {
-    let cells = pool.len() / BLOCK;
+fn swap_cells(random: &mut Random, pool: &mut [u8], records: &mut [u32], capacities: Capacities) {
+    let (block, positions) = (capacities.block_bytes as usize, capacities.segment_blocks as usize);
+    let cells = pool.len() / block;
     let (one, other) = (random.below(cells), random.below(cells));
-    (0..BLOCK).for_each(|n| pool.swap(BLOCK * one + n, BLOCK * other + n));
-    for record in records.chunks_mut(19) {
-        for i in (0..8).filter(|i| record[0] >> i & 1 == 1).collect::<Vec<_>>() {
+    (0..block).for_each(|n| pool.swap(block * one + n, block * other + n));
+    for record in records.chunks_mut(capacities.record_words()) {
+        for i in (0..positions).filter(|i| record[0] >> i & 1 == 1).collect::<Vec<_>>() {
             match record[3 + i] as usize {
                 cell if cell == one => record[3 + i] = other as u32,
                 cell if cell == other => record[3 + i] = one as u32,
@@ -65,26 +79,27 @@ fn renumber(random: &mut Random, words: &mut [u32]) {
 }
 
 /// Two positions name one cell, and the other's cell is cleared: nothing else is wrong.
-fn double(random: &mut Random, pool: &mut [u8], records: &mut [u32]) {
-    let held: Vec<usize> = (0..records.len())
-        .filter(|n| (3..11).contains(&(n % 19)) && records[n / 19 * 19] >> (n % 19 - 3) & 1 == 1)
-        .collect();
+fn double(random: &mut Random, pool: &mut [u8], records: &mut [u32], capacities: Capacities) {
+    let (block, size) = (capacities.block_bytes as usize, capacities.record_words());
+    let is_cell = |n: usize| (3..3 + capacities.segment_blocks as usize).contains(&(n % size));
+    let is_held = |n: usize| records[n / size * size] >> (n % size - 3) & 1 == 1;
+    let held: Vec<usize> = (0..records.len()).filter(|&n| is_cell(n) && is_held(n)).collect();
     if held.len() > 1 {
         let (one, other) = (*random.pick(&held), *random.pick(&held));
-        let at = BLOCK * records[one] as usize;
+        let at = block * records[one] as usize;
         if one != other && at < pool.len() {
-            pool[at..at + BLOCK].fill(0);
+            pool[at..at + block].fill(0);
             records[one] = records[other];
         }
     }
 }
 
 /// A buffer too long or too short, by a little or by all.
-pub fn lengths(random: &mut Random, pool: &mut Vec<u8>, table: &mut Vec<u32>) {
+pub fn lengths(random: &mut Random, pool: &mut Vec<u8>, table: &mut Vec<u32>, block: usize) {
     match random.below(8) {
         0 => pool.push(0),
         1 => pool.truncate(pool.len() - 1),
-        2 => pool.truncate(pool.len() - BLOCK),
+        2 => pool.truncate(pool.len() - block),
         3 => pool.clear(),
         4 => table.push(0),
         5 => table.truncate(table.len() - 1),

@@ -4,7 +4,7 @@ use keeper::calls::{List, Style};
 use keeper::sketch::sound_store;
 use keeper::{Course, Random};
 use std::collections::BTreeSet;
-use terms::Capacities;
+use terms::{Capacities, BASE};
 use trials::compare::{compare, each_call};
 use trials::damage::{damage, garbage, lengths};
 use trials::{history, seed, stores, times};
@@ -14,8 +14,9 @@ use trials::{history, seed, stores, times};
 fn every_bit() {
     let mut random = Random::new(seed());
     let (mut unsound, mut sound) = (0, 0);
-    for round in 0..3 * times() as u64 {
-        let capacities = Capacities::new(2, 3, 9, 5, 18);
+    let measures = [BASE, [64, 4, 100], [128, 16, 0]];
+    for (round, measures) in (0..times() as u64).flat_map(|n| (3 * n..).zip(measures)) {
+        let capacities = Capacities::new(2, 3, 9, 5, 18).measured(measures);
         let course = history::run(seed() + round, capacities, Style { retires: 10, kinds: 5 }, 60, 60);
         let (mut pool, mut table) = (course.buffers().0.to_vec(), course.buffers().1.to_vec());
         let calls = each_call(&mut random, &pool, &table);
@@ -36,7 +37,7 @@ fn every_bit() {
     assert!(unsound > 1_000 && sound > 100);
 }
 
-/// Sound stores of every shape: further calls on them go as the twin and the keeper have it.
+/// Sound stores of every shape and any measures: further calls on them go as the twin and the keeper have it.
 #[test]
 fn any_sound_stores() {
     let mut random = Random::new(seed());
@@ -44,8 +45,7 @@ fn any_sound_stores() {
     for _ in 0..3_000 * times() {
         let (pool, table) = sound_store(&mut random);
         assert!(twin::is_sound(&pool, &table));
-        let [tills, versions, blocks, records, cells] = [0, 1, 2, 3, 4].map(|n| table[n]);
-        let capacities = Capacities::new(tills, versions, blocks, records, cells);
+        let capacities = Capacities::of_table(&table).expect("a sound store");
         compare(&pool, &table, &each_call(&mut random, &pool, &table));
         let list = List::new(&mut random, capacities, Style { retires: 30, kinds: 4 });
         let mut course = Course::from_store(&pool, &table, stores());
@@ -65,11 +65,11 @@ fn damaged_and_garbage() {
     for n in 0..20_000 * times() {
         let (mut pool, mut table) = sound_store(&mut random);
         let calls = each_call(&mut random, &pool, &table);
-        let records = table[3] as usize;
+        let capacities = Capacities::of_table(&table).expect("a sound store");
         match n % 10 {
             0 => garbage(&mut random, &mut table),
-            1 => lengths(&mut random, &mut pool, &mut table),
-            _ => (0..random.between(1, 3)).for_each(|_| damage(&mut random, &mut pool, &mut table, records)),
+            1 => lengths(&mut random, &mut pool, &mut table, capacities.block_bytes as usize),
+            _ => (0..random.between(1, 3)).for_each(|_| damage(&mut random, &mut pool, &mut table, capacities)),
         }
         if compare(&pool, &table, &calls).contains(&10) {
             unsound += 1

@@ -1,11 +1,11 @@
-//! Stores of the largest capacities: 16 tills, 64 versions, images of 33,268 bytes and more, a pool of two million bytes.
+//! Stores of the largest capacities: 16 tills, 64 versions, images of 33,268 bytes and more, pools of 2 to 16 MiB.
 
 use keeper::calls::Style;
 use keeper::closings::{Shop, LENGTH};
 use keeper::dense::Dense;
 use keeper::inspect::inspect;
 use keeper::{Call, Course, Random};
-use terms::Capacities;
+use terms::{Capacities, BASE};
 use trials::{history, seed, stores, times};
 
 fn look(course: &Course) {
@@ -29,13 +29,12 @@ fn restore_any(course: &mut Course, random: &mut Random) {
     assert_eq!(course.call(&Call::Restore { till, version, room: LENGTH + 100 })[0], 0);
 }
 
-/// A shop's closings: 64 days, then more with the oldest retired.
-#[test]
-fn a_shop() {
+/// A shop's closings for so many days, the oldest retired where a till is full.
+fn a_shop(capacities: Capacities, days: usize) -> (Course, Shop) {
     let mut random = Random::new(seed());
-    let mut course = Course::new(Capacities::LARGEST, stores());
+    let mut course = Course::new(capacities, stores());
     let mut shop = Shop::new(seed(), 16);
-    for day in 0..64 + 4 * times() {
+    for day in 0..days {
         if day % 20 == 19 {
             shop.update();
         }
@@ -48,16 +47,34 @@ fn a_shop() {
         course.call(&Call::Tally);
     }
     look(&course);
+    (course, shop)
+}
+
+/// 64 days, then more; in the end every till is full.
+#[test]
+fn closings() {
+    let (mut course, mut shop) = a_shop(Capacities::LARGEST, 64 + 4 * times());
     for till in 0..16 {
         let image = shop.close(till as usize).to_vec();
         assert_eq!(course.call(&Call::Backup { till, image })[0], 11);
     }
 }
 
+#[test]
+fn closings_in_large_blocks() {
+    a_shop(Capacities::largest([512, 16, 20]), 6 * times());
+}
+
+#[test]
+fn closings_in_small_segments() {
+    a_shop(Capacities::largest([64, 4, 20]), 12 * times());
+}
+
 /// Nothing is shared, so that something runs out: this is refused with one number, until versions are retired.
 fn to_the_brim(capacities: Capacities, number: u32) {
     let mut course = Course::new(capacities, stores());
-    let mut dense = Dense::new(seed(), 16, 65_536, 4);
+    let segment = capacities.block_bytes * capacities.segment_blocks;
+    let mut dense = Dense::new(seed(), 16, 65_536, segment as usize, 4);
     let mut image = |till: u32| dense.close(till as usize).to_vec();
     let mut refused = 0;
     for till in (0..16).cycle() {
@@ -87,12 +104,24 @@ fn out_of_cells() {
     to_the_brim(Capacities { cells: 24_000, ..Capacities::LARGEST }, 16);
 }
 
+#[test]
+fn out_of_records_of_small_segments() {
+    to_the_brim(Capacities::largest([64, 4, 20]), 14);
+}
+
+#[test]
+fn out_of_large_cells() {
+    to_the_brim(Capacities { cells: 6_000, ..Capacities::largest([512, 16, 20]) }, 16);
+}
+
 /// Random lists.
 #[test]
 fn random_lists() {
-    for (round, kinds) in [(0, 40), (1, 2_000)] {
+    for (round, kinds, calls, measures) in
+        [(0, 40, 600, BASE), (1, 2_000, 600, BASE), (2, 60, 150, [512, 16, 0]), (3, 400, 150, [64, 4, 60])]
+    {
         let style = Style { retires: 20, kinds };
-        let course = history::run(seed() + round, Capacities::LARGEST, style, 600 * times(), 200);
+        let course = history::run(seed() + round, Capacities::largest(measures), style, calls * times(), 150);
         println!("{} of {} accepted, {:?}, {:?}", course.accepted, course.made, course.events, course.met);
     }
 }

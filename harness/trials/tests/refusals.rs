@@ -1,11 +1,15 @@
 //! Every refusal of every call, and where two apply the page's first one.
 
-use keeper::day::{letters, Trial};
+use keeper::trial::{self, Trial};
 use std::collections::BTreeSet;
-use terms::{Calls, Capacities, Refusal};
+use terms::{Calls, Capacities, Refusal, BASE, BLOCK_BYTES, SEGMENT_BLOCKS};
 use trials::stores;
 
 const TILL: usize = 8;
+
+fn letters(text: &str) -> Vec<u8> {
+    trial::letters(text, BASE[0])
+}
 
 /// Puts the cases to both stores; answers the numbers met.
 fn numbers(cases: impl Fn(&dyn Calls) -> Vec<(u32, u32)>) -> BTreeSet<u32> {
@@ -21,33 +25,62 @@ fn numbers(cases: impl Fn(&dyn Calls) -> Vec<(u32, u32)>) -> BTreeSet<u32> {
 
 /// Table length 1; lay out 1, 2.
 fn capacities(store: &dyn Calls) -> Vec<(u32, u32)> {
-    let good = [3, 5, 9, 7, 20];
-    let of = |five: [u32; 5]| Capacities::new(five[0], five[1], five[2], five[3], five[4]);
-    let [_, words] = store.table_length(of(good));
-    let lay = |five, bytes: usize, words: usize| store.lay_out(&mut vec![1; bytes], &mut vec![1; words], of(five))[0];
-    let words = words as usize;
-    let mut cases = vec![
-        (lay(good, 20 * 64, words), 0),
-        (lay(good, 20 * 64 - 1, words), 2),
-        (lay(good, 20 * 64, words + 1), 2),
-        (lay(good, 0, 0), 2),
-    ];
-    for n in 0..5 {
-        for (value, expected) in [
-            (0, 1),
-            (1, 0),
-            (Capacities::LARGEST.to_array()[n], 0),
-            (Capacities::LARGEST.to_array()[n] + 1, 1),
-            (u32::MAX, 1),
-        ] {
-            let mut five = good;
-            five[n] = value;
-            cases.push((store.table_length(of(five))[0], expected));
-            if expected == 1 {
-                cases.push((lay(five, 20 * 64, words), 1));
-                cases.push((lay(five, 0, 0), 1));
+    let mut cases = Vec::new();
+    for measures in [BASE, [128, 16, 0], [256, 4, 100], [512, 8, 55]] {
+        let good = Capacities::new(3, 5, 9, 7, 20).measured(measures);
+        cases.extend(lengths(store, good));
+        for (expected, values) in [(0, inside(measures)), (1, outside(measures))] {
+            for (n, values) in values.into_iter().enumerate() {
+                cases.extend(values.into_iter().flat_map(|value| with(store, good, n, value, expected)));
             }
         }
+    }
+    cases
+}
+
+/// Values of each capacity at the ends of its range.
+fn inside(measures: [u32; 3]) -> Vec<Vec<u32>> {
+    let five = Capacities::largest(measures).to_array().into_iter().take(5).map(|most| vec![1, most]);
+    five.chain([BLOCK_BYTES.to_vec(), SEGMENT_BLOCKS.to_vec(), vec![0, 1, 20, 99, 100]]).collect()
+}
+
+/// Values of each capacity just outside its range, and far outside.
+fn outside(measures: [u32; 3]) -> Vec<Vec<u32>> {
+    let five = Capacities::largest(measures).to_array().into_iter().take(5).map(|most| vec![0, most + 1, u32::MAX]);
+    let sizes = vec![0, 1, 32, 63, 65, 96, 127, 129, 255, 257, 384, 511, 513, 1_024, u32::MAX];
+    let segments = vec![0, 1, 2, 3, 5, 7, 9, 12, 15, 17, 32, u32::MAX];
+    five.chain([sizes, segments, vec![101, 120, u32::MAX]]).collect()
+}
+
+fn lay_out(store: &dyn Calls, capacities: Capacities, bytes: usize, words: usize) -> u32 {
+    store.lay_out(&mut vec![1; bytes], &mut vec![1; words], capacities)[0]
+}
+
+/// Laying out good capacities in buffers of the right length and of others.
+fn lengths(store: &dyn Calls, good: Capacities) -> Vec<(u32, u32)> {
+    let [refusal, words] = store.table_length(good);
+    let (bytes, words) = (20 * good.block_bytes as usize, words as usize);
+    assert_eq!((refusal, words), (0, good.table_words()));
+    let lay_out = |bytes, words| lay_out(store, good, bytes, words);
+    vec![
+        (lay_out(bytes, words), 0),
+        (lay_out(bytes - 1, words), 2),
+        (lay_out(bytes * 2, words), 2),
+        (lay_out(bytes, words + 1), 2),
+        (lay_out(bytes, words - 7), 2),
+        (lay_out(0, 0), 2),
+    ]
+}
+
+/// Good capacities but for one of them; if it is outside its range, that is said before any wrong length.
+fn with(store: &dyn Calls, good: Capacities, n: usize, value: u32, expected: u32) -> Vec<(u32, u32)> {
+    let mut eight = good.to_array();
+    eight[n] = value;
+    let asked = Capacities::from_array(eight);
+    let mut cases = vec![(store.table_length(asked)[0], expected)];
+    if expected == 1 {
+        cases.push((lay_out(store, asked, good.pool_bytes(), good.table_words()), 1));
+        cases.push((lay_out(store, asked, 0, 0), 1));
     }
     cases
 }

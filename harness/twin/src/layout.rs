@@ -1,17 +1,15 @@
 //! Where the table's words stand, and what a pointer word and a record's words say (docs/FORMAT.md).
 
-use terms::{Capacities, Refusal, BLOCK, SEGMENT};
-
-pub type Block = [u8; BLOCK];
-pub type RecordWords = [u32; RECORD];
+use crate::rows::{Blocks, BlocksMut, Records, RecordsMut, Rows};
+use terms::{Capacities, Refusal};
 
 pub const HEADER: usize = 8;
 pub const TILL_HEAD: usize = 4;
 pub const SLOT_HEAD: usize = 3;
-pub const RECORD: usize = 3 + 2 * SEGMENT;
+pub const RECORD_HEAD: usize = 3;
 
-const CELLS: usize = 3;
-const COUNTS: usize = CELLS + SEGMENT;
+/// Most positions that a record can have.
+pub const POSITIONS: usize = 16;
 
 /// The capacities as sizes, and the places that follow from them.
 #[derive(Clone, Copy, Debug)]
@@ -21,12 +19,20 @@ pub struct Layout {
     pub blocks: usize,
     pub records: usize,
     pub cells: usize,
+    /// Bytes of a block, and of a cell.
+    pub bytes: usize,
+    /// Blocks of a segment, and positions of a record.
+    pub positions: usize,
+    /// The rebuild percentage.
+    pub percent: usize,
 }
 
 impl Layout {
     pub fn new(capacities: Capacities) -> Option<Layout> {
-        let [tills, versions, blocks, records, cells] = capacities.to_array().map(|one| one as usize);
-        capacities.in_range().then_some(Layout { tills, versions, blocks, records, cells })
+        let [tills, versions, blocks, records, cells, bytes, positions, percent] =
+            capacities.to_array().map(|one| one as usize);
+        let layout = Layout { tills, versions, blocks, records, cells, bytes, positions, percent };
+        capacities.in_range().then_some(layout)
     }
 
     pub fn slot_words(&self) -> usize {
@@ -35,6 +41,14 @@ impl Layout {
 
     pub fn till_words(&self) -> usize {
         TILL_HEAD + self.versions * self.slot_words()
+    }
+
+    pub fn record_words(&self) -> usize {
+        RECORD_HEAD + 2 * self.positions
+    }
+
+    pub fn segment_bytes(&self) -> usize {
+        self.positions * self.bytes
     }
 
     /// Where a till's words begin.
@@ -48,7 +62,7 @@ impl Layout {
     }
 
     pub fn table_words(&self) -> usize {
-        self.records_at() + self.records * RECORD
+        self.records_at() + self.records * self.record_words()
     }
 
     /// The till of this number, or refusal 3.
@@ -58,7 +72,26 @@ impl Layout {
 
     /// A till's words.
     pub fn till_of<'a>(&self, table: &'a [u32], till: usize) -> TillWords<'a> {
-        TillWords { words: &table[self.till_at(till)..self.till_at(till + 1)], slot_words: self.slot_words() }
+        let words = &table[self.till_at(till)..self.till_at(till + 1)];
+        TillWords { words, slot_words: self.slot_words(), bytes: self.bytes }
+    }
+
+    pub fn cells_of<'a>(&self, pool: &'a [u8]) -> Blocks<'a> {
+        Rows::new(pool, self.bytes)
+    }
+
+    pub fn cells_of_mut<'a>(&self, pool: &'a mut [u8]) -> BlocksMut<'a> {
+        Rows::new(pool, self.bytes)
+    }
+
+    pub fn records_of<'a>(&self, table: &'a [u32]) -> Records<'a> {
+        Rows::new(&table[self.records_at()..], self.record_words())
+    }
+
+    /// The words before the records, and the records.
+    pub fn parts<'a>(&self, table: &'a mut [u32]) -> (&'a mut [u32], RecordsMut<'a>) {
+        let (words, records) = table.split_at_mut(self.records_at());
+        (words, Rows::new(records, self.record_words()))
     }
 }
 
@@ -67,6 +100,7 @@ impl Layout {
 pub struct TillWords<'a> {
     words: &'a [u32],
     slot_words: usize,
+    bytes: usize,
 }
 
 impl<'a> TillWords<'a> {
@@ -107,7 +141,12 @@ impl<'a> TillWords<'a> {
 
     /// The pointer words of the blocks that the version in this slot has.
     pub fn pointers(&self, slot: usize) -> &'a [u32] {
-        &self.slot(slot)[SLOT_HEAD..SLOT_HEAD + self.length(slot).div_ceil(BLOCK)]
+        &self.slot(slot)[SLOT_HEAD..SLOT_HEAD + self.length(slot).div_ceil(self.bytes)]
+    }
+
+    /// The pointer word of one block.
+    pub fn pointer(&self, slot: usize, block: usize) -> u32 {
+        self.slot(slot)[SLOT_HEAD + block]
     }
 }
 
@@ -131,7 +170,7 @@ impl Pointer {
         let payload = (word & 0x00ff_ffff) as usize;
         match word >> 24 {
             0 if payload == 0 => Some(Pointer::Null),
-            1 => Some(Pointer::Direct(Place { record: payload / 16, position: payload % 16 })),
+            1 => Some(Pointer::Direct(Place { record: payload / POSITIONS, position: payload % POSITIONS })),
             2 => Some(Pointer::Indirect(payload)),
             _ => None,
         }
@@ -140,54 +179,64 @@ impl Pointer {
     pub fn word(self) -> u32 {
         match self {
             Pointer::Null => 0,
-            Pointer::Direct(place) => 1 << 24 | (16 * place.record + place.position) as u32,
+            Pointer::Direct(place) => 1 << 24 | (POSITIONS * place.record + place.position) as u32,
             Pointer::Indirect(block) => 2 << 24 | block as u32,
         }
     }
 }
 
-/// A segment record by value.
+/// A segment record by value: both masks, and a cell and a count for each position.
 #[derive(Clone, Copy, Debug, Default)]
 pub struct Record {
     pub held: u32,
     pub removed: u32,
-    pub cells: [u32; SEGMENT],
-    pub counts: [u32; SEGMENT],
+    pub cells: [u32; POSITIONS],
+    pub counts: [u32; POSITIONS],
 }
 
 impl Record {
-    pub fn read(words: &RecordWords) -> Record {
-        let eight = |at| std::array::from_fn(|i| words[at + i]);
-        Record { held: words[0], removed: words[1], cells: eight(CELLS), counts: eight(COUNTS) }
+    pub fn read(words: &[u32]) -> Record {
+        let (cells, counts) = Record::places(words);
+        let filled = |some: &[u32]| std::array::from_fn(|i| some.get(i).copied().unwrap_or(0));
+        Record { held: words[0], removed: words[1], cells: filled(cells), counts: filled(counts) }
     }
 
-    pub fn write(&self, words: &mut RecordWords) {
-        words[0] = self.held;
-        words[1] = self.removed;
-        words[2] = 0;
-        words[CELLS..COUNTS].copy_from_slice(&self.cells);
-        words[COUNTS..].copy_from_slice(&self.counts);
+    pub fn write(&self, words: &mut [u32]) {
+        let (head, places) = words.split_at_mut(RECORD_HEAD);
+        let positions = places.len() / 2;
+        let (cells, counts) = places.split_at_mut(positions);
+        head.copy_from_slice(&[self.held, self.removed, 0]);
+        cells.copy_from_slice(&self.cells[..positions]);
+        counts.copy_from_slice(&self.counts[..positions]);
     }
 
-    pub fn is_free(words: &RecordWords) -> bool {
+    /// The cells and the counts of a record's words.
+    pub fn places(words: &[u32]) -> (&[u32], &[u32]) {
+        let places = &words[RECORD_HEAD..];
+        places.split_at(places.len() / 2)
+    }
+
+    pub fn is_free(words: &[u32]) -> bool {
         words[0] == 0
     }
 
     /// In use, and no position removed.
-    pub fn is_whole(words: &RecordWords) -> bool {
+    pub fn is_whole(words: &[u32]) -> bool {
         words[0] != 0 && words[1] == 0
     }
 
-    pub fn cell(words: &RecordWords, position: usize) -> usize {
-        words[CELLS + position] as usize
+    pub fn cell(words: &[u32], position: usize) -> usize {
+        words[RECORD_HEAD + position] as usize
     }
 
-    pub fn count(words: &mut RecordWords, position: usize) -> &mut u32 {
-        &mut words[COUNTS + position]
+    pub fn count(words: &mut [u32], position: usize) -> &mut u32 {
+        let positions = (words.len() - RECORD_HEAD) / 2;
+        &mut words[RECORD_HEAD + positions + position]
     }
 }
 
 /// The positions that a mask has, rising.
 pub fn ones(mask: u32) -> impl Iterator<Item = usize> {
-    (0..SEGMENT).filter(move |i| mask >> i & 1 == 1)
+    let left = std::iter::successors(Some(mask), |left| Some(left & left.wrapping_sub(1)));
+    left.take_while(|&left| left != 0).map(|left| left.trailing_zeros() as usize)
 }

@@ -4,6 +4,7 @@
 mod bare;
 mod layout;
 mod place;
+mod rows;
 mod runs;
 mod sound;
 mod sweep;
@@ -11,8 +12,9 @@ mod trace;
 mod turn;
 
 pub use bare::Twin;
-use layout::{Layout, Place, Pointer, Record, RecordWords, SLOT_HEAD, TILL_HEAD};
-use terms::{Capacities, Listing, Refusal, Restored, Tally, BLOCK, LAST_NUMBER};
+use layout::{Layout, Place, Pointer, Record, HEADER, SLOT_HEAD, TILL_HEAD};
+use rows::Rows;
+use terms::{Capacities, Listing, Refusal, Restored, Tally, LAST_NUMBER};
 
 /// Words of the table that these capacities need.
 pub fn table_length(capacities: Capacities) -> Result<usize, Refusal> {
@@ -27,7 +29,7 @@ pub fn lay_out(pool: &mut [u8], table: &mut [u32], capacities: Capacities) -> Re
     }
     pool.fill(0);
     table.fill(0);
-    table[..5].copy_from_slice(&capacities.to_array());
+    table[..HEADER].copy_from_slice(&capacities.header());
     Ok(())
 }
 
@@ -47,11 +49,10 @@ pub fn listing(pool: &[u8], table: &[u32], till: u32) -> Result<Listing, Refusal
 /// Occupied cells, records in use, sum of all counts.
 pub fn tally(pool: &[u8], table: &[u32]) -> Result<Tally, Refusal> {
     let layout = sound::check(pool, table)?.layout;
-    let (records, _) = table[layout.records_at()..].as_chunks();
-    Ok(records.iter().map(Record::read).fold(Tally::default(), |sum, record| Tally {
-        cells: sum.cells + record.held.count_ones(),
-        records: sum.records + (record.held != 0) as u32,
-        counts: sum.counts + record.counts.iter().sum::<u32>(),
+    Ok(layout.records_of(table).iter().fold(Tally::default(), |sum, words| Tally {
+        cells: sum.cells + words[0].count_ones(),
+        records: sum.records + (words[0] != 0) as u32,
+        counts: sum.counts + Record::places(words).1.iter().sum::<u32>(),
     }))
 }
 
@@ -59,7 +60,7 @@ pub fn tally(pool: &[u8], table: &[u32]) -> Result<Tally, Refusal> {
 pub fn backup(pool: &mut [u8], table: &mut [u32], till: u32, image: &[u8]) -> Result<u32, Refusal> {
     let sound::Found { layout, mut occupied } = sound::check(pool, table)?;
     let till = layout.till(till)?;
-    if image.is_empty() || image.len() > BLOCK * layout.blocks {
+    if image.is_empty() || image.len() > layout.bytes * layout.blocks {
         return Err(Refusal::ImageLength);
     }
     let (last, held) = (layout.till_of(table, till).last(), layout.till_of(table, till).held());
@@ -69,19 +70,20 @@ pub fn backup(pool: &mut [u8], table: &mut [u32], till: u32, image: &[u8]) -> Re
     if last == LAST_NUMBER {
         return Err(Refusal::NumbersSpent);
     }
-    let (cells, _) = pool.as_chunks_mut();
-    let (words, records) = parts(table, &layout);
-    let segments = place::segments(image);
-    let plan = place::plan(&segments, cells, records, &mut occupied)?;
-    let pointers = plan.carry_out(&segments, cells, records);
+    let mut cells = layout.cells_of_mut(pool);
+    let (words, mut records) = layout.parts(table);
+    let bytes = place::fill_up(image, &layout);
+    let segments = place::segments(&bytes, &layout);
+    let plan = place::plan(&segments, cells.read(), records.read(), &mut occupied)?;
+    let pointers = plan.carry_out(&layout, &segments, &mut cells, &mut records);
 
-    let blocks = image.len().div_ceil(BLOCK);
+    let blocks = image.len().div_ceil(layout.bytes);
     let (before, slot) = words[layout.till_at(till) + TILL_HEAD..].split_at_mut(held * layout.slot_words());
     if let Some(previous) = before.chunks_exact_mut(layout.slot_words()).last() {
-        let used = (previous[1] as usize).div_ceil(BLOCK);
-        let image = &segments.as_flattened()[..blocks];
-        let let_go = turn::turn(&mut previous[SLOT_HEAD..][..used], image, cells, records);
-        sweep::let_go(let_go, cells, records, &mut occupied);
+        let used = (previous[1] as usize).div_ceil(layout.bytes);
+        let image = Rows::new(&bytes[..blocks * layout.bytes], layout.bytes);
+        let let_go = turn::turn(&mut previous[SLOT_HEAD..][..used], image, cells.read(), records.read());
+        sweep::let_go(let_go, &mut cells, &mut records, &mut occupied, layout.percent);
     }
     slot[..2].copy_from_slice(&[last + 1, image.len() as u32]);
     slot[SLOT_HEAD..][..blocks].copy_from_slice(&pointers[..blocks]);
@@ -96,10 +98,9 @@ pub fn restore(pool: &[u8], table: &[u32], till: u32, version: u32, output: &mut
     let slot = till.slot_with(version)?;
     let length = till.length(slot);
     let output = output.get_mut(..length).ok_or(Refusal::ShortOutput)?;
-    let (cells, _) = pool.as_chunks::<BLOCK>();
-    let (records, _) = table[layout.records_at()..].as_chunks();
+    let (cells, records) = (layout.cells_of(pool), layout.records_of(table));
     let mut longest = 0;
-    for (n, part) in output.chunks_mut(BLOCK).enumerate() {
+    for (n, part) in output.chunks_mut(layout.bytes).enumerate() {
         let (place, hops) = trace::trace(till, slot, n);
         match place {
             Some(at) => part.copy_from_slice(&cells[Record::cell(&records[at.record], at.position)][..part.len()]),
@@ -120,9 +121,8 @@ pub fn retire(pool: &mut [u8], table: &mut [u32], till: u32, version: u32) -> Re
     }
     let (length, held) = (before.length(0), before.held());
     let let_go: Vec<Place> = before.pointers(0).iter().filter_map(|&word| direct(word)).collect();
-    let (words, records) = parts(table, &layout);
-    let (cells, _) = pool.as_chunks_mut();
-    sweep::let_go(let_go, cells, records, &mut occupied);
+    let (words, mut records) = layout.parts(table);
+    sweep::let_go(let_go, &mut layout.cells_of_mut(pool), &mut records, &mut occupied, layout.percent);
 
     let till = &mut words[layout.till_at(till)..];
     till[1] -= 1;
@@ -137,10 +137,4 @@ fn direct(word: u32) -> Option<Place> {
         Some(Pointer::Direct(place)) => Some(place),
         _ => None,
     }
-}
-
-/// The words before the records, and the records.
-fn parts<'a>(table: &'a mut [u32], layout: &Layout) -> (&'a mut [u32], &'a mut [RecordWords]) {
-    let (words, records) = table.split_at_mut(layout.records_at());
-    (words, records.as_chunks_mut().0)
 }

@@ -1,9 +1,10 @@
 //! The soundness check (refusal 10): one pass over the pool and one over the table.
 
-use crate::layout::{Block, Layout, Pointer, Record, RecordWords, TillWords, HEADER, SLOT_HEAD, TILL_HEAD};
+use crate::layout::{Layout, Pointer, Record, TillWords, POSITIONS, RECORD_HEAD, SLOT_HEAD, TILL_HEAD};
+use crate::rows::{is_null, Blocks, Records};
 use crate::runs::Occupied;
 use crate::trace::trace;
-use terms::{Capacities, Refusal, BLOCK, LAST_NUMBER, SEGMENT};
+use terms::{Capacities, Refusal, LAST_NUMBER};
 
 /// What a call learns from the check of a sound store.
 pub struct Found {
@@ -16,22 +17,21 @@ pub fn check(pool: &[u8], table: &[u32]) -> Result<Found, Refusal> {
     survey(pool, table).ok_or(Refusal::Unsound)
 }
 
-/// Direct pointers that each position still has to get, 16 places for a record's eight positions, as pointer words have it.
+/// Direct pointers that each position still has to get, 16 places for every record, as pointer words have it.
 type Owed = [u32];
 
 fn survey(pool: &[u8], table: &[u32]) -> Option<Found> {
     let layout = header(pool, table)?;
-    let (records, _) = table[layout.records_at()..].as_chunks();
-    let (cells, _) = pool.as_chunks();
+    let (records, cells) = (layout.records_of(table), layout.cells_of(pool));
     let mut occupied = Occupied::none(layout.cells);
-    let mut owed = vec![0; 16 * layout.records];
-    for (words, owed) in records.iter().zip(owed.chunks_exact_mut(16)) {
-        record(words, layout.cells, &mut occupied, owed)?;
+    let mut owed = vec![0; POSITIONS * layout.records];
+    for (words, owed) in records.iter().zip(owed.chunks_exact_mut(POSITIONS)) {
+        record(words, &layout, &mut occupied, owed)?;
     }
     holds(cells_fit(cells, &occupied))?;
     for n in 0..layout.tills {
         till(&table[layout.till_at(n)..layout.till_at(n + 1)], &layout, &mut owed)?;
-        tails(layout.till_of(table, n), records, cells)?;
+        tails(layout.till_of(table, n), records, cells, layout.bytes)?;
     }
     holds(blank(&owed))?;
     Some(Found { layout, occupied })
@@ -47,36 +47,35 @@ fn blank(words: &[u32]) -> bool {
 }
 
 fn header(pool: &[u8], table: &[u32]) -> Option<Layout> {
-    let [tills, versions, blocks, records, cells, 0, 0, 0] = *table.first_chunk::<HEADER>()? else { return None };
-    let capacities = Capacities::new(tills, versions, blocks, records, cells);
+    let capacities = Capacities::of_table(table)?;
     let layout = Layout::new(capacities)?;
     holds(pool.len() == capacities.pool_bytes() && table.len() == layout.table_words())?;
     Some(layout)
 }
 
 /// Masks and zero words of one record; its cells become occupied, its counts owed.
-fn record(words: &RecordWords, cells: usize, occupied: &mut Occupied, owed: &mut Owed) -> Option<()> {
-    let Record { held, removed, cells: places, counts } = Record::read(words);
-    holds(words[2] == 0 && held & removed == 0 && (held | removed) >> SEGMENT == 0)?;
+fn record(words: &[u32], layout: &Layout, occupied: &mut Occupied, owed: &mut Owed) -> Option<()> {
+    let [held, removed, 0] = *words.first_chunk::<RECORD_HEAD>()? else { return None };
+    holds(held & removed == 0 && (held | removed) >> layout.positions == 0)?;
     holds(held != 0 || removed == 0)?;
-    for i in 0..SEGMENT {
+    let (cells, counts) = Record::places(words);
+    for (i, (&cell, &count)) in cells.iter().zip(counts).enumerate() {
         if held >> i & 1 == 0 {
-            holds(places[i] == 0 && counts[i] == 0)?;
+            holds(cell == 0 && count == 0)?;
             continue;
         }
-        let cell = places[i] as usize;
-        holds(cell < cells && !occupied.has(cell) && counts[i] > 0)?;
+        let cell = cell as usize;
+        holds(cell < layout.cells && !occupied.has(cell) && count > 0)?;
         occupied.set(cell);
-        owed[i] = counts[i];
+        owed[i] = count;
     }
     Some(())
 }
 
 /// Whether the cells with a byte other than zero are the occupied ones.
-fn cells_fit(cells: &[Block], occupied: &Occupied) -> bool {
-    let used = |cell: &Block| cell.iter().fold(0, |all, byte| all | byte) != 0;
-    cells.chunks(64).enumerate().all(|(n, some)| {
-        let bits = some.iter().enumerate().fold(0, |bits, (i, cell)| bits | (used(cell) as u64) << i);
+fn cells_fit(cells: Blocks, occupied: &Occupied) -> bool {
+    cells.groups(64).enumerate().all(|(n, some)| {
+        let bits = some.iter().enumerate().fold(0, |bits, (i, cell)| bits | (!is_null(cell) as u64) << i);
         bits == occupied.word(n)
     })
 }
@@ -90,16 +89,16 @@ fn till(words: &[u32], layout: &Layout, owed: &mut Owed) -> Option<()> {
     holds(blank(unused))?;
     let mut newer: &[u32] = &[];
     for (slot, number) in used.chunks_exact(layout.slot_words()).rev().zip((0..=last).rev()) {
-        newer = version(slot, number, newer, owed)?;
+        newer = version(slot, number, newer, owed, layout.bytes)?;
     }
     Some(())
 }
 
 /// One version against the pointers of the next newer one; its own pointers if it is sound.
-fn version<'a>(slot: &'a [u32], number: u32, newer: &[u32], owed: &mut Owed) -> Option<&'a [u32]> {
+fn version<'a>(slot: &'a [u32], number: u32, newer: &[u32], owed: &mut Owed, bytes: usize) -> Option<&'a [u32]> {
     let (head, words) = slot.split_first_chunk::<SLOT_HEAD>()?;
     let [given, length, 0] = *head else { return None };
-    let blocks = (length as usize).div_ceil(BLOCK);
+    let blocks = (length as usize).div_ceil(bytes);
     holds(given == number && (1..=words.len()).contains(&blocks))?;
     let (pointers, unused) = words.split_at(blocks);
     holds(blank(unused))?;
@@ -107,7 +106,7 @@ fn version<'a>(slot: &'a [u32], number: u32, newer: &[u32], owed: &mut Owed) -> 
         match Pointer::read(word)? {
             Pointer::Null => {}
             Pointer::Direct(place) => {
-                let count = owed.get_mut(16 * place.record + place.position)?;
+                let count = owed.get_mut(POSITIONS * place.record + place.position)?;
                 *count = count.checked_sub(1)?;
             }
             Pointer::Indirect(block) => holds(*newer.get(block)? != 0)?,
@@ -117,13 +116,13 @@ fn version<'a>(slot: &'a [u32], number: u32, newer: &[u32], owed: &mut Owed) -> 
 }
 
 /// Each version's last block, as traced, is zero after the version's length.
-fn tails(till: TillWords, records: &[RecordWords], cells: &[Block]) -> Option<()> {
+fn tails(till: TillWords, records: Records, cells: Blocks, bytes: usize) -> Option<()> {
     for slot in 0..till.held() {
         let length = till.length(slot);
-        if !length.is_multiple_of(BLOCK) {
-            let (place, _) = trace(till, slot, length / BLOCK);
+        if !length.is_multiple_of(bytes) {
+            let (place, _) = trace(till, slot, length / bytes);
             let cell = place.map(|at| &cells[Record::cell(&records[at.record], at.position)]);
-            holds(cell.is_none_or(|cell| cell[length % BLOCK..].iter().all(|&byte| byte == 0)))?;
+            holds(cell.is_none_or(|cell| cell[length % bytes..].iter().all(|&byte| byte == 0)))?;
         }
     }
     Some(())

@@ -7,7 +7,7 @@ use crate::layout::{Place, Pointer, TillWords};
 pub fn trace(till: TillWords, slot: usize, block: usize) -> (Option<Place>, u32) {
     let (mut slot, mut block, mut hops) = (slot, block, 0);
     loop {
-        match Pointer::read(till.pointers(slot)[block]) {
+        match Pointer::read(till.pointer(slot, block)) {
             Some(Pointer::Direct(place)) => return (Some(place), hops),
             Some(Pointer::Indirect(newer)) => (slot, block, hops) = (slot + 1, newer, hops + 1),
             Some(Pointer::Null) | None => return (None, hops),

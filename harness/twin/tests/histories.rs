@@ -4,7 +4,7 @@ use keeper::calls::{List, Style};
 use keeper::closings::Shop;
 use keeper::inspect::inspect;
 use keeper::{Call, Course, Random};
-use terms::Capacities;
+use terms::{Capacities, BLOCK_BYTES, SEGMENT_BLOCKS};
 use twin::Twin;
 
 fn history(seed: u64, capacities: Capacities, style: Style, calls: usize) {
@@ -26,6 +26,23 @@ fn small_stores() {
         let capacities = Capacities::new(1 + seed as u32 % 3, 1 + seed as u32 % 7, 20, 4 + seed as u32, cells);
         history(seed, capacities, Style { retires: 20, kinds: 3 + seed as usize % 9 }, 1_000);
     }
+}
+
+#[test]
+fn all_measures() {
+    for (seed, measures) in all_pairs() {
+        for percentage in [0, 20, 50, 100] {
+            let [bytes, blocks] = measures;
+            let capacities = Capacities::new(2, 4, 3 * blocks, 12, 6 * blocks).measured([bytes, blocks, percentage]);
+            history(seed, capacities, Style { retires: 25, kinds: 6 }, 250);
+        }
+    }
+}
+
+/// Every size of a block with every size of a segment, and a seed for each.
+fn all_pairs() -> impl Iterator<Item = (u64, [u32; 2])> {
+    let pairs = BLOCK_BYTES.into_iter().flat_map(|bytes| SEGMENT_BLOCKS.map(|blocks| [bytes, blocks]));
+    (100..).zip(pairs)
 }
 
 #[test]

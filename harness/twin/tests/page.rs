@@ -1,6 +1,6 @@
-//! The page's cases, put to the twin.
+//! The page's cases, and their counterparts at other settings, put to the twin.
 
-use keeper::day;
+use keeper::{day, settings};
 use twin::Twin;
 
 #[test]
@@ -16,4 +16,34 @@ fn fresh_stores() {
 #[test]
 fn lengths() {
     day::lengths(&Twin);
+}
+
+#[test]
+fn larger_blocks() {
+    settings::larger_blocks(&Twin);
+}
+
+#[test]
+fn ends_of_the_percentage() {
+    settings::ends_of_the_percentage(&Twin);
+}
+
+#[test]
+fn percentages_between() {
+    settings::percentages_between(&Twin);
+}
+
+#[test]
+fn four_blocks() {
+    settings::four_blocks(&Twin);
+}
+
+#[test]
+fn sixteen_blocks() {
+    settings::sixteen_blocks(&Twin);
+}
+
+#[test]
+fn largest_image() {
+    settings::largest_image(&Twin);
 }

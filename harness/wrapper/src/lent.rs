@@ -14,19 +14,23 @@ impl Calls for Proved {
     }
 
     fn table_length(&self, capacities: Capacities) -> [u32; 2] {
-        let [tills, versions, blocks, records, cells] = capacities.to_array();
+        let [tills, versions, blocks, records, cells, bytes, segment, percent] = capacities.to_array();
         // SAFETY: no memory is lent.
-        let answer = unsafe { raw::lurdempos_table_length(tills, versions, blocks, records, cells) };
+        let answer =
+            unsafe { raw::lurdempos_table_length(tills, versions, blocks, records, cells, bytes, segment, percent) };
         [answer.refusal, answer.words]
     }
 
     fn lay_out(&self, pool: &mut [u8], table: &mut [u32], capacities: Capacities) -> [u32; 1] {
-        let [tills, versions, blocks, records, cells] = capacities.to_array();
-        let (bytes, words) = (pool.len(), table.len());
+        let [tills, versions, blocks, records, cells, bytes, segment, percent] = capacities.to_array();
+        let (pool_len, table_len) = (pool.len(), table.len());
         let (pool, table) = (pool.as_mut_ptr(), table.as_mut_ptr());
         // SAFETY: both parts are slices, lent for writing to this call alone.
-        let answer =
-            unsafe { raw::lurdempos_lay_out(pool, bytes, table, words, tills, versions, blocks, records, cells) };
+        let answer = unsafe {
+            raw::lurdempos_lay_out(
+                pool, pool_len, table, table_len, tills, versions, blocks, records, cells, bytes, segment, percent,
+            )
+        };
         [answer.refusal]
     }
 

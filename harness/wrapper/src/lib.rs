@@ -7,4 +7,7 @@ mod store;
 
 pub use lent::Proved;
 pub use store::{table_length, Store};
-pub use terms::{Calls, Capacities, Listing, Refusal, Restored, Tally, BLOCK, LAST_NUMBER, SEGMENT};
+pub use terms::{
+    Calls, Capacities, Listing, Refusal, Restored, Tally, BASE, BLOCK, BLOCK_BYTES, LAST_NUMBER, LONGEST_IMAGE,
+    SEGMENT, SEGMENT_BLOCKS,
+};

@@ -61,7 +61,16 @@ pub struct TallyAnswer {
 }
 
 extern "C" {
-    pub fn lurdempos_table_length(tills: u32, versions: u32, blocks: u32, records: u32, cells: u32) -> LengthAnswer;
+    pub fn lurdempos_table_length(
+        tills: u32,
+        versions: u32,
+        blocks: u32,
+        records: u32,
+        cells: u32,
+        block_bytes: u32,
+        segment_blocks: u32,
+        rebuild_percent: u32,
+    ) -> LengthAnswer;
 
     pub fn lurdempos_lay_out(
         pool: *mut u8,
@@ -73,6 +82,9 @@ extern "C" {
         blocks: u32,
         records: u32,
         cells: u32,
+        block_bytes: u32,
+        segment_blocks: u32,
+        rebuild_percent: u32,
     ) -> LayOutAnswer;
 
     pub fn lurdempos_backup(

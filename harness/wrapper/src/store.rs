@@ -1,7 +1,7 @@
 //! A store that owns its two buffers.
 
 use crate::Proved;
-use terms::{Calls, Capacities, Listing, Refusal, Restored, Tally, BLOCK};
+use terms::{Calls, Capacities, Listing, Refusal, Restored, Tally};
 
 /// Words of the table that these capacities need.
 pub fn table_length(capacities: Capacities) -> Result<usize, Refusal> {
@@ -21,7 +21,7 @@ impl Store {
     pub fn new(capacities: Capacities) -> Result<Store, Refusal> {
         // Capacities out of range are refused before anything is allocated for them.
         let mut table = vec![0; table_length(capacities)?];
-        let mut pool = vec![0; BLOCK * capacities.cells as usize];
+        let mut pool = vec![0; capacities.pool_bytes()];
         let [refusal] = Proved.lay_out(&mut pool, &mut table, capacities);
         accepted(refusal).map(|()| Store { pool, table })
     }
@@ -46,8 +46,7 @@ impl Store {
 
     /// The capacities that it was laid out with.
     pub fn capacities(&self) -> Capacities {
-        let [tills, versions, blocks, records, cells] = [0, 1, 2, 3, 4].map(|n| self.table[n]);
-        Capacities::new(tills, versions, blocks, records, cells)
+        Capacities::of_table(&self.table).expect("the store is sound")
     }
 
     /// Files an image as the till's next version and answers its number.

@@ -23,9 +23,23 @@ fn a_version_comes_back() {
 }
 
 #[test]
+fn a_store_keeps_its_measures() {
+    let page = Capacities::new(2, 4, 16, 8, 32);
+    for capacities in [page, page.measured([512, 16, 0]), page.measured([64, 4, 100])] {
+        let mut store = Store::new(capacities).expect("good capacities");
+        let image: Vec<u8> = (0..700).map(|n| n as u8).collect();
+        assert_eq!(store.backup(0, &image), Ok(1));
+        assert_eq!((store.capacities(), store.image(0, 1)), (capacities, Ok(image)));
+        assert_eq!(store.pool().len(), 32 * capacities.block_bytes as usize);
+    }
+}
+
+#[test]
 fn refusals_have_the_pages_words() {
     assert_eq!(Store::new(Capacities::new(17, 1, 1, 1, 1)), Err(Refusal::Capacity));
     assert_eq!(table_length(Capacities::LARGEST), Ok(1_129_544));
+    assert_eq!(table_length(Capacities::largest([64, 16, 20])), Ok(1_195_080));
+    assert_eq!(table_length(Capacities::largest([512, 8, 101])), Err(Refusal::Capacity));
     let refusal = small().backup(2, &[1]).unwrap_err();
     assert_eq!(refusal.to_string(), "refused, 3: till number not below the tills");
 }

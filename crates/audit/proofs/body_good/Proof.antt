@@ -2,14 +2,15 @@ use native.Mathlib.Omega.{arith}
 use mathlib.Core.Bool.{Bool}
 use mathlib.Core.Path.{_≡_}
 use mathlib.Core.List.{List}
-use Prim.Native.Nat.{ℕ, _+_, _*_, _-_, _/_}
+use Prim.Native.Nat.{ℕ, _+_, _*_, _-_, _≤_}
+use native.Mathlib.Nat.{mul-le-mul-right}
 use lib.ListN.{length, getD, take, drop}
 use denote.Ref.{now}
 use Rattle.lists.specs.Tells.{Tells}
 use Rattle.lists.proofs.Slices.{tail-all}
-use Rattle.model.specs.Measures.{recordsAt}
-use Rattle.model.specs.Table.{shapeOf, tillsPart, recordsPart}
-use Rattle.audit.specs.Good.{Body}
+use Rattle.model.specs.Measures.{Measures, recordWords, recordsAt}
+use Rattle.model.specs.Table.{shapeOf}
+use Rattle.audit.specs.Good.{Sized, Body, TableBody}
 use borrow.Author.Needs.{needs}
 use Rattle.audit.proofs.body_good.Statement.{statement}
 use Rattle.audit.proofs.body_good.Tie as tie
@@ -18,13 +19,18 @@ use Rattle.audit.proofs.body_good.Lts as lts
 use Rattle.audit.proofs.parts_good.Reads as parts-good-reads
 use Rattle.audit.proofs.records_at.Reads as records-at-reads
 
-parts : {r : Bool} (pool ws : List ℕ) (base : ℕ) → base ≡ recordsAt (getD ws 0 0) (getD ws 1 0) (getD ws 2 0)
-    → Tells r (Body pool (take (base - 8) (drop 8 ws)) (take (length ws - base) (drop base ws)) (getD ws 0 0) (getD ws 1 0) (getD ws 2 0))
-    → Tells r (Body pool (tillsPart (shapeOf ws .capacities) ws) (recordsPart (shapeOf ws .capacities) ws) (getD ws 0 0) (getD ws 1 0) (getD ws 2 0))
+parts : {r : Bool} (m : Measures) (pool ws : List ℕ) (base : ℕ) → base ≡ recordsAt (getD ws 0 0) (getD ws 1 0) (getD ws 2 0)
+    → Tells r (Body m pool (take (base - 8) (drop 8 ws)) (take (length ws - base) (drop base ws)) (getD ws 0 0) (getD ws 1 0) (getD ws 2 0))
+    → Tells r (TableBody m pool ws)
 unfolding shapeOf
-parts pool ws base e t =
+parts m pool ws base e t =
     let n : base - 8 ≡ getD ws 0 0 * (4 + getD ws 1 0 * (3 + getD ws 2 0)) = omega (arith, e) in
     rw (n, tail-all ws base, e) at t
+
+-- the lengths' most
+most : (m : Measures) (pool ws : List ℕ) → Sized m pool ws
+    → (getD ws 3 0 * recordWords (m .segmentBlocks) ≤ 4096 * recordWords (m .segmentBlocks)) × (getD ws 4 0 * m .blockBytes ≤ 32768 * m .blockBytes)
+most m pool ws z = (mul-le-mul-right (recordWords (m .segmentBlocks)) (z .records), mul-le-mul-right (m .blockBytes) (z .cells))
 
 -- src/lib.rt:51:17
 shared-slice-read-tills : tie.Need-shared-slice-read-tills
@@ -84,11 +90,14 @@ part-parts-good-end-2 c = search needs
 
 -- src/lib.rt:55:5
 parts-good-requires : tie.Need-parts-good-requires
-parts-good-requires c κs = search needs
+parts-good-requires c κs =
+    let a = c .before .before .before .before .before .before .before .before in
+    let l = most _ (a .args .pool .now) (a .args .table .now) (a .pre .1) in
+    (search needs, search needs, search needs, search needs, search needs, search needs, omega (arith, l .0), omega (arith, l .1))
 
 -- src/lib.rt:47:1
 returns : tie.Need-returns
-returns c = parts (c .before .before .before .before .before .before .before .before .before .args .pool .now) (c .before .before .before .before .before .before .before .before .before .args .table .now) _ (c .before .before .before .records-at .ensures .0) (c .parts-good .ensures)
+returns c = parts _ (c .before .before .before .before .before .before .before .before .before .args .pool .now) (c .before .before .before .before .before .before .before .before .before .args .table .now) _ (c .before .before .before .records-at .ensures .0) (c .parts-good .ensures)
 
 pub body-good-spec : {M : Type 1} → statement M
 body-good-spec =

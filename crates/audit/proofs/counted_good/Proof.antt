@@ -17,7 +17,7 @@ slice-aggregate-tills-say c = search needs
 
 -- src/lib.rt:29:9
 tills-say-requires : tie.Need-tills-say-requires
-tills-say-requires c κs = (search needs, search needs, search needs, search needs, λ k. zeros-fit 65536 k _ (search needs))
+tills-say-requires c κs = (search needs, search needs, search needs, search needs, search needs, λ k. zeros-fit 65536 k _ (search needs))
 
 -- src/lib.rt:38:9
 returns : tie.Need-returns
@@ -36,7 +36,7 @@ returns-2 : tie.Need-returns-2
 returns-2 c =
     let a = c .before .before .before .before .before .before .before .before .before .args in
     let s = c .before .before .before .before .tills-say .ensures in
-    let t = counts-are (a .tills .now) (a .records .now) 65536 _ (search needs) refl (s .1 (not-false _ (c .before .before .if1 .left))) (c .records-counts .ensures) in
+    let t = counts-are (a .m .blocks) (a .tills .now) (a .records .now) 65536 _ (search needs) (search needs) refl (s .1 (not-false _ (c .before .before .if1 .left))) (c .records-counts .ensures) in
     same-as (λ p. (proves (s .0) (c .before .before .if1 .left), p)) (λ p. p .1) t
 
 pub counted-good-spec : {M : Type 1} → statement M

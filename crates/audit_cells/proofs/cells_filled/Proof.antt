@@ -2,56 +2,65 @@ use native.Mathlib.Omega.{arith}
 use borrow.Author.Needs.{needs}
 use mathlib.Core.Bool.{false, not}
 use mathlib.Core.Path.{_≡_, refl}
-use Prim.Native.Nat.{ℕ, _*_, _-_, _/_, _≤_, _<_}
+use Prim.Native.Nat.{ℕ, _+_, _*_, _-_, _/_, _≤_, _<_}
 use lib.ListN.{length, getD, take, drop}
 use borrow.Author.Count.{below-none, below-more}
 use Rattle.lists.specs.Lists.{allZero}
 use Rattle.lists.proofs.Checkers.{is-so, is-not, refutes, proves}
+use Rattle.lists.proofs.Places.{row-in}
 use Rattle.audit_cells.proofs.cells_filled.Statement.{statement}
 use Rattle.audit_cells.proofs.cells_filled.Tie as tie
 use Rattle.audit_cells.proofs.cells_filled.Reads as reads
 use Rattle.audit_cells.proofs.cells_filled.Lts as lts
 use Rattle.audit_cells.proofs.cell_says.Reads as cell-says-reads
+use Rattle.numbers.proofs.parts.Reads as parts-reads
 
 abbrev Inv-loop : tie.InvT-loop
-Inv-loop pool occupied n c₀ c = (c ≤ n) × (n ≡ length pool / 64) × ((k : ℕ) → k < c → getD occupied k false ≡ not (allZero (take 64 (drop (k * 64) pool))))
+Inv-loop pool occupied bytes n c₀ c = (c ≤ n) × (n ≡ length pool / bytes) × ((k : ℕ) → k < c → getD occupied k false ≡ not (allZero (take bytes (drop (k * bytes) pool))))
 
 abbrev μ-loop : tie.MeasureT-loop
-μ-loop pool occupied n c₀ c = n - c
+μ-loop pool occupied bytes n c₀ c = n - c
 
--- src/lib.rt:89:5
+inside : (c : tie.In-loop Inv-loop μ-loop) → (let a = c .before .before .before .before .before .args in c .before .loop .c * a .bytes + a .bytes ≤ length (a .pool .now))
+inside c = row-in _ (c .before .before .before .before .before .args .bytes) (c .before .before .before .before .before .pre .0) _ (omega (arith, c .before .loop .inv .1))
+
+-- src/lib.rt:90:9
+parts-requires : tie.Need-parts-requires Inv-loop μ-loop
+parts-requires c κs = search needs
+
+-- src/lib.rt:92:5
 loop-holds : tie.Need-loop-holds Inv-loop μ-loop
-loop-holds c = (omega arith, refl, below-none _)
+loop-holds c = (omega arith, c .parts .ensures, below-none _)
 
--- src/lib.rt:90:34
-cast-t7 : tie.Need-cast-t7 Inv-loop μ-loop
-cast-t7 c = omega (arith, c .before .loop .inv .1)
+-- src/lib.rt:93:34
+cast-t8 : tie.Need-cast-t8 Inv-loop μ-loop
+cast-t8 c = omega (arith, c .before .loop .inv .1)
 
--- src/lib.rt:90:45
+-- src/lib.rt:93:45
 shared-slice-read-cell-says : tie.Need-shared-slice-read-cell-says Inv-loop μ-loop
-shared-slice-read-cell-says c = search needs
+shared-slice-read-cell-says c = omega (arith, c .before .before .loop .inv .1)
 
--- src/lib.rt:90:13
+-- src/lib.rt:93:13
 cell-says-requires : tie.Need-cell-says-requires Inv-loop μ-loop
-cell-says-requires c κs = (omega (arith, c .before .before .loop .inv .1), omega (arith, c .before .before .loop .inv .1))
+cell-says-requires c κs = (omega arith, inside (c .before), search needs, search needs)
 
--- src/lib.rt:91:13
+-- src/lib.rt:94:13
 returns : tie.Need-returns Inv-loop μ-loop
 returns c = is-not (λ e. refutes (c .before .cell-says .ensures) (c .if1 .taken) (e (c .before .before .before .before .loop .c) (omega (arith, c .before .before .before .before .loop .inv .1))))
 
--- src/lib.rt:93:9
+-- src/lib.rt:96:9
 add-c : tie.Need-add-c Inv-loop μ-loop
 add-c c = search needs
 
--- src/lib.rt:89:5
+-- src/lib.rt:92:5
 loop-less : tie.Need-loop-less Inv-loop μ-loop
-loop-less c = search needs
+loop-less c = omega arith
 
--- src/lib.rt:89:5
+-- src/lib.rt:92:5
 loop-again : tie.Need-loop-again Inv-loop μ-loop
-loop-again c = (search needs, c .before .before .before .before .loop .inv .1, below-more _ _ (c .before .before .before .before .loop .inv .2) (proves (c .before .cell-says .ensures) (c .if1 .left)))
+loop-again c = (omega arith, c .before .before .before .before .loop .inv .1, below-more _ _ (c .before .before .before .before .loop .inv .2) (proves (c .before .cell-says .ensures) (c .if1 .left)))
 
--- src/lib.rt:83:1
+-- src/lib.rt:86:1
 returns-2 : tie.Need-returns-2 Inv-loop μ-loop
 returns-2 c = is-so (λ k h. c .before .loop .inv .2 k (omega (arith, c .before .loop .inv .1)))
 
@@ -61,8 +70,9 @@ cells-filled-spec =
     (tie.spec
     Inv-loop
     μ-loop
+    parts-requires
     loop-holds
-    cast-t7
+    cast-t8
     shared-slice-read-cell-says
     cell-says-requires
     returns

@@ -21,7 +21,7 @@ bit-requires c κs = search needs
 
 -- src/lib.rt:23:9
 returns : tie.Need-returns
-returns c = let a = c .before .before .before .before .before .args in rw (cell-none (a .row .now) (c .before .before .before .before .before .pre .1) (a .i) (c .before .before .before .before .before .pre .0) (λ e. c .if1 .taken (c .before .bit .ensures ∙ e))) (none-marked _ _)
+returns c = let a = c .before .before .before .before .before .args in rw (cell-none (a .n) (a .row .now) (c .before .before .before .before .before .pre .2) (a .i) (c .before .before .before .before .before .pre .0) (λ e. c .if1 .taken (c .before .bit .ensures ∙ e))) (none-marked _ _)
 
 -- src/lib.rt:25:17
 add-c : tie.Need-add-c
@@ -41,7 +41,7 @@ cast-c c = omega (arith, c .shared-slice-known3 .given (3 + c .before .before .b
 
 -- src/lib.rt:27:9
 returns-2 : tie.Need-returns-2
-returns-2 c = let a = c .before .before .before .before .before .before .before .args in rw (cell-held (a .row .now) (c .before .before .before .before .before .before .before .pre .1) (a .i) (c .before .before .before .before .before .before .before .pre .0) (sym (c .before .before .before .bit .ensures) ∙ c .before .before .if1 .left)) (one-out _ _ (a .occupied .now) (search needs))
+returns-2 c = let a = c .before .before .before .before .before .before .before .args in rw (cell-held (a .n) (a .row .now) (c .before .before .before .before .before .before .before .pre .2) (a .i) (c .before .before .before .before .before .before .before .pre .0) (sym (c .before .before .before .bit .ensures) ∙ c .before .before .if1 .left)) (one-out _ _ (a .occupied .now) (search needs))
 
 -- src/lib.rt:29:8
 slice-read-if3 : tie.Need-slice-read-if3
@@ -49,7 +49,7 @@ slice-read-if3 c = search needs
 
 -- src/lib.rt:30:9
 returns-3 : tie.Need-returns-3
-returns-3 c = let a = c .before .before .before .before .before .before .before .before .before .args in rw (cell-held (a .row .now) (c .before .before .before .before .before .before .before .before .before .pre .1) (a .i) (c .before .before .before .before .before .before .before .before .before .pre .0) (sym (c .before .before .before .before .before .bit .ensures) ∙ c .before .before .before .before .if1 .left)) (one-twice _ _ (a .occupied .now) (search needs) (c .if3 .taken))
+returns-3 c = let a = c .before .before .before .before .before .before .before .before .before .args in rw (cell-held (a .n) (a .row .now) (c .before .before .before .before .before .before .before .before .before .pre .2) (a .i) (c .before .before .before .before .before .before .before .before .before .pre .0) (sym (c .before .before .before .before .before .bit .ensures) ∙ c .before .before .before .before .if1 .left)) (one-twice _ _ (a .occupied .now) (search needs) (c .if3 .taken))
 
 -- src/lib.rt:32:5
 slice-write-occupied : tie.Need-slice-write-occupied
@@ -61,7 +61,7 @@ same-length c = search needs
 
 -- src/lib.rt:18:1
 returns-4 : tie.Need-returns-4
-returns-4 c = let a = c .before .before .before .before .before .before .before .before .before .args in rw (cell-held (a .row .now) (c .before .before .before .before .before .before .before .before .before .pre .1) (a .i) (c .before .before .before .before .before .before .before .before .before .pre .0) (sym (c .before .before .before .before .before .bit .ensures) ∙ c .before .before .before .before .if1 .left)) (one-marked _ _ (a .occupied .now) (search needs) (c .if3 .left))
+returns-4 c = let a = c .before .before .before .before .before .before .before .before .before .args in rw (cell-held (a .n) (a .row .now) (c .before .before .before .before .before .before .before .before .before .pre .2) (a .i) (c .before .before .before .before .before .before .before .before .before .pre .0) (sym (c .before .before .before .before .before .bit .ensures) ∙ c .before .before .before .before .if1 .left)) (one-marked _ _ (a .occupied .now) (search needs) (c .if3 .left))
 
 pub mark-position-spec : {M : Type 1} → statement M
 mark-position-spec =

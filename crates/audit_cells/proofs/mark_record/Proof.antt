@@ -9,6 +9,7 @@ use borrow.Author.Tests.{not-true, not-false}
 use Rattle.lists.specs.Marks.{Marks, collect}
 use Rattle.lists.proofs.Marks.{Going, starts, again, fails, ends}
 use Rattle.model.specs.Records.{cellsOf}
+use Rattle.model.specs.Measures.{recordWords}
 use Rattle.model.specs.Table.{segmentIn}
 use Rattle.audit_words.proofs.Positions.{segment-long}
 use Rattle.audit_cells.proofs.Cells.{cells-at, record-cells}
@@ -19,14 +20,14 @@ use Rattle.audit_cells.proofs.mark_record.Lts as lts
 use Rattle.audit_cells.proofs.mark_position.Reads as mark-position-reads
 
 abbrev Inv-loop : tie.InvT-loop
-Inv-loop row cells occupied₀ i₀ occupied i = (i ≤ 8) × Going (cells-at row) 8 i cells occupied₀ occupied
+Inv-loop row n cells occupied₀ i₀ occupied i = (i ≤ n) × Going (cells-at n row) n i cells occupied₀ occupied
 
 abbrev μ-loop : tie.MeasureT-loop
-μ-loop row cells occupied₀ i₀ occupied i = 8 - i
+μ-loop row n cells occupied₀ i₀ occupied i = n - i
 
-whole : (row : List ℕ) (r : Bool) (n : ℕ) (before after : List Bool) → length row ≡ 19
-    → Marks r n (collect (cells-at row) 0 8) before after → Marks r n (cellsOf (segmentIn 8 row)) before after
-whole row r n before after l m = rw (record-cells (segmentIn 8 row) (segment-long row l)) at m
+whole : (n : ℕ) (row : List ℕ) (r : Bool) (c : ℕ) (before after : List Bool) → length row ≡ recordWords n
+    → Marks r c (collect (cells-at n row) 0 n) before after → Marks r c (cellsOf (segmentIn n row)) before after
+whole n row r c before after l m = rw (record-cells n (segmentIn n row) (segment-long n row l)) at m
 
 -- src/lib.rt:42:5
 loop-holds : tie.Need-loop-holds Inv-loop μ-loop
@@ -34,15 +35,15 @@ loop-holds c = (omega arith, starts _ _ _ _)
 
 -- src/lib.rt:43:13
 mark-position-requires : tie.Need-mark-position-requires Inv-loop μ-loop
-mark-position-requires c κs = (search needs, search needs, omega (arith, c .before .before .loop .inv .1 .kept))
+mark-position-requires c κs = (search needs, search needs, search needs, omega (arith, c .before .before .loop .inv .1 .kept))
 
 -- src/lib.rt:44:13
 same-length : tie.Need-same-length Inv-loop μ-loop
-same-length c = c .before .before .before .mark-position .kept .1 .1 .1 .0 ∙ c .before .before .before .before .before .before .loop .inv .1 .kept
+same-length c = c .before .before .before .mark-position .kept .1 .1 .1 .1 .0 ∙ c .before .before .before .before .before .before .loop .inv .1 .kept
 
 -- src/lib.rt:44:13
 returns : tie.Need-returns Inv-loop μ-loop
-returns c = whole _ _ _ _ _ (c .before .before .before .before .before .before .before .before .before .pre .0) (fails _ 8 (c .before .before .before .before .before .before .loop .i) _ _ _ _ (c .before .before .before .before .before .before .loop .inv .1) _ (search needs) (c .before .before .before .mark-position .ensures) (not-true _ (c .if1 .taken)))
+returns c = whole _ _ _ _ _ _ (c .before .before .before .before .before .before .before .before .before .pre .1) (fails _ _ (c .before .before .before .before .before .before .loop .i) _ _ _ _ (c .before .before .before .before .before .before .loop .inv .1) _ (search needs) (c .before .before .before .mark-position .ensures) (not-true _ (c .if1 .taken)))
 
 -- src/lib.rt:46:9
 add-i : tie.Need-add-i Inv-loop μ-loop
@@ -54,7 +55,7 @@ loop-less c = search needs
 
 -- src/lib.rt:42:5
 loop-again : tie.Need-loop-again Inv-loop μ-loop
-loop-again c = (search needs, again _ 8 (c .before .before .before .before .before .before .loop .i) _ _ _ _ (c .before .before .before .before .before .before .loop .inv .1) _ (search needs) (c .before .before .before .mark-position .kept .1 .1 .1 .0) (c .before .before .before .mark-position .ensures) (not-false _ (c .if1 .left)))
+loop-again c = (search needs, again _ _ (c .before .before .before .before .before .before .loop .i) _ _ _ _ (c .before .before .before .before .before .before .loop .inv .1) _ (search needs) (c .before .before .before .mark-position .kept .1 .1 .1 .1 .0) (c .before .before .before .mark-position .ensures) (not-false _ (c .if1 .left)))
 
 -- src/lib.rt:37:1
 same-length-2 : tie.Need-same-length-2 Inv-loop μ-loop
@@ -62,7 +63,7 @@ same-length-2 c = c .before .loop .inv .1 .kept
 
 -- src/lib.rt:37:1
 returns-2 : tie.Need-returns-2 Inv-loop μ-loop
-returns-2 c = whole _ _ _ _ _ (c .before .before .before .before .pre .0) (ends _ 8 (c .before .loop .i) _ _ _ (c .before .loop .inv .1) (search needs))
+returns-2 c = whole _ _ _ _ _ _ (c .before .before .before .before .pre .1) (ends _ _ (c .before .loop .i) _ _ _ (c .before .loop .inv .1) (search needs))
 
 pub mark-record-spec : {M : Type 1} → statement M
 mark-record-spec =

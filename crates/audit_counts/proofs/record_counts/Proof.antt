@@ -12,10 +12,10 @@ use Rattle.audit_counts.proofs.record_counts.Lts as lts
 use Rattle.audit_counts.proofs.count_says.Reads as count-says-reads
 
 abbrev Inv-loop : tie.InvT-loop
-Inv-loop row counts i₀ i = (i ≤ 8) × ((k : ℕ) → k < i → CountSays row k (getD counts k 0))
+Inv-loop row counts n i₀ i = (i ≤ n) × ((k : ℕ) → k < i → CountSays n row k (getD counts k 0))
 
 abbrev μ-loop : tie.MeasureT-loop
-μ-loop row counts i₀ i = 8 - i
+μ-loop row counts n i₀ i = n - i
 
 -- src/lib.rt:57:5
 loop-holds : tie.Need-loop-holds Inv-loop μ-loop

@@ -1,71 +1,59 @@
 use native.Mathlib.Omega.{arith}
-use Prim.Native.Nat.{_-_, _/_}
-use Rattle.lists.proofs.Checkers.{is-not, refutes, proves}
-use Rattle.lists.proofs.Answers.{answer-no, answer-yes}
+use mathlib.Core.Path.{_∙_, sym}
+use borrow.Author.Tests.{not-true, not-false}
+use Rattle.lists.proofs.Checkers.{proves}
+use Rattle.audit_header.proofs.Answers.{too-short, out-of-range, not-written, by-lengths}
 use borrow.Author.Needs.{needs}
 use Rattle.audit_header.proofs.header.Statement.{statement}
 use Rattle.audit_header.proofs.header.Tie as tie
 use Rattle.audit_header.proofs.header.Reads as reads
 use Rattle.audit_header.proofs.header.Lts as lts
-use Rattle.audit_header.proofs.lengths.Reads as lengths-reads
-use Rattle.audit_header.proofs.ranges.Reads as ranges-reads
-use Rattle.audit_words.proofs.zeros.Reads as zeros-reads
+use Rattle.audit_header.proofs.measures_written.Reads as measures-written-reads
+use Rattle.layout.proofs.capacities_in.Reads as capacities-in-reads
+use Rattle.layout.proofs.in_range.Reads as in-range-reads
+use Rattle.layout.proofs.lengths_fit.Reads as lengths-fit-reads
 
--- src/lib.rt:215:9
+-- src/lib.rt:30:9
 returns : tie.Need-returns
-returns c = is-not (λ h. omega (arith, h .lengths .words))
+returns c = too-short _ _ (omega arith)
 
--- src/lib.rt:217:9
-ranges-requires : tie.Need-ranges-requires
-ranges-requires c κs = search needs
+-- src/lib.rt:32:9
+capacities-in-requires : tie.Need-capacities-in-requires
+capacities-in-requires c κs = search needs
 
--- src/lib.rt:218:9
+-- src/lib.rt:34:9
+in-range-requires : tie.Need-in-range-requires
+in-range-requires c κs = search needs
+
+-- src/lib.rt:35:9
 returns-2 : tie.Need-returns-2
-returns-2 c = is-not (λ h. refutes (c .before .ranges .ensures) (c .if2 .taken) (h .ranges))
+returns-2 c = out-of-range _ _ _ (c .before .before .before .capacities-in .ensures) (sym (c .before .in-range .ensures) ∙ not-true _ (c .if2 .taken))
 
--- src/lib.rt:220:15
-sub-zeros : tie.Need-sub-zeros
-sub-zeros c = search needs
+-- src/lib.rt:37:9
+measures-written-requires : tie.Need-measures-written-requires
+measures-written-requires c κs = search needs
 
--- src/lib.rt:220:15
-part-zeros-start : tie.Need-part-zeros-start
-part-zeros-start c = search needs
-
--- src/lib.rt:220:15
-part-zeros-end : tie.Need-part-zeros-end
-part-zeros-end c = search needs
-
--- src/lib.rt:220:9
-zeros-requires : tie.Need-zeros-requires
-zeros-requires c κs = search needs
-
--- src/lib.rt:221:9
+-- src/lib.rt:38:9
 returns-3 : tie.Need-returns-3
-returns-3 c = is-not (λ h. answer-no (c .before .zeros .ensures) (c .if3 .taken) (h .zeros))
+returns-3 c = not-written _ _ _ (c .before .before .before .before .before .capacities-in .ensures) (c .before .measures-written .ensures) (c .if3 .taken)
 
--- src/lib.rt:223:5
-lengths-requires : tie.Need-lengths-requires
-lengths-requires c κs = (search needs, proves (c .before .before .before .before .ranges .ensures) (c .before .before .before .if2 .left))
+-- src/lib.rt:40:5
+lengths-fit-requires : tie.Need-lengths-fit-requires
+lengths-fit-requires c κs = sym (c .before .before .before .in-range .ensures) ∙ not-false _ (c .before .before .if2 .left)
 
--- src/lib.rt:211:1
+-- src/lib.rt:26:1
 returns-4 : tie.Need-returns-4
-returns-4 c =
-    record {
-      holds = λ e. record { ranges = proves (c .before .before .before .before .before .ranges .ensures) (c .before .before .before .before .if2 .left); zeros = answer-yes (c .before .before .zeros .ensures) (c .before .if3 .left); lengths = c .lengths .ensures .holds e };
-      seen = λ h. c .lengths .ensures .seen (h .lengths);
-    }
+returns-4 c = by-lengths _ _ _ (c .before .before .before .before .before .before .capacities-in .ensures) (omega arith) (sym (c .before .before .before .before .in-range .ensures) ∙ not-false _ (c .before .before .before .if2 .left)) (proves (c .before .before .measures-written .ensures) (c .before .if3 .left)) (c .lengths-fit .ensures)
 
 pub header-spec : {M : Type 1} → statement M
 header-spec =
     tie.close
     (tie.spec
     returns
-    ranges-requires
+    capacities-in-requires
+    in-range-requires
     returns-2
-    sub-zeros
-    part-zeros-start
-    part-zeros-end
-    zeros-requires
+    measures-written-requires
     returns-3
-    lengths-requires
+    lengths-fit-requires
     returns-4)

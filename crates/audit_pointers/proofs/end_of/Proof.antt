@@ -18,21 +18,21 @@ use Rattle.audit_pointers.proofs.end_of.Lts as lts
 use Rattle.audit_pointers.proofs.word_at.Reads as word-at-reads
 
 abbrev Inv-loop : tie.InvT-loop
-Inv-loop slots blocks count b₀ i₀ b i = endOf (versionsIn 64 blocks (count - i) (drop (i * (3 + blocks)) slots)) b ≡ endOf (versionsIn 64 blocks count slots) b₀
+Inv-loop slots blocks count bytes b₀ i₀ b i = endOf (versionsIn bytes blocks (count - i) (drop (i * (3 + blocks)) slots)) b ≡ endOf (versionsIn bytes blocks count slots) b₀
 
 abbrev μ-loop : tie.MeasureT-loop
-μ-loop slots blocks count b₀ i₀ b i = count - i
+μ-loop slots blocks count bytes b₀ i₀ b i = count - i
 
 here : (c : tie.In-loop Inv-loop μ-loop) → c .before .loop .i * (3 + c .before .before .before .args .blocks) + (3 + c .before .before .before .args .blocks) ≤ length (c .before .before .before .args .slots .now)
 here c = let a = c .before .before .before in slot-inside (c .before .loop .i) (a .args .count) (a .args .blocks) _ (search needs) (a .pre .2)
 
-slot : (ws : List ℕ) (i bl b w : ℕ) → wordToPointer w ≡ getD (versionIn 64 (take (i * (3 + bl) + (3 + bl) - i * (3 + bl)) (drop (i * (3 + bl)) ws)) .pointers) b nullPointer
-    → wordToPointer w ≡ getD (versionIn 64 (take (3 + bl) (drop (i * (3 + bl)) ws)) .pointers) b nullPointer
-slot ws i bl b w e = rw (part-is ws (i * (3 + bl)) (3 + bl)) at e
+slot : (bytes : ℕ) (ws : List ℕ) (i bl b w : ℕ) → wordToPointer w ≡ getD (versionIn bytes (take (i * (3 + bl) + (3 + bl) - i * (3 + bl)) (drop (i * (3 + bl)) ws)) .pointers) b nullPointer
+    → wordToPointer w ≡ getD (versionIn bytes (take (3 + bl) (drop (i * (3 + bl)) ws)) .pointers) b nullPointer
+slot bytes ws i bl b w e = rw (part-is ws (i * (3 + bl)) (3 + bl)) at e
 
 -- src/lib.rt:128:5
 loop-holds : tie.Need-loop-holds Inv-loop μ-loop
-loop-holds c = end-start (c .before .args .blocks) (c .before .args .count) (c .before .args .slots .now) _
+loop-holds c = end-start (c .before .args .bytes) (c .before .args .blocks) (c .before .args .count) (c .before .args .slots .now) _
 
 -- src/lib.rt:129:23
 add-at : tie.Need-add-at Inv-loop μ-loop
@@ -68,13 +68,13 @@ part-word-at-end c = omega (arith, here c)
 
 -- src/lib.rt:131:13
 word-at-requires : tie.Need-word-at-requires Inv-loop μ-loop
-word-at-requires c κs = (search needs, part-long (c .before .before .before .before .args .slots .now) (c .before .before .loop .i * (3 + c .before .before .before .before .args .blocks)) (3 + c .before .before .before .before .args .blocks) (here (c .before)))
+word-at-requires c κs = (search needs, part-long (c .before .before .before .before .args .slots .now) (c .before .before .loop .i * (3 + c .before .before .before .before .args .blocks)) (3 + c .before .before .before .before .args .blocks) (here (c .before)), search needs, search needs)
 
 -- src/lib.rt:133:13
 returns : tie.Need-returns Inv-loop μ-loop
 returns c =
     let a = c .before .before .before .before .before .before .args in
-    end-stop (a .blocks) (a .count) (a .slots .now) (c .before .before .before .before .loop .i) (c .before .before .before .before .loop .b) _ (search needs) (slot (a .slots .now) (c .before .before .before .before .loop .i) (a .blocks) _ _ (c .before .word-at .ensures)) (c .if1 .taken) ∙ c .before .before .before .before .loop .inv
+    end-stop (a .bytes) (a .blocks) (a .count) (a .slots .now) (c .before .before .before .before .loop .i) (c .before .before .before .before .loop .b) _ (search needs) (slot (a .bytes) (a .slots .now) (c .before .before .before .before .loop .i) (a .blocks) _ _ (c .before .word-at .ensures)) (c .if1 .taken) ∙ c .before .before .before .before .loop .inv
 
 -- src/lib.rt:136:9
 add-i : tie.Need-add-i Inv-loop μ-loop
@@ -88,13 +88,13 @@ loop-less c = search needs
 loop-again : tie.Need-loop-again Inv-loop μ-loop
 loop-again c =
     let a = c .before .before .before .before .before .before .args in
-    sym (end-go (a .blocks) (a .count) (a .slots .now) (c .before .before .before .before .loop .i) (c .before .before .before .before .loop .b) _ (search needs) (slot (a .slots .now) (c .before .before .before .before .loop .i) (a .blocks) _ _ (c .before .word-at .ensures)) (c .if1 .left)) ∙ c .before .before .before .before .loop .inv
+    sym (end-go (a .bytes) (a .blocks) (a .count) (a .slots .now) (c .before .before .before .before .loop .i) (c .before .before .before .before .loop .b) _ (search needs) (slot (a .bytes) (a .slots .now) (c .before .before .before .before .loop .i) (a .blocks) _ _ (c .before .word-at .ensures)) (c .if1 .left)) ∙ c .before .before .before .before .loop .inv
 
 -- src/lib.rt:122:1
 returns-2 : tie.Need-returns-2 Inv-loop μ-loop
 returns-2 c =
     let a = c .before .before .before .args in
-    sym (end-none (a .blocks) (a .count) (c .before .loop .i) _ (c .before .loop .b) (search needs)) ∙ c .before .loop .inv
+    sym (end-none (a .bytes) (a .blocks) (a .count) (c .before .loop .i) _ (c .before .loop .b) (search needs)) ∙ c .before .loop .inv
 
 pub end-of-spec : {M : Type 1} → statement M
 end-of-spec =

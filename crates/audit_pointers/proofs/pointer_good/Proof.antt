@@ -1,12 +1,15 @@
 use native.Mathlib.Omega.{arith}
 use borrow.Author.Needs.{needs}
-use mathlib.Core.Path.{_≡_, sym, _∙_}
-use mathlib.Core.List.{List, map}
+use mathlib.Core.Bool.{Bool}
+use mathlib.Core.Path.{_≡_, sym, ap, _∙_}
+use mathlib.Core.List.{List, [], map}
 use Prim.Native.Nat.{ℕ}
+use lib.ListN.{getD}
 use denote.Ref.{now}
 use borrow.Author.Tests.{eqb-true, eq-eqb}
-use Rattle.model.specs.Measures.{baseMeasures}
-use Rattle.model.specs.Table.{wordToPointer, shelfIn}
+use Rattle.model.specs.State.{nullPosition, Segment, Shelf}
+use Rattle.model.specs.Records.{isHeld, positionAt}
+use Rattle.model.specs.Table.{wordToPointer, recordsIn}
 use Rattle.model.specs.Sound.{leads}
 use Rattle.audit_words.proofs.Pointers.{read-direct, read-indirect, read-other, direct-says, indirect-says, null-says, other-says}
 use Rattle.audit_counts.proofs.Counters.{bumped-other}
@@ -19,6 +22,11 @@ use Rattle.audit_counts.proofs.bump.Reads as bump-reads
 use Rattle.audit_pointers.proofs.held_at.Reads as held-at-reads
 use Rattle.audit_pointers.proofs.not_null.Reads as not-null-reads
 
+-- a position of the records is one of any shelf that has them
+found : {r : Bool} (shelf : Shelf) (segs : List Segment) (k i : ℕ) → shelf .records ≡ segs → r ≡ isHeld (getD (getD segs k []) i nullPosition) → r ≡ isHeld (positionAt shelf k i)
+unfolding positionAt
+found shelf segs k i q e = e ∙ ap (λ (s : List Segment). isHeld (getD (getD s k []) i nullPosition)) (sym q)
+
 -- src/lib.rt:78:9
 not-null-requires : tie.Need-not-null-requires
 not-null-requires c κs = search needs
@@ -28,8 +36,8 @@ returns : tie.Need-returns
 returns c =
     let w = c .before .before .before .before .before .args .w in
     let k = c .before .if1 .taken in
-    let e : (pool : List ℕ) → c .not-null .result ≡ leads (shelfIn baseMeasures pool (now (c .before .before .before .before .before .args .records))) (map wordToPointer (now (c .before .before .before .before .before .args .newer))) (wordToPointer w) = λ pool. rw (read-indirect w k) (c .not-null .ensures) in
-    (λ pool. record { holds = λ t. record { say = indirect-says w k; lead = sym (e pool) ∙ t }; seen = λ g. e pool ∙ g .lead }, λ t. bumped-other w _ (λ z. omega (arith, k, z)))
+    let e : (shelf : Shelf) → c .not-null .result ≡ leads shelf (map wordToPointer (now (c .before .before .before .before .before .args .newer))) (wordToPointer w) = λ shelf. rw (read-indirect w k) (c .not-null .ensures) in
+    (λ shelf q. record { holds = λ t. record { say = indirect-says w k; lead = sym (e shelf) ∙ t }; seen = λ g. e shelf ∙ g .lead }, λ t. bumped-other w _ (λ z. omega (arith, k, z)))
 
 -- src/lib.rt:81:9
 bump-requires : tie.Need-bump-requires
@@ -52,8 +60,8 @@ returns-2 : tie.Need-returns-2
 returns-2 c =
     let w = c .before .before .before .before .before .before .before .before .before .before .args .w in
     let k = c .before .before .before .before .before .if2 .taken in
-    let e : (pool : List ℕ) → c .held-at .result ≡ leads (shelfIn baseMeasures pool (now (c .before .before .before .before .before .before .before .before .before .before .args .records))) (map wordToPointer (now (c .before .before .before .before .before .before .before .before .before .before .args .newer))) (wordToPointer w) = λ pool. rw (read-direct w k) (c .held-at .ensures pool) in
-    (λ pool. record { holds = λ t. record { say = direct-says w k; lead = sym (e pool) ∙ t }; seen = λ g. e pool ∙ g .lead }, λ t. c .before .before .before .bump .ensures)
+    let e : (shelf : Shelf) → shelf .records ≡ recordsIn (c .before .before .before .before .before .before .before .before .before .before .args .n) (now (c .before .before .before .before .before .before .before .before .before .before .args .records)) → c .held-at .result ≡ leads shelf (map wordToPointer (now (c .before .before .before .before .before .before .before .before .before .before .args .newer))) (wordToPointer w) = λ shelf q. rw (read-direct w k) (found shelf _ _ _ q (c .held-at .ensures)) in
+    (λ shelf q. record { holds = λ t. record { say = direct-says w k; lead = sym (e shelf q) ∙ t }; seen = λ g. e shelf q ∙ g .lead }, λ t. c .before .before .before .bump .ensures)
 
 -- src/lib.rt:71:1
 returns-3 : tie.Need-returns-3
@@ -61,7 +69,7 @@ returns-3 c =
     let w = c .before .before .before .before .before .args .w in
     let n = c .if2 .left in
     let m = c .before .if1 .left in
-    (λ pool. record { holds = λ t. record { say = null-says w (eqb-true w 0 t); lead = rw (read-other w n m) }; seen = λ g. eq-eqb w 0 (other-says w n m (g .say)) }, λ t. bumped-other w _ n)
+    (λ shelf q. record { holds = λ t. record { say = null-says w (eqb-true w 0 t); lead = rw (read-other w n m) }; seen = λ g. eq-eqb w 0 (other-says w n m (g .say)) }, λ t. bumped-other w _ n)
 
 pub pointer-good-spec : {M : Type 1} → statement M
 pointer-good-spec =

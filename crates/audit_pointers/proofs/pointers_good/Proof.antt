@@ -13,8 +13,8 @@ use Rattle.lists.proofs.Checkers.{clash, is-so, is-not, refutes, proves}
 use Rattle.lists.proofs.Each.{each-at, each-of}
 use Rattle.lists.proofs.Slices.{every-next, every-end}
 use Rattle.lists.proofs.Tests.{every-at}
-use Rattle.model.specs.Measures.{baseMeasures}
-use Rattle.model.specs.Table.{wordToPointer, shelfIn}
+use Rattle.model.specs.State.{Shelf}
+use Rattle.model.specs.Table.{wordToPointer, recordsIn}
 use Rattle.model.specs.Sound.{leads}
 use Rattle.audit_words.specs.Words.{PointerSays}
 use Rattle.audit_counts.specs.Counters.{tallied}
@@ -26,16 +26,16 @@ use Rattle.audit_pointers.proofs.pointers_good.Lts as lts
 use Rattle.audit_pointers.proofs.pointer_good.Reads as pointer-good-reads
 
 abbrev Inv-loop : tie.InvT-loop
-Inv-loop records newer words counts₀ i₀ counts i =
-    (i ≤ length words) × ((k : ℕ) → k < i → PointerSays (getD words k 0)) × ((pool : List ℕ) → every (λ w. leads (shelfIn baseMeasures pool records) (map wordToPointer newer) (wordToPointer w)) (drop i words) ≡ every (λ w. leads (shelfIn baseMeasures pool records) (map wordToPointer newer) (wordToPointer w)) words)
+Inv-loop records newer words counts₀ n i₀ counts i =
+    (i ≤ length words) × ((k : ℕ) → k < i → PointerSays (getD words k 0)) × ((shelf : Shelf) → shelf .records ≡ recordsIn n records → every (λ w. leads shelf (map wordToPointer newer) (wordToPointer w)) (drop i words) ≡ every (λ w. leads shelf (map wordToPointer newer) (wordToPointer w)) words)
     × (length counts ≡ length counts₀) × (tallied (drop i words) counts ≡ tallied words counts₀) × ((k : ℕ) → getD counts k 0 + (length words - i) < 2 ^ 32)
 
 abbrev μ-loop : tie.MeasureT-loop
-μ-loop records newer words counts₀ i₀ counts i = length words - i
+μ-loop records newer words counts₀ n i₀ counts i = length words - i
 
 -- src/lib.rt:93:5
 loop-holds : tie.Need-loop-holds Inv-loop μ-loop
-loop-holds c = (search needs, below-none _, λ pool. refl, refl, refl, λ k. omega (arith, c .before .before .before .before .pre k))
+loop-holds c = (search needs, below-none _, λ shelf q. refl, refl, refl, λ k. omega (arith, c .before .before .before .before .pre .1 k))
 
 -- src/lib.rt:94:42
 mul-pointer-good : tie.Need-mul-pointer-good Inv-loop μ-loop
@@ -47,7 +47,7 @@ shared-slice-read-pointer-good c = search needs
 
 -- src/lib.rt:94:13
 pointer-good-requires : tie.Need-pointer-good-requires Inv-loop μ-loop
-pointer-good-requires c κs = λ k. omega (arith, c .before .before .before .loop .inv .5 k)
+pointer-good-requires c κs = (search needs, λ k. omega (arith, c .before .before .before .loop .inv .5 k))
 
 -- src/lib.rt:95:13
 same-length : tie.Need-same-length Inv-loop μ-loop
@@ -58,7 +58,7 @@ returns : tie.Need-returns Inv-loop μ-loop
 returns c =
     let words = c .before .before .before .before .before .before .before .before .before .before .before .before .args .words .now in
     let l = c .before .before .before .before .before .before .before .loop in (
-      λ pool. is-not (λ g. refutes (c .before .before .before .pointer-good .ensures .0 pool) (c .if1 .taken)
+      λ shelf q. is-not (λ g. refutes (c .before .before .before .pointer-good .ensures .0 shelf q) (c .if1 .taken)
           (record { say = each-at PointerSays 0 words (g .say) (l .i) (search needs); lead = every-at _ 0 words (sym (every-map _ wordToPointer words) ∙ g .lead) (l .i) (search needs) })),
       λ e. absurd (clash refl e),
     )
@@ -79,8 +79,8 @@ loop-again c =
     let good = c .before .before .before .pointer-good .ensures in
     let e = good .1 (not-false _ (c .if1 .left)) in (
       search needs,
-      below-more _ _ (l .inv .1) (proves (good .0 []) (c .if1 .left) .say),
-      λ pool. sym (every-next _ words (l .i) 0 (search needs) (proves (good .0 pool) (c .if1 .left) .lead)) ∙ l .inv .2 pool,
+      below-more _ _ (l .inv .1) (proves (good .0 (record { records = recordsIn _ _; cells = [] }) refl) (c .if1 .left) .say),
+      λ shelf q. sym (every-next _ words (l .i) 0 (search needs) (proves (good .0 shelf q) (c .if1 .left) .lead)) ∙ l .inv .2 shelf q,
       omega (arith, c .before .before .before .pointer-good .kept, l .inv .3),
       rw e (sym (tallied-turn words (l .i) _ (search needs)) ∙ l .inv .4),
       λ k. rw e (omega (arith, bumped-le (getD words (l .i) 0) (l .counts) k, l .inv .5 k)),
@@ -95,9 +95,9 @@ returns-2 : tie.Need-returns-2 Inv-loop μ-loop
 returns-2 c =
     let l = c .before .loop in
     let words = c .before .before .before .before .before .before .args .words .now in (
-      λ pool. is-so (record {
+      λ shelf q. is-so (record {
         say = each-of PointerSays 0 words (λ k h. l .inv .1 k (omega arith));
-        lead = every-map _ wordToPointer words ∙ sym (l .inv .2 pool) ∙ every-end _ words (l .i) (search needs);
+        lead = every-map _ wordToPointer words ∙ sym (l .inv .2 shelf q) ∙ every-end _ words (l .i) (search needs);
       }),
       λ e. tally-done words (l .i) (l .counts) _ (search needs) (l .inv .4),
     )

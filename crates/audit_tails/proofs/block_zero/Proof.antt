@@ -1,6 +1,7 @@
+use native.Mathlib.Omega.{arith}
 use mathlib.Core.Path.{sym, ap, _∙_}
-use Prim.Native.Nat.{_-_, _/_}
-use denote.Ref.{now}
+use Prim.Native.Nat.{_*_, _≤_}
+use native.Mathlib.Nat.{mul-le-mul}
 use Rattle.lists.specs.Lists.{allZero}
 use Rattle.audit_tails.proofs.Blocks.{other-block, past-block, late-block, cell-block}
 use borrow.Author.Needs.{needs}
@@ -10,62 +11,63 @@ use Rattle.audit_tails.proofs.block_zero.Reads as reads
 use Rattle.audit_tails.proofs.block_zero.Lts as lts
 use Rattle.audit_pointers.proofs.cell_at.Reads as cell-at-reads
 use Rattle.blocks.proofs.all_zero.Reads as all-zero-reads
+use Rattle.numbers.proofs.Cell.byte.Reads as byte-reads
 
--- src/lib.rt:28:9
+-- where the cell ends is a number of the machine
+end-fits : (c : tie.After-struct-known) → c .before .before .cell-at .result .0 * c .before .before .before .before .before .before .args .m .bytes ≤ 2199023255040
+end-fits c = let a : c .before .before .cell-at .result .0 ≤ 4294967295 = omega arith in let b : c .before .before .before .before .before .before .args .m .bytes ≤ 512 = search needs in mul-le-mul a b
+
+-- src/lib.rt:31:9
 returns : tie.Need-returns
-returns c = sym (other-block _ (c .before .before .before .args .w) (c .before .before .before .args .from) (c .if1 .taken))
+returns c = sym (other-block _ _ (c .before .before .before .args .w) (c .before .before .before .args .from) (c .if1 .taken))
 
--- src/lib.rt:31:73
+-- src/lib.rt:34:73
 cast-cell-at : tie.Need-cast-cell-at
 cast-cell-at c = search needs
 
--- src/lib.rt:31:9
+-- src/lib.rt:34:9
 cell-at-requires : tie.Need-cell-at-requires
 cell-at-requires c κs = search needs
 
--- src/lib.rt:33:14
-cast-at : tie.Need-cast-at
-cast-at c = search needs
+-- src/lib.rt:35:9
+byte-requires : tie.Need-byte-requires
+byte-requires c κs = search needs
 
--- src/lib.rt:33:14
-mul-at : tie.Need-mul-at
-mul-at c = search needs
-
--- src/lib.rt:34:15
+-- src/lib.rt:36:15
 add-end : tie.Need-add-end
-add-end c = search needs
+add-end c = omega (arith, end-fits c)
 
--- src/lib.rt:36:9
+-- src/lib.rt:38:9
 returns-2 : tie.Need-returns-2
-returns-2 c = let a = c .before .before .before .before .before .args in sym (past-block (a .pool .now) (a .records .now) (a .w) _ (a .from) (c .before .before .if1 .left) (c .before .cell-at .ensures (a .pool .now)) (search needs))
+returns-2 c = let a = c .before .before .before .before .before .before .before .args in sym (past-block _ (search needs) (a .pool .now) (a .records .now) (a .w) _ _ (a .from) (c .before .before .before .before .if1 .left) (c .before .before .before .cell-at .ensures) (c .before .before .byte .ensures) (search needs))
 
--- src/lib.rt:39:9
+-- src/lib.rt:41:9
 returns-3 : tie.Need-returns-3
-returns-3 c = let a = c .before .before .before .before .before .before .args in sym (late-block (a .pool .now) (a .records .now) (a .w) _ (a .from) (c .before .before .before .if1 .left) (c .before .before .cell-at .ensures (a .pool .now)) (search needs) (search needs))
+returns-3 c = let a = c .before .before .before .before .before .before .before .before .before .args in sym (late-block _ (search needs) (a .pool .now) (a .records .now) (a .w) _ _ (a .from) (c .before .before .before .before .before .before .if1 .left) (c .before .before .before .before .before .cell-at .ensures) (c .before .before .before .before .byte .ensures) (search needs) (search needs))
 
--- src/lib.rt:41:17
+-- src/lib.rt:43:17
 add-start : tie.Need-add-start
 add-start c = search needs
 
--- src/lib.rt:42:22
+-- src/lib.rt:44:22
 sub-all-zero : tie.Need-sub-all-zero
 sub-all-zero c = search needs
 
--- src/lib.rt:42:22
+-- src/lib.rt:44:22
 part-all-zero-start : tie.Need-part-all-zero-start
 part-all-zero-start c = search needs
 
--- src/lib.rt:42:22
+-- src/lib.rt:44:22
 part-all-zero-end : tie.Need-part-all-zero-end
 part-all-zero-end c = search needs
 
--- src/lib.rt:42:5
+-- src/lib.rt:44:5
 all-zero-requires : tie.Need-all-zero-requires
 all-zero-requires c κs = search needs
 
--- src/lib.rt:24:1
+-- src/lib.rt:26:1
 returns-4 : tie.Need-returns-4
-returns-4 c = let a = c .before .before .before .before .before .before .before .before .args in c .all-zero .ensures ∙ ap allZero (cell-block (a .pool .now) (a .records .now) (a .w) _ (a .from) (c .before .before .before .before .before .if1 .left) (c .before .before .before .before .cell-at .ensures (a .pool .now)) (search needs) (search needs))
+returns-4 c = let a = c .before .before .before .before .before .before .before .before .before .before .before .args in c .all-zero .ensures ∙ ap allZero (cell-block _ (search needs) (a .pool .now) (a .records .now) (a .w) _ _ (a .from) (c .before .before .before .before .before .before .before .before .if1 .left) (c .before .before .before .before .before .before .before .cell-at .ensures) (c .before .before .before .before .before .before .byte .ensures) (search needs) (search needs))
 
 pub block-zero-spec : {M : Type 1} → statement M
 block-zero-spec =
@@ -74,8 +76,7 @@ block-zero-spec =
     returns
     cast-cell-at
     cell-at-requires
-    cast-at
-    mul-at
+    byte-requires
     add-end
     returns-2
     returns-3

@@ -5,8 +5,6 @@ use Prim.Native.Nat.{ℕ, _+_, _≤_}
 use lib.ListN.{length}
 use denote.Ref.{now}
 use Rattle.lists.proofs.Answers.{part-long}
-use Rattle.model.specs.Measures.{baseMeasures}
-use Rattle.model.specs.Table.{shelfIn}
 use Rattle.audit_counts.specs.Counters.{tallied}
 use Rattle.audit_tails.proofs.Blocks.{first-long, slot-fits}
 use Rattle.audit_tills.proofs.Slots.{two-fit, few-words, mine-words, newer-none, newer-some, points-of}
@@ -20,10 +18,10 @@ use Rattle.audit_pointers.proofs.pointer_count.Reads as pointer-count-reads
 use Rattle.audit_pointers.proofs.pointers_good.Reads as pointers-good-reads
 
 one : (c : tie.After-slice-known) → 3 + c .before .before .before .args .blocks ≤ length (c .before .before .before .args .slots .now)
-one c = slot-fits (c .before .before .before .args .blocks) (c .before .before .before .args .count) _ (c .before .before .before .pre .0) (c .before .before .before .pre .3)
+one c = slot-fits (c .before .before .before .args .blocks) (c .before .before .before .args .count) _ (c .before .before .before .pre .1) (c .before .before .before .pre .4)
 
 two : (c : tie.Else1) → 3 + c .before .before .before .before .before .before .args .blocks + (3 + c .before .before .before .before .before .before .args .blocks) ≤ length (c .before .before .before .before .before .before .args .slots .now)
-two c = two-fit (c .before .before .before .before .before .before .args .blocks) (c .before .before .before .before .before .before .args .count) _ (search needs) (c .before .before .before .before .before .before .pre .3)
+two c = two-fit (c .before .before .before .before .before .before .args .blocks) (c .before .before .before .before .before .before .args .count) _ (search needs) (c .before .before .before .before .before .before .pre .4)
 
 -- src/lib.rt:24:17
 add-width : tie.Need-add-width
@@ -75,7 +73,7 @@ part-pointers-good-end-2 c = omega (arith, one (c .before .before .before .befor
 
 -- src/lib.rt:27:9
 pointers-good-requires : tie.Need-pointers-good-requires
-pointers-good-requires c κs = λ k. omega (arith, c .before .before .before .before .before .before .before .before .before .pre .4 k, few-words (c .before .before .before .before .before .before .before .before .before .args .slots .now) _ (c .before .before .before .before .before .before .before .before .before .args .blocks) (c .before .before .before .before .pointer-count .ensures .1))
+pointers-good-requires c κs = (search needs, λ k. omega (arith, c .before .before .before .before .before .before .before .before .before .pre .5 k, few-words (c .before .before .before .before .before .before .before .before .before .args .slots .now) _ (c .before .before .before .before .before .before .before .before .before .args .blocks) (c .before .before .before .before .pointer-count .ensures .1)))
 
 -- src/lib.rt:27:9
 same-length : tie.Need-same-length
@@ -85,9 +83,9 @@ same-length c = search needs
 returns : tie.Need-returns
 returns c =
     let a = c .before .before .before .before .before .before .before .before .before .before .before .before .args in
-    let w = mine-words (a .blocks) (a .count) (a .slots .now) _ (c .before .before .before .before .before .before .before .pointer-count .ensures .0) (c .before .before .before .before .before .before .before .pointer-count .ensures .1) in
+    let w = mine-words (a .m .bytes) (a .blocks) (a .count) (a .slots .now) _ (c .before .before .before .before .before .before .before .pointer-count .ensures .0) (c .before .before .before .before .before .before .before .pointer-count .ensures .1) in
     let e = c .before .before .pointers-good .ensures in
-    (λ pool. points-of (a .blocks) (a .count) (a .slots .now) (shelfIn baseMeasures pool (a .records .now)) _ _ (newer-none (a .blocks) (a .count) (a .slots .now) (search needs)) w (e .0 pool), λ t. e .1 t ∙ ap (λ (ws : List ℕ). tallied ws (now (a .counts))) w)
+    (λ shelf q. points-of (a .m .bytes) (a .blocks) (a .count) (a .slots .now) shelf _ _ (newer-none (a .m .bytes) (a .blocks) (a .count) (a .slots .now) (search needs)) w (e .0 shelf q), λ t. e .1 t ∙ ap (λ (ws : List ℕ). tallied ws (now (a .counts))) w)
 
 -- src/lib.rt:29:17
 add-twice : tie.Need-add-twice
@@ -151,7 +149,7 @@ part-pointers-good-end-4 c = omega (arith, two (c .before .before .before), c .b
 
 -- src/lib.rt:32:5
 pointers-good-requires-2 : tie.Need-pointers-good-requires-2
-pointers-good-requires-2 c κs = λ k. omega (arith, c .before .before .before .before .before .before .before .before .before .before .before .pre .4 k, few-words (c .before .before .before .before .before .before .before .before .before .before .before .args .slots .now) _ (c .before .before .before .before .before .before .before .before .before .before .before .args .blocks) (c .before .before .before .before .before .before .pointer-count .ensures .1))
+pointers-good-requires-2 c κs = (search needs, λ k. omega (arith, c .before .before .before .before .before .before .before .before .before .before .before .pre .5 k, few-words (c .before .before .before .before .before .before .before .before .before .before .before .args .slots .now) _ (c .before .before .before .before .before .before .before .before .before .before .before .args .blocks) (c .before .before .before .before .before .before .pointer-count .ensures .1)))
 
 -- src/lib.rt:14:1
 same-length-2 : tie.Need-same-length-2
@@ -161,9 +159,9 @@ same-length-2 c = search needs
 returns-2 : tie.Need-returns-2
 returns-2 c =
     let a = c .before .before .before .before .before .before .before .before .before .before .before .before .before .before .args in
-    let w = mine-words (a .blocks) (a .count) (a .slots .now) _ (c .before .before .before .before .before .before .before .before .before .pointer-count .ensures .0) (c .before .before .before .before .before .before .before .before .before .pointer-count .ensures .1) in
+    let w = mine-words (a .m .bytes) (a .blocks) (a .count) (a .slots .now) _ (c .before .before .before .before .before .before .before .before .before .pointer-count .ensures .0) (c .before .before .before .before .before .before .before .before .before .pointer-count .ensures .1) in
     let e = c .before .before .pointers-good2 .ensures in
-    (λ pool. points-of (a .blocks) (a .count) (a .slots .now) (shelfIn baseMeasures pool (a .records .now)) _ _ (newer-some (a .blocks) (a .count) (a .slots .now) _ (search needs) (c .before .before .before .before .before .before .pointer-count2 .ensures .0) (c .before .before .before .before .before .before .pointer-count2 .ensures .1)) w (e .0 pool), λ t. e .1 t ∙ ap (λ (ws : List ℕ). tallied ws (now (a .counts))) w)
+    (λ shelf q. points-of (a .m .bytes) (a .blocks) (a .count) (a .slots .now) shelf _ _ (newer-some (a .m .bytes) (a .blocks) (a .count) (a .slots .now) _ (search needs) (c .before .before .before .before .before .before .pointer-count2 .ensures .0) (c .before .before .before .before .before .before .pointer-count2 .ensures .1)) w (e .0 shelf q), λ t. e .1 t ∙ ap (λ (ws : List ℕ). tallied ws (now (a .counts))) w)
 
 pub slot-points-spec : {M : Type 1} → statement M
 slot-points-spec =

@@ -12,7 +12,7 @@ use Rattle.lists.proofs.Checkers.{clash, is-not, refutes, proves}
 use Rattle.lists.proofs.Answers.{tells-at}
 use Rattle.audit_words.specs.Words.{SlotFrame}
 use Rattle.audit_tails.proofs.Blocks.{first-slot, first-long, slot-fits}
-use Rattle.audit_tills.proofs.Slots.{slot-tallied, form-frame, frame-form}
+use Rattle.audit_tills.proofs.Slots.{shelf-records, slot-tallied, form-frame, frame-form}
 use borrow.Author.Needs.{needs}
 use borrow.Author.Needs.{needs}
 use Rattle.audit_tills.proofs.slot_says.Statement.{statement}
@@ -24,10 +24,10 @@ use Rattle.audit_tills.proofs.slot_points.Reads as slot-points-reads
 use Rattle.audit_words.proofs.slot_frame.Reads as slot-frame-reads
 
 here : (c : tie.After-slice-known) → 3 + c .before .before .before .before .args .blocks ≤ length (c .before .before .before .before .args .slots .now)
-here c = slot-fits (c .before .before .before .before .args .blocks) (c .before .before .before .before .args .count) _ (c .before .before .before .before .pre .0) (c .before .before .before .before .pre .3)
+here c = slot-fits (c .before .before .before .before .args .blocks) (c .before .before .before .before .args .count) _ (c .before .before .before .before .pre .1) (c .before .before .before .before .pre .4)
 
-frame : {r : Bool} (b : ℕ) (ws : List ℕ) → Tells r (SlotFrame b (take (3 + b - 0) (drop 0 ws))) → Tells r (SlotFrame b (take (3 + b) ws))
-frame b ws t = tells-at (SlotFrame b) (first-slot b ws) t
+frame : {r : Bool} (bytes b : ℕ) (ws : List ℕ) → Tells r (SlotFrame bytes b (take (3 + b - 0) (drop 0 ws))) → Tells r (SlotFrame bytes b (take (3 + b) ws))
+frame bytes b ws t = tells-at (SlotFrame bytes b) (first-slot b ws) t
 
 -- src/lib.rt:48:17
 add-width : tie.Need-add-width
@@ -63,7 +63,7 @@ slot-frame-requires c κs = search needs
 
 -- src/lib.rt:53:9
 returns-2 : tie.Need-returns-2
-returns-2 c = (is-not (λ s. refutes (frame (c .before .before .before .before .before .before .before .before .before .args .blocks) (c .before .before .before .before .before .before .before .before .before .args .slots .now) (c .before .slot-frame .ensures)) (c .if2 .taken) (form-frame (s .form))), λ e. absurd (clash refl e))
+returns-2 c = (is-not (λ s. refutes (frame _ (c .before .before .before .before .before .before .before .before .before .args .blocks) (c .before .before .before .before .before .before .before .before .before .args .slots .now) (c .before .slot-frame .ensures)) (c .if2 .taken) (form-frame (s .form))), λ e. absurd (clash refl e))
 
 -- src/lib.rt:55:9
 slot-points-requires : tie.Need-slot-points-requires
@@ -75,7 +75,7 @@ same-length c = search needs
 
 -- src/lib.rt:56:9
 returns-3 : tie.Need-returns-3
-returns-3 c = (is-not (λ s. refutes (c .before .before .before .slot-points .ensures .0 (c .before .before .before .before .before .before .before .before .before .before .before .before .before .before .args .pool .now)) (c .if3 .taken) (record { say = s .form .pointers; lead = s .leading })), λ e. absurd (clash refl e))
+returns-3 c = (is-not (λ s. refutes (c .before .before .before .slot-points .ensures .0 _ (shelf-records _ _ _)) (c .if3 .taken) (record { say = s .form .pointers; lead = s .leading })), λ e. absurd (clash refl e))
 
 -- src/lib.rt:58:5
 tail-zero-requires : tie.Need-tail-zero-requires
@@ -89,8 +89,8 @@ same-length-2 c = search needs
 returns-4 : tie.Need-returns-4
 returns-4 c =
     let a = c .before .before .before .before .before .before .before .before .before .before .before .before .before .before .before .args in
-    let f = proves (frame (a .blocks) (a .slots .now) (c .before .before .before .before .before .before .before .slot-frame .ensures)) (c .before .before .before .before .before .before .if2 .left) in
-    let g = proves (c .before .before .before .before .slot-points .ensures .0 (a .pool .now)) (c .before .if3 .left) in
+    let f = proves (frame _ (a .blocks) (a .slots .now) (c .before .before .before .before .before .before .before .slot-frame .ensures)) (c .before .before .before .before .before .before .if2 .left) in
+    let g = proves (c .before .before .before .before .slot-points .ensures .0 _ (shelf-records _ (a .pool .now) (a .records .now))) (c .before .if3 .left) in
     let row = take (3 + a .blocks) (a .slots .now) in
     let l : length row ≡ 3 + a .blocks = length-take-le (3 + a .blocks) (a .slots .now) (here (c .before .before .before .before .before .before .before .before .before .before .before)) in
     let n : getD row 0 0 ≡ getD (a .slots .now) 0 0 = getD-take (3 + a .blocks) (a .slots .now) 0 0 (omega arith) in (
@@ -99,7 +99,7 @@ returns-4 c =
         seen = λ s. c .tail-zero .ensures ∙ s .ends;
       },
       λ e. c .before .before .before .before .slot-points .ensures .1 (not-false _ (c .before .if3 .left))
-          ∙ sym (slot-tallied (a .blocks) row _ (omega (arith, l)) (omega (arith, n, c .before .before .before .before .before .before .before .before .before .if1 .left, c .before .before .before .before .before .before .before .before .before .before .before .before .before .before .before .pre .4)) f (c .before .before .before .before .before .before .before .before .before .before .before .before .before .before .before .pre .1)),
+          ∙ sym (slot-tallied _ (a .blocks) row _ (omega (arith, l)) (omega (arith, n, c .before .before .before .before .before .before .before .before .before .if1 .left, c .before .before .before .before .before .before .before .before .before .before .before .before .before .before .before .pre .5)) f (search needs) (search needs)),
     )
 
 pub slot-says-spec : {M : Type 1} → statement M

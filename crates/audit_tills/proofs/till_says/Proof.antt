@@ -26,10 +26,10 @@ use Rattle.audit_words.proofs.zeros.Reads as zeros-reads
 used : (c : tie.Else1) → getD (c .before .before .before .before .before .before .before .args .till .now) 1 0 * (3 + c .before .before .before .before .before .before .before .args .blocks) ≤ c .before .before .before .before .before .before .before .args .versions * (3 + c .before .before .before .before .before .before .before .args .blocks)
 used c = used-fit (c .before .before .before .before .before .before .before .args .versions) (c .before .before .before .before .before .before .before .args .blocks) _ (c .if1 .left)
 
-slots : {r : Bool} (shelf : Shelf) (b n first : ℕ) (row : List ℕ)
-    → Tells r ((i : ℕ) → i < n → SlotSays shelf b (n - i) (first + i) (drop (i * (3 + b)) (take (length row - 4) (drop 4 row))))
-    → Tells r ((i : ℕ) → i < n → SlotSays shelf b (n - i) (first + i) (drop (i * (3 + b)) (drop 4 row)))
-slots shelf b n first row t = tells-at (λ ws. (i : ℕ) → i < n → SlotSays shelf b (n - i) (first + i) (drop (i * (3 + b)) ws)) (tail-all row 4) t
+slots : {r : Bool} (bytes : ℕ) (shelf : Shelf) (b n first : ℕ) (row : List ℕ)
+    → Tells r ((i : ℕ) → i < n → SlotSays bytes shelf b (n - i) (first + i) (drop (i * (3 + b)) (take (length row - 4) (drop 4 row))))
+    → Tells r ((i : ℕ) → i < n → SlotSays bytes shelf b (n - i) (first + i) (drop (i * (3 + b)) (drop 4 row)))
+slots bytes shelf b n first row t = tells-at (λ ws. (i : ℕ) → i < n → SlotSays bytes shelf b (n - i) (first + i) (drop (i * (3 + b)) ws)) (tail-all row 4) t
 
 -- src/lib.rt:105:16
 shared-slice-read-last : tie.Need-shared-slice-read-last
@@ -101,7 +101,7 @@ sub-slots-say-2 c = search needs
 
 -- src/lib.rt:119:9
 slots-say-requires : tie.Need-slots-say-requires
-slots-say-requires c κs = (search needs, search needs, search needs, slots-fit (c .before .before .before .before .before .before .before .before .before .before .before .before .before .before .args .versions) (c .before .before .before .before .before .before .before .before .before .before .before .before .before .before .args .blocks) _ (c .before .before .before .before .before .before .before .before .before .before .before .before .before .before .args .till .now) (search needs) (c .before .before .before .before .before .before .before .before .before .before .before .before .before .before .pre .2), λ k. omega (arith, used (c .before .before .before .before .before .before .before), c .before .before .before .before .before .before .before .before .before .before .before .before .before .before .pre .2, c .before .before .before .before .before .before .before .before .before .before .before .before .before .before .pre .3 k))
+slots-say-requires c κs = (search needs, search needs, search needs, search needs, slots-fit (c .before .before .before .before .before .before .before .before .before .before .before .before .before .before .args .versions) (c .before .before .before .before .before .before .before .before .before .before .before .before .before .before .args .blocks) _ (c .before .before .before .before .before .before .before .before .before .before .before .before .before .before .args .till .now) (search needs) (c .before .before .before .before .before .before .before .before .before .before .before .before .before .before .pre .3), λ k. omega (arith, used (c .before .before .before .before .before .before .before), c .before .before .before .before .before .before .before .before .before .before .before .before .before .before .pre .3, c .before .before .before .before .before .before .before .before .before .before .before .before .before .before .pre .4 k))
 
 -- src/lib.rt:128:9
 same-length : tie.Need-same-length
@@ -109,7 +109,7 @@ same-length c = search needs
 
 -- src/lib.rt:128:9
 returns-5 : tie.Need-returns-5
-returns-5 c = (is-not (λ t. refutes (slots _ (c .before .before .before .before .before .before .before .before .before .before .before .before .before .before .before .before .before .before .args .blocks) _ _ (c .before .before .before .before .before .before .before .before .before .before .before .before .before .before .before .before .before .before .args .till .now) (c .before .before .before .slots-say .ensures .0)) (c .if5 .taken) (t .slots)), λ e. absurd (clash refl e))
+returns-5 c = (is-not (λ t. refutes (slots _ _ (c .before .before .before .before .before .before .before .before .before .before .before .before .before .before .before .before .before .before .args .blocks) _ _ (c .before .before .before .before .before .before .before .before .before .before .before .before .before .before .before .before .before .before .args .till .now) (c .before .before .before .slots-say .ensures .0)) (c .if5 .taken) (t .slots)), λ e. absurd (clash refl e))
 
 -- src/lib.rt:130:28
 add-end : tie.Need-add-end
@@ -156,10 +156,10 @@ returns-6 c =
     let e = c .before .before .before .before .before .slots-say .ensures in
     let two = answer-yes (c .before .before .before .before .before .before .before .before .before .zeros .ensures) (c .before .before .before .before .before .before .before .before .if4 .left) in (
       record {
-        holds = λ t. record { few = search needs; upto = search needs; most = search needs; zeros = two; slots = proves (slots _ (a .blocks) _ _ row (e .0)) (c .before .before .if5 .left); rest = sym z ∙ t };
+        holds = λ t. record { few = search needs; upto = search needs; most = search needs; zeros = two; slots = proves (slots _ _ (a .blocks) _ _ row (e .0)) (c .before .before .if5 .left); rest = sym z ∙ t };
         seen = λ t. z ∙ t .rest;
       },
-      λ t. till-tallied row _ _ (getD row 1 0 * (3 + a .blocks)) (omega (arith, c .before .before .before .before .before .before .before .before .before .before .before .before .before .before .before .before .before .before .before .before .pre .2)) (search needs) (omega (arith, c .before .before .before .before .before .before .before .before .before .before .before .before .before .if1 .left, c .before .before .before .before .before .before .before .before .before .before .before .before .before .before .before .before .before .before .before .before .pre .0)) two (sym z ∙ t) (rw (tail-all row 4) at (e .1 (not-false _ (c .before .before .if5 .left)))),
+      λ t. till-tallied row _ _ (getD row 1 0 * (3 + a .blocks)) (omega (arith, c .before .before .before .before .before .before .before .before .before .before .before .before .before .before .before .before .before .before .before .before .pre .3)) (search needs) (omega (arith, c .before .before .before .before .before .before .before .before .before .before .before .before .before .if1 .left, c .before .before .before .before .before .before .before .before .before .before .before .before .before .before .before .before .before .before .before .before .pre .1)) two (sym z ∙ t) (rw (tail-all row 4) at (e .1 (not-false _ (c .before .before .if5 .left)))),
     )
 
 pub till-says-spec : {M : Type 1} → statement M

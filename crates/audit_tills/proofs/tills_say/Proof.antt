@@ -12,9 +12,10 @@ use borrow.Author.Tests.{not-false}
 use Rattle.lists.specs.Tells.{Tells}
 use Rattle.lists.proofs.Checkers.{clash, is-so, is-not, refutes, proves}
 use Rattle.lists.proofs.Answers.{tells-at, part-is, part-long}
-use Rattle.model.specs.Measures.{baseMeasures, tillWords}
+use Rattle.model.specs.Measures.{tillWords}
 use Rattle.model.specs.State.{Shelf}
 use Rattle.model.specs.Table.{shelfIn}
+use Rattle.numbers.specs.Measures.{measuresOf}
 use Rattle.audit_counts.specs.Counters.{tallied}
 use Rattle.audit_words.proofs.Sizes.{till-small}
 use Rattle.audit_tills.specs.Says.{TillSays}
@@ -26,21 +27,21 @@ use Rattle.audit_tills.proofs.tills_say.Lts as lts
 use Rattle.audit_tills.proofs.till_says.Reads as till-says-reads
 
 abbrev Inv-loop : tie.InvT-loop
-Inv-loop pool records tills count versions blocks counts₀ width t₀ counts t =
-    (t ≤ count) × ((j : ℕ) → j < t → TillSays (shelfIn baseMeasures pool records) versions blocks (take (tillWords versions blocks) (drop (j * tillWords versions blocks) tills)))
+Inv-loop pool records tills count versions blocks counts₀ m width t₀ counts t =
+    (t ≤ count) × ((j : ℕ) → j < t → TillSays (m .bytes) (shelfIn (measuresOf m) pool records) versions blocks (take (tillWords versions blocks) (drop (j * tillWords versions blocks) tills)))
     × (length counts ≡ length counts₀) × (counts ≡ tallied (take (t * tillWords versions blocks) tills) counts₀)
 
 abbrev μ-loop : tie.MeasureT-loop
-μ-loop pool records tills count versions blocks counts₀ width t₀ counts t = count - t
+μ-loop pool records tills count versions blocks counts₀ m width t₀ counts t = count - t
 
 here : (c : tie.In-loop Inv-loop μ-loop)
     → c .before .loop .t * (4 + c .before .before .before .before .before .before .args .versions * (3 + c .before .before .before .before .before .before .args .blocks)) + (4 + c .before .before .before .before .before .before .args .versions * (3 + c .before .before .before .before .before .before .args .blocks)) ≤ length (c .before .before .before .before .before .before .args .tills .now)
-here c = let f = till-fits (c .before .loop .t) (c .before .before .before .before .before .before .args .count) (c .before .before .before .before .before .before .args .versions * (3 + c .before .before .before .before .before .before .args .blocks)) (search needs) in omega (arith, f, c .before .before .before .before .before .before .pre .3)
+here c = let f = till-fits (c .before .loop .t) (c .before .before .before .before .before .before .args .count) (c .before .before .before .before .before .before .args .versions * (3 + c .before .before .before .before .before .before .args .blocks)) (search needs) in omega (arith, f, c .before .before .before .before .before .before .pre .4)
 
-row : {r : Bool} (shelf : Shelf) (v b t : ℕ) (ws : List ℕ)
-    → Tells r (TillSays shelf v b (take (t * tillWords v b + tillWords v b - t * tillWords v b) (drop (t * tillWords v b) ws)))
-    → Tells r (TillSays shelf v b (take (tillWords v b) (drop (t * tillWords v b) ws)))
-row shelf v b t ws h = tells-at (TillSays shelf v b) (part-is ws (t * tillWords v b) (tillWords v b)) h
+row : {r : Bool} (bytes : ℕ) (shelf : Shelf) (v b t : ℕ) (ws : List ℕ)
+    → Tells r (TillSays bytes shelf v b (take (t * tillWords v b + tillWords v b - t * tillWords v b) (drop (t * tillWords v b) ws)))
+    → Tells r (TillSays bytes shelf v b (take (tillWords v b) (drop (t * tillWords v b) ws)))
+row bytes shelf v b t ws h = tells-at (TillSays bytes shelf v b) (part-is ws (t * tillWords v b) (tillWords v b)) h
 
 -- src/lib.rt:147:33
 add-width : tie.Need-add-width Inv-loop μ-loop
@@ -48,11 +49,11 @@ add-width c = search needs
 
 -- src/lib.rt:147:21
 mul-width : tie.Need-mul-width Inv-loop μ-loop
-mul-width c = omega (arith, till-small (c .before .before .before .before .args .versions) (c .before .before .before .before .args .blocks) (c .before .before .before .before .pre .1) (c .before .before .before .before .pre .2))
+mul-width c = omega (arith, till-small (c .before .before .before .before .args .versions) (c .before .before .before .before .args .blocks) (c .before .before .before .before .pre .2) (c .before .before .before .before .pre .3))
 
 -- src/lib.rt:147:17
 add-width-2 : tie.Need-add-width-2 Inv-loop μ-loop
-add-width-2 c = omega (arith, till-small (c .before .before .before .before .args .versions) (c .before .before .before .before .args .blocks) (c .before .before .before .before .pre .1) (c .before .before .before .before .pre .2))
+add-width-2 c = omega (arith, till-small (c .before .before .before .before .args .versions) (c .before .before .before .before .args .blocks) (c .before .before .before .before .pre .2) (c .before .before .before .before .pre .3))
 
 -- src/lib.rt:149:5
 loop-holds : tie.Need-loop-holds Inv-loop μ-loop
@@ -89,7 +90,7 @@ till-says-requires c κs =
     let l = c .before .before .before .loop in
     let w = tillWords (a .versions) (a .blocks) in
     let n = part-long (a .tills .now) (l .t * w) w (here (c .before .before)) in
-    (search needs, search needs, n, λ k. rw n (room-left (l .t * w) w (a .tills .now) _ _ (l .inv .3) (λ j. omega (arith, here (c .before .before), c .before .before .before .before .before .before .before .before .pre .4 j)) k))
+    (search needs, search needs, search needs, n, λ k. rw n (room-left (l .t * w) w (a .tills .now) _ _ (l .inv .3) (λ j. omega (arith, here (c .before .before), c .before .before .before .before .before .before .before .before .pre .5 j)) k))
 
 -- src/lib.rt:160:13
 same-length : tie.Need-same-length Inv-loop μ-loop
@@ -97,7 +98,7 @@ same-length c = omega (arith, c .before .before .before .till-says .kept, c .bef
 
 -- src/lib.rt:160:13
 returns : tie.Need-returns Inv-loop μ-loop
-returns c = (is-not (λ e. refutes (row _ (c .before .before .before .before .before .before .before .before .before .before .before .before .args .versions) (c .before .before .before .before .before .before .before .before .before .before .before .before .args .blocks) (c .before .before .before .before .before .before .before .loop .t) (c .before .before .before .before .before .before .before .before .before .before .before .before .args .tills .now) (c .before .before .before .till-says .ensures .0)) (c .if1 .taken) (e (c .before .before .before .before .before .before .before .loop .t) (search needs))), λ e. absurd (clash refl e))
+returns c = (is-not (λ e. refutes (row _ _ (c .before .before .before .before .before .before .before .before .before .before .before .before .args .versions) (c .before .before .before .before .before .before .before .before .before .before .before .before .args .blocks) (c .before .before .before .before .before .before .before .loop .t) (c .before .before .before .before .before .before .before .before .before .before .before .before .args .tills .now) (c .before .before .before .till-says .ensures .0)) (c .if1 .taken) (e (c .before .before .before .before .before .before .before .loop .t) (search needs))), λ e. absurd (clash refl e))
 
 -- src/lib.rt:162:9
 add-t : tie.Need-add-t Inv-loop μ-loop
@@ -115,7 +116,7 @@ loop-again c =
     let e = c .before .before .before .till-says .ensures in
     let w = tillWords (a .versions) (a .blocks) in (
       search needs,
-      below-more _ _ (l .inv .1) (proves (row _ (a .versions) (a .blocks) (l .t) (a .tills .now) (e .0)) (c .if1 .left)),
+      below-more _ _ (l .inv .1) (proves (row _ _ (a .versions) (a .blocks) (l .t) (a .tills .now) (e .0)) (c .if1 .left)),
       omega (arith, c .before .before .before .till-says .kept, l .inv .2),
       next-tallied (l .t) w (a .tills .now) _ _ _ (l .inv .3) (rw (part-is (a .tills .now) (l .t * w) w) at (e .1 (not-false _ (c .if1 .left)))),
     )
@@ -130,7 +131,7 @@ returns-2 c =
     let l = c .before .loop in
     let a = c .before .before .before .before .before .before .args in
     let n : l .t ≡ a .count = omega arith in
-    (is-so (λ k h. l .inv .1 k (omega arith)), λ e. l .inv .3 ∙ ap (λ (ws : List ℕ). tallied ws (now (a .counts))) (ap (λ (m : ℕ). take (m * tillWords (a .versions) (a .blocks)) (a .tills .now)) n ∙ take-all (a .count * tillWords (a .versions) (a .blocks)) (a .tills .now) (omega (arith, c .before .before .before .before .before .before .pre .3))))
+    (is-so (λ k h. l .inv .1 k (omega arith)), λ e. l .inv .3 ∙ ap (λ (ws : List ℕ). tallied ws (now (a .counts))) (ap (λ (m : ℕ). take (m * tillWords (a .versions) (a .blocks)) (a .tills .now)) n ∙ take-all (a .count * tillWords (a .versions) (a .blocks)) (a .tills .now) (omega (arith, c .before .before .before .before .before .before .pre .4))))
 
 pub tills-say-spec : {M : Type 1} → statement M
 tills-say-spec =

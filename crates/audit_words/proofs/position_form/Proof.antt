@@ -58,6 +58,9 @@ add-result : tie.Need-add-result
 add-result c = search needs
 
 -- src/lib.rt:96:5
+add-result-2 : tie.Need-add-result-2
+add-result-2 c = search needs
+
 mul-result : tie.Need-mul-result
 mul-result c = search needs
 
@@ -87,6 +90,7 @@ position-form-spec =
     shared-slice-read-if2
     returns-2
     add-result
+    add-result-2
     mul-result
     shared-slice-read-result
     returns-3)

@@ -11,10 +11,10 @@ use Rattle.audit_words.proofs.positions_form.Lts as lts
 use Rattle.audit_words.proofs.position_form.Reads as position-form-reads
 
 abbrev Inv-loop : tie.InvT-loop
-Inv-loop row i₀ i = (i ≤ 8) × ((k : ℕ) → k < i → PositionForm row k)
+Inv-loop row n i₀ i = (i ≤ n) × ((k : ℕ) → k < i → PositionForm n row k)
 
 abbrev μ-loop : tie.MeasureT-loop
-μ-loop row i₀ i = 8 - i
+μ-loop row n i₀ i = n - i
 
 -- src/lib.rt:105:5
 loop-holds : tie.Need-loop-holds Inv-loop μ-loop

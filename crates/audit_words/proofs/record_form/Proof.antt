@@ -1,5 +1,4 @@
 use native.Mathlib.Omega.{arith}
-use Prim.Native.Nat.{_-_, _/_}
 use Rattle.lists.proofs.Checkers.{is-not, refutes, proves}
 use borrow.Author.Needs.{needs}
 use Rattle.audit_words.proofs.record_form.Statement.{statement}
@@ -7,51 +6,55 @@ use Rattle.audit_words.proofs.record_form.Tie as tie
 use Rattle.audit_words.proofs.record_form.Reads as reads
 use Rattle.audit_words.proofs.record_form.Lts as lts
 use Rattle.audit_words.proofs.in_use.Reads as in-use-reads
+use Rattle.audit_words.proofs.past_masks.Reads as past-masks-reads
 use Rattle.audit_words.proofs.positions_form.Reads as positions-form-reads
 
--- src/lib.rt:129:17
+-- src/lib.rt:107:17
 shared-slice-read-helds : tie.Need-shared-slice-read-helds
 shared-slice-read-helds c = search needs
 
--- src/lib.rt:130:20
+-- src/lib.rt:108:20
 shared-slice-read-removeds : tie.Need-shared-slice-read-removeds
 shared-slice-read-removeds c = search needs
 
--- src/lib.rt:132:9
+-- src/lib.rt:109:9
+past-masks-requires : tie.Need-past-masks-requires
+past-masks-requires c κs = search needs
+
+-- src/lib.rt:111:9
 returns : tie.Need-returns
-returns c = is-not (λ f. omega (arith, f .helds))
+returns c = is-not (λ f. omega (arith, f .helds, c .before .past-masks .ensures))
 
--- src/lib.rt:135:9
+-- src/lib.rt:114:9
 returns-2 : tie.Need-returns-2
-returns-2 c = is-not (λ f. omega (arith, f .removeds))
+returns-2 c = is-not (λ f. omega (arith, f .removeds, c .before .before .past-masks .ensures))
 
--- src/lib.rt:137:8
+-- src/lib.rt:116:8
 shared-slice-read-if3 : tie.Need-shared-slice-read-if3
 shared-slice-read-if3 c = search needs
 
--- src/lib.rt:138:9
+-- src/lib.rt:117:9
 returns-3 : tie.Need-returns-3
 returns-3 c = is-not (λ f. c .if3 .taken (f .third))
 
--- src/lib.rt:140:9
+-- src/lib.rt:119:9
 in-use-requires : tie.Need-in-use-requires
 in-use-requires c κs = search needs
 
--- src/lib.rt:141:9
+-- src/lib.rt:120:9
 returns-4 : tie.Need-returns-4
 returns-4 c = is-not (λ f. refutes (c .before .in-use .ensures) (c .if4 .taken) (f .used))
 
--- src/lib.rt:143:5
+-- src/lib.rt:122:5
 positions-form-requires : tie.Need-positions-form-requires
 positions-form-requires c κs = search needs
 
--- src/lib.rt:125:1
+-- src/lib.rt:103:1
 returns-5 : tie.Need-returns-5
-returns-5 c =
-    record {
-      holds = λ e. record { helds = search needs; removeds = search needs; third = search needs; positions = c .positions-form .ensures .holds e; used = proves (c .before .before .in-use .ensures) (c .before .if4 .left) };
-      seen = λ f. c .positions-form .ensures .seen (f .positions);
-    }
+returns-5 c = record {
+  holds = λ e. record { helds = omega (arith, c .before .before .before .before .before .before .if1 .left, c .before .before .before .before .before .before .before .past-masks .ensures); removeds = omega (arith, c .before .before .before .before .before .if2 .left, c .before .before .before .before .before .before .before .past-masks .ensures); third = search needs; positions = c .positions-form .ensures .holds e; used = proves (c .before .before .in-use .ensures) (c .before .if4 .left) };
+  seen = λ f. c .positions-form .ensures .seen (f .positions);
+}
 
 pub record-form-spec : {M : Type 1} → statement M
 record-form-spec =
@@ -59,6 +62,7 @@ record-form-spec =
     (tie.spec
     shared-slice-read-helds
     shared-slice-read-removeds
+    past-masks-requires
     returns
     returns-2
     shared-slice-read-if3

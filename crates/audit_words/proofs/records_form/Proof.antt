@@ -1,93 +1,107 @@
 use native.Mathlib.Omega.{arith}
 use borrow.Author.Needs.{needs}
 use mathlib.Core.Bool.{Bool}
-use mathlib.Core.Path.{_≡_, refl}
+use mathlib.Core.Path.{_≡_, _∙_}
 use mathlib.Core.List.{List}
 use Prim.Native.Nat.{ℕ, _+_, _*_, _-_, _/_, _≤_, _<_}
 use lib.ListN.{length, take, drop}
-use denote.Ref.{now}
 use borrow.Author.Count.{below-none, below-more}
 use Rattle.lists.specs.Tells.{Tells}
 use Rattle.lists.specs.Rows.{chunks}
 use Rattle.lists.specs.Each.{Each}
 use Rattle.lists.proofs.Checkers.{is-so, is-not, refutes, proves}
 use Rattle.lists.proofs.Cuts.{each-part, part-each}
-use Rattle.audit_words.specs.Words.{RecordForm}
+use Rattle.lists.proofs.Places.{row-in}
 use Rattle.lists.proofs.Answers.{tells-at, part-is, part-long}
+use Rattle.model.specs.Measures.{recordWords}
+use Rattle.audit_words.specs.Words.{RecordForm}
 use Rattle.audit_words.proofs.records_form.Statement.{statement}
 use Rattle.audit_words.proofs.records_form.Tie as tie
 use Rattle.audit_words.proofs.records_form.Reads as reads
 use Rattle.audit_words.proofs.records_form.Lts as lts
 use Rattle.audit_words.proofs.record_form.Reads as record-form-reads
+use Rattle.numbers.proofs.parts.Reads as parts-reads
+use Rattle.numbers.proofs.row_words.Reads as row-words-reads
 
 abbrev Inv-loop : tie.InvT-loop
-Inv-loop records n k₀ k = (k ≤ n) × (n ≡ length records / 19) × ((j : ℕ) → j < k → RecordForm (take 19 (drop (j * 19) records)))
+Inv-loop records n width count k₀ k = (k ≤ count) × (width ≡ recordWords n) × (count ≡ length records / width) × ((j : ℕ) → j < k → RecordForm n (take width (drop (j * width) records)))
 
 abbrev μ-loop : tie.MeasureT-loop
-μ-loop records n k₀ k = n - k
+μ-loop records n width count k₀ k = count - k
 
-row : {r : Bool} (ws : List ℕ) (k : ℕ) → Tells r (RecordForm (take (k * 19 + 19 - k * 19) (drop (k * 19) ws))) → Tells r (RecordForm (take 19 (drop (k * 19) ws)))
-row ws k t = tells-at RecordForm (part-is ws (k * 19) 19) t
+row : {r : Bool} (n : ℕ) (ws : List ℕ) (k w : ℕ) → Tells r (RecordForm n (take (k * w + w - k * w) (drop (k * w) ws))) → Tells r (RecordForm n (take w (drop (k * w) ws)))
+row n ws k w t = tells-at (RecordForm n) (part-is ws (k * w) w) t
 
-rows-of : (ws : List ℕ) → ((k : ℕ) → k < length ws / 19 → RecordForm (take 19 (drop (k * 19) ws))) → Each RecordForm (chunks 19 ws)
+rows-of : (n : ℕ) (ws : List ℕ) (w : ℕ) → w ≡ recordWords n → ((k : ℕ) → k < length ws / w → RecordForm n (take w (drop (k * w) ws))) → Each (RecordForm n) (chunks (recordWords n) ws)
 unfolding chunks
-rows-of ws f = each-part RecordForm 19 (length ws / 19) ws f
+rows-of n ws w e f = rw (← e) (each-part (RecordForm n) w (length ws / w) ws f)
 
-row-of : (ws : List ℕ) → Each RecordForm (chunks 19 ws) → (k : ℕ) → k < length ws / 19 → RecordForm (take 19 (drop (k * 19) ws))
+row-of : (n : ℕ) (ws : List ℕ) (w : ℕ) → w ≡ recordWords n → Each (RecordForm n) (chunks (recordWords n) ws) → (k : ℕ) → k < length ws / w → RecordForm n (take w (drop (k * w) ws))
 unfolding chunks
-row-of ws e = part-each RecordForm 19 (length ws / 19) ws e
+row-of n ws w e f = part-each (RecordForm n) w (length ws / w) ws (rw (← e) at f)
 
--- src/lib.rt:152:5
+inside : (c : tie.In-loop Inv-loop μ-loop) → (let w = c .before .before .before .row-words .result in c .before .loop .k * w + w ≤ length (c .before .before .before .before .before .args .records .now))
+inside c = row-in _ (c .before .before .before .row-words .result) (omega (arith, c .before .loop .inv .1)) _ (omega (arith, c .before .loop .inv .2))
+
+-- src/lib.rt:130:9
+row-words-requires : tie.Need-row-words-requires Inv-loop μ-loop
+row-words-requires c κs = search needs
+
+-- src/lib.rt:131:9
+parts-requires : tie.Need-parts-requires Inv-loop μ-loop
+parts-requires c κs = search needs
+
+-- src/lib.rt:133:5
 loop-holds : tie.Need-loop-holds Inv-loop μ-loop
-loop-holds c = (omega arith, refl, below-none _)
+loop-holds c = (omega arith, c .before .row-words .ensures .0, c .parts .ensures, below-none _)
 
--- src/lib.rt:153:18
+-- src/lib.rt:134:18
 mul-at : tie.Need-mul-at Inv-loop μ-loop
-mul-at c = search needs
+mul-at c = omega (arith, inside c)
 
--- src/lib.rt:154:19
+-- src/lib.rt:135:19
 add-end : tie.Need-add-end Inv-loop μ-loop
-add-end c = search needs
+add-end c = omega (arith, inside c)
 
--- src/lib.rt:155:25
+-- src/lib.rt:136:25
 mul-record-form : tie.Need-mul-record-form Inv-loop μ-loop
-mul-record-form c = search needs
+mul-record-form c = omega (arith, inside c)
 
--- src/lib.rt:155:25
+-- src/lib.rt:136:25
 sub-record-form : tie.Need-sub-record-form Inv-loop μ-loop
-sub-record-form c = search needs
+sub-record-form c = omega (arith, inside c)
 
--- src/lib.rt:155:25
+-- src/lib.rt:136:25
 part-record-form-start : tie.Need-part-record-form-start Inv-loop μ-loop
-part-record-form-start c = search needs
+part-record-form-start c = omega (arith, inside c)
 
--- src/lib.rt:155:25
+-- src/lib.rt:136:25
 part-record-form-end : tie.Need-part-record-form-end Inv-loop μ-loop
-part-record-form-end c = search needs
+part-record-form-end c = omega (arith, inside c)
 
--- src/lib.rt:155:13
+-- src/lib.rt:136:13
 record-form-requires : tie.Need-record-form-requires Inv-loop μ-loop
-record-form-requires c κs = part-long _ (c .before .before .loop .k * 19) 19 (omega (arith, c .before .before .loop .inv .1))
+record-form-requires c κs = (part-long _ (c .before .before .loop .k * c .before .before .before .before .row-words .result) _ (inside (c .before)) ∙ c .before .before .loop .inv .1, c .before .before .before .before .before .before .pre)
 
--- src/lib.rt:156:13
+-- src/lib.rt:137:13
 returns : tie.Need-returns Inv-loop μ-loop
-returns c = is-not (λ e. refutes (row (c .before .before .before .before .before .before .args .records .now) (c .before .before .before .before .loop .k) (c .before .record-form .ensures)) (c .if1 .taken) (row-of (c .before .before .before .before .before .before .args .records .now) e (c .before .before .before .before .loop .k) (omega arith)))
+returns c = is-not (λ e. refutes (row _ (c .before .before .before .before .before .before .before .before .args .records .now) (c .before .before .before .before .loop .k) _ (c .before .record-form .ensures)) (c .if1 .taken) (row-of _ (c .before .before .before .before .before .before .before .before .args .records .now) _ (c .before .before .before .before .loop .inv .1) e (c .before .before .before .before .loop .k) (omega (arith, c .before .before .before .before .loop .inv .2))))
 
--- src/lib.rt:158:9
+-- src/lib.rt:139:9
 add-k : tie.Need-add-k Inv-loop μ-loop
-add-k c = search needs
+add-k c = omega arith
 
--- src/lib.rt:152:5
+-- src/lib.rt:133:5
 loop-less : tie.Need-loop-less Inv-loop μ-loop
-loop-less c = search needs
+loop-less c = omega arith
 
--- src/lib.rt:152:5
+-- src/lib.rt:133:5
 loop-again : tie.Need-loop-again Inv-loop μ-loop
-loop-again c = (search needs, c .before .before .before .before .loop .inv .1, below-more _ _ (c .before .before .before .before .loop .inv .2) (proves (row (c .before .before .before .before .before .before .args .records .now) (c .before .before .before .before .loop .k) (c .before .record-form .ensures)) (c .if1 .left)))
+loop-again c = (omega arith, c .before .before .before .before .loop .inv .1, c .before .before .before .before .loop .inv .2, below-more _ _ (c .before .before .before .before .loop .inv .3) (proves (row _ (c .before .before .before .before .before .before .before .before .args .records .now) (c .before .before .before .before .loop .k) _ (c .before .record-form .ensures)) (c .if1 .left)))
 
--- src/lib.rt:147:1
+-- src/lib.rt:126:1
 returns-2 : tie.Need-returns-2 Inv-loop μ-loop
-returns-2 c = is-so (rows-of (c .before .before .before .args .records .now) (λ k h. c .before .loop .inv .2 k (omega arith)))
+returns-2 c = is-so (rows-of _ (c .before .before .before .before .before .args .records .now) _ (c .before .loop .inv .1) (λ k h. c .before .loop .inv .3 k (omega (arith, c .before .loop .inv .2))))
 
 pub records-form-spec : {M : Type 1} → statement M
 records-form-spec =
@@ -95,6 +109,8 @@ records-form-spec =
     (tie.spec
     Inv-loop
     μ-loop
+    row-words-requires
+    parts-requires
     loop-holds
     mul-at
     add-end

@@ -1,4 +1,4 @@
-use Rattle.backup.proofs.Tills.{till-room, till-few, till-held}
+use Rattle.backup.proofs.Tills.{till-room, few-read, held-read}
 use Rattle.backup.proofs.Joined.{till-in, till-part}
 use Rattle.laws.proofs.Stores.{header}
 use native.Mathlib.Omega.{arith}
@@ -44,7 +44,7 @@ part-newest-pointers-end c = let p = c .before .before .before .before .before .
 
 -- src/lib.rt:61:5
 newest-pointers-requires : tie.Need-newest-pointers-requires
-newest-pointers-requires c κs = let p = c .before .before .before .before .before .before .before .pre in let e = till-part (p .0) _ (p .1) _ _ (p .2) (c .before .before .till-words .ensures) in (till-room (p .0) _ (p .1) _ e, till-few (p .0) _ (p .1) _ e, omega (arith, header (p .0) .blocks, p .3))
+newest-pointers-requires c κs = let p = c .before .before .before .before .before .before .before .pre in let e = till-part (p .0) _ (p .1) _ _ (p .2) (c .before .before .till-words .ensures) in let f = few-read (p .0) _ (p .1) _ (p .4) _ e in (till-room (p .0) _ (p .1) _ e, f .0, omega (arith, header (p .0) .blocks, p .3), f .1, f .2)
 
 -- src/lib.rt:55:1
 same-length : tie.Need-same-length
@@ -52,7 +52,7 @@ same-length c = search needs
 
 -- src/lib.rt:55:1
 returns : tie.Need-returns
-returns c = let p = c .before .before .before .before .before .before .before .before .before .before .pre in (c .before .before .newest-pointers .ensures .0 _ _ (till-held (p .0) _ (p .1)) (till-part (p .0) _ (p .1) _ _ (p .2) (c .before .before .before .before .before .till-words .ensures)), c .before .before .newest-pointers .ensures .1)
+returns c = let p = c .before .before .before .before .before .before .before .before .before .before .pre in (c .before .before .newest-pointers .ensures .0 _ _ (held-read (p .0) _ (p .1) _ (p .4)) (till-part (p .0) _ (p .1) _ _ (p .2) (c .before .before .before .before .before .till-words .ensures)), c .before .before .newest-pointers .ensures .1)
 
 pub copy-newest-spec : {M : Type 1} → statement M
 copy-newest-spec =

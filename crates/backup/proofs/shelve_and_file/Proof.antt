@@ -1,10 +1,11 @@
 use Rattle.backup.proofs.Joined.{blocks-fit, last-fits, refused-all, file-ready, filed-all}
 use lib.Seq.{length-take-le}
 use mathlib.Core.Path.{refl, sym}
-use Rattle.backup.proofs.Joined.{till-in, shelf-ready, image-short}
+use Rattle.backup.proofs.Joined.{till-in, shelf-ready, bytes-ok, image-short}
 use Rattle.laws.proofs.Stores.{header}
 use native.Mathlib.Omega.{arith}
 use borrow.Author.Needs.{needs}
+use Rattle.numbers.proofs.parts_for.Reads as parts-for-reads
 use Rattle.backup.proofs.shelve_and_file.Statement.{statement}
 use Rattle.backup.proofs.shelve_and_file.Tie as tie
 use Rattle.backup.proofs.shelve_and_file.Reads as reads
@@ -59,28 +60,28 @@ returns : tie.Need-returns
 returns c = refused-all (c .before .before .before .before .before .before .before .before .before .before .before .before .before .before .before .before .before .before .before .before .before .before .before .before .before .pre) (c .before .before .before .before .before .before .before .before .before .shelve-in .result) (c .before .before .before .before .before .before .before .before .before .shelve-in .last .1 .0) (c .before .before .before .before .before .before .before .before .before .shelve-in .last .1 .1 .0) (c .before .before .before .before .before .before .before .before .before .shelve-in .last .1 .1 .1 .1 .0) (c .before .before .before .before .before .before .before .before .before .shelve-in .last .1 .1 .1 .1 .1 .0) (c .before .before .before .before .before .before .before .before .before .shelve-in .ensures) (c .if1 .taken)
 
 -- src/lib.rt:88:19
-add-blocks : tie.Need-add-blocks
-add-blocks c = let p = c .before .before .before .before .before .before .before .before .before .before .before .before .before .before .before .before .before .before .before .before .before .before .before .before .before .pre in omega (arith, image-short p)
+parts-for-requires : tie.Need-parts-for-requires
+parts-for-requires c κs = bytes-ok (c .before .before .before .before .before .before .before .before .before .before .before .before .before .before .before .before .before .before .before .before .before .before .before .before .before .pre)
 
 -- src/lib.rt:89:43
 cast-file-in : tie.Need-cast-file-in
-cast-file-in c = let p = c .before .before .before .before .before .before .before .before .before .before .before .before .before .before .before .before .before .before .before .before .before .before .before .before .before .before .before .pre in omega (arith, image-short p)
+cast-file-in c = let p = c .before .before .before .before .before .before .before .before .before .before .before .before .before .before .before .before .before .before .before .before .before .before .before .before .before .before .before .before .pre in omega (arith, image-short p)
 
 -- src/lib.rt:89:57
 slice-reshare-prefix-file-in : tie.Need-slice-reshare-prefix-file-in
-slice-reshare-prefix-file-in c = omega (arith, blocks-fit (c .before .before .before .before .before .before .before .before .before .before .before .before .before .before .before .before .before .before .before .before .before .before .before .before .before .before .before .pre), c .before .before .before .before .before .before .before .before .before .before .before .shelve-in .kept .1 .1 .1 .1 .0)
+slice-reshare-prefix-file-in c = omega (arith, blocks-fit (c .before .before .before .before .before .before .before .before .before .before .before .before .before .before .before .before .before .before .before .before .before .before .before .before .before .before .before .before .pre) _ (c .before .before .parts-for .ensures), c .before .before .before .before .before .before .before .before .before .before .before .before .shelve-in .kept .1 .1 .1 .1 .0)
 
 -- src/lib.rt:89:57
 slice-aggregate-file-in : tie.Need-slice-aggregate-file-in
-slice-aggregate-file-in c = sym (length-take-le _ _ (omega (arith, blocks-fit (c .before .before .before .before .before .before .before .before .before .before .before .before .before .before .before .before .before .before .before .before .before .before .before .before .before .before .before .before .pre), c .before .before .before .before .before .before .before .before .before .before .before .before .shelve-in .kept .1 .1 .1 .1 .0)))
+slice-aggregate-file-in c = sym (length-take-le _ _ (omega (arith, blocks-fit (c .before .before .before .before .before .before .before .before .before .before .before .before .before .before .before .before .before .before .before .before .before .before .before .before .before .before .before .before .before .pre) _ (c .before .before .before .parts-for .ensures), c .before .before .before .before .before .before .before .before .before .before .before .before .before .shelve-in .kept .1 .1 .1 .1 .0)))
 
 -- src/lib.rt:89:5
 file-in-requires : tie.Need-file-in-requires
-file-in-requires c κs = file-ready (c .before .before .before .before .before .before .before .before .before .before .before .before .before .before .before .before .before .before .before .before .before .before .before .before .before .before .before .before .pre) (c .before .before .before .before .before .before .before .before .before .before .before .before .shelve-in .result) (c .before .before .before .before .before .before .before .before .before .before .before .before .shelve-in .last .1 .0) (c .before .before .before .before .before .before .before .before .before .before .before .before .shelve-in .last .1 .1 .0) (c .before .before .before .before .before .before .before .before .before .before .before .before .shelve-in .last .1 .1 .1 .1 .0) (c .before .before .before .before .before .before .before .before .before .before .before .before .shelve-in .last .1 .1 .1 .1 .1 .0) (c .before .before .before .before .before .before .before .before .before .before .before .before .shelve-in .ensures) (c .before .before .before .if1 .left) _ _ (c .before .before .before .before .before .before .before .before .before .before .before .before .before .before .before .before .before .before .till-words .ensures) refl (c .before .before .before .before .before .before .before .before .before .before .before .before .shelve-in .kept .1 .1 .0) (c .before .before .before .before .before .before .before .before .before .before .before .before .shelve-in .kept .1 .1 .1 .1 .1 .0)
+file-in-requires c κs = file-ready (c .before .before .before .before .before .before .before .before .before .before .before .before .before .before .before .before .before .before .before .before .before .before .before .before .before .before .before .before .before .pre) (c .before .before .before .before .before .before .before .before .before .before .before .before .before .shelve-in .result) (c .before .before .before .before .before .before .before .before .before .before .before .before .before .shelve-in .last .1 .0) (c .before .before .before .before .before .before .before .before .before .before .before .before .before .shelve-in .last .1 .1 .0) (c .before .before .before .before .before .before .before .before .before .before .before .before .before .shelve-in .last .1 .1 .1 .1 .0) (c .before .before .before .before .before .before .before .before .before .before .before .before .before .shelve-in .last .1 .1 .1 .1 .1 .0) (c .before .before .before .before .before .before .before .before .before .before .before .before .before .shelve-in .ensures) (c .before .before .before .before .if1 .left) _ _ (c .before .before .before .before .before .before .before .before .before .before .before .before .before .before .before .before .before .before .before .till-words .ensures) (c .before .before .before .parts-for .ensures) (c .before .before .before .before .before .before .before .before .before .before .before .before .before .shelve-in .kept .1 .1 .0) (c .before .before .before .before .before .before .before .before .before .before .before .before .before .shelve-in .kept .1 .1 .1 .1 .1 .0)
 
 -- src/lib.rt:92:18
-add-t17 : tie.Need-add-t17
-add-t17 c = omega (arith, last-fits (c .before .before .before .before .before .before .before .before .before .before .before .before .before .before .before .before .before .before .before .before .before .before .before .before .before .before .before .before .before .before .before .before .pre))
+add-t18 : tie.Need-add-t18
+add-t18 c = omega (arith, last-fits (c .before .before .before .before .before .before .before .before .before .before .before .before .before .before .before .before .before .before .before .before .before .before .before .before .before .before .before .before .before .before .before .before .before .pre))
 
 -- src/lib.rt:65:1
 same-length-5 : tie.Need-same-length-5
@@ -100,7 +101,7 @@ same-length-8 c = search needs
 
 -- src/lib.rt:65:1
 returns-2 : tie.Need-returns-2
-returns-2 c = filed-all (c .before .before .before .before .before .before .before .before .before .before .before .before .before .before .before .before .before .before .before .before .before .before .before .before .before .before .before .before .before .before .before .before .pre) (c .before .before .before .before .before .before .before .before .before .before .before .before .before .before .before .before .shelve-in .result) (c .before .before .before .before .before .before .before .before .before .before .before .before .before .before .before .before .shelve-in .last .1 .0) (c .before .before .before .before .before .before .before .before .before .before .before .before .before .before .before .before .shelve-in .last .1 .1 .0) (c .before .before .before .before .before .before .before .before .before .before .before .before .before .before .before .before .shelve-in .last .1 .1 .1 .1 .0) (c .before .before .before .before .before .before .before .before .before .before .before .before .before .before .before .before .shelve-in .last .1 .1 .1 .1 .1 .0) (c .before .before .before .before .before .before .before .before .before .before .before .before .before .before .before .before .shelve-in .ensures) (c .before .before .before .before .before .before .before .if1 .left) _ _ (c .before .before .before .before .before .before .before .before .before .before .before .before .before .before .before .before .before .before .before .before .before .before .till-words .ensures) refl _ (c .before .before .before .file-in .ensures)
+returns-2 c = filed-all (c .before .before .before .before .before .before .before .before .before .before .before .before .before .before .before .before .before .before .before .before .before .before .before .before .before .before .before .before .before .before .before .before .before .pre) (c .before .before .before .before .before .before .before .before .before .before .before .before .before .before .before .before .before .shelve-in .result) (c .before .before .before .before .before .before .before .before .before .before .before .before .before .before .before .before .before .shelve-in .last .1 .0) (c .before .before .before .before .before .before .before .before .before .before .before .before .before .before .before .before .before .shelve-in .last .1 .1 .0) (c .before .before .before .before .before .before .before .before .before .before .before .before .before .before .before .before .before .shelve-in .last .1 .1 .1 .1 .0) (c .before .before .before .before .before .before .before .before .before .before .before .before .before .before .before .before .before .shelve-in .last .1 .1 .1 .1 .1 .0) (c .before .before .before .before .before .before .before .before .before .before .before .before .before .before .before .before .before .shelve-in .ensures) (c .before .before .before .before .before .before .before .before .if1 .left) _ _ (c .before .before .before .before .before .before .before .before .before .before .before .before .before .before .before .before .before .before .before .before .before .before .before .till-words .ensures) (c .before .before .before .before .before .before .before .parts-for .ensures) _ (c .before .before .before .file-in .ensures)
 
 pub shelve-and-file-spec : {M : Type 1} → statement M
 shelve-and-file-spec =
@@ -117,12 +118,12 @@ shelve-and-file-spec =
     same-length-3
     same-length-4
     returns
-    add-blocks
+    parts-for-requires
     cast-file-in
     slice-reshare-prefix-file-in
     slice-aggregate-file-in
     file-in-requires
-    add-t17
+    add-t18
     same-length-5
     same-length-6
     same-length-7

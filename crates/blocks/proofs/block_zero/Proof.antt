@@ -43,7 +43,7 @@ returns : tie.Need-returns
 returns c =
     let s = c .before .before .before .least in
     let e = c .before .before .least2 in
-    c .all-zero .ensures ∙ cut-zero (now (c .before .before .before .before .before .args .image)) (c .before .before .before .before .before .args .at) (s .result) (e .result) (s .ensures) (e .ensures)
+    c .all-zero .ensures ∙ cut-zero (now (c .before .before .before .before .before .args .image)) (c .before .before .before .before .before .args .at) (c .before .before .before .before .before .args .bytes) (s .result) (e .result) (s .ensures) (e .ensures)
 
 pub block-zero-spec : {M : Type 1} → statement M
 block-zero-spec =

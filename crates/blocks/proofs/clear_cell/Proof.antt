@@ -41,8 +41,9 @@ same-length c = search needs
 -- src/lib.rt:134:1
 returns : tie.Need-returns
 returns c =
-    let b : c .before .before .before .before .byte .result ≡ c .before .before .before .before .before .before .args .c .0 * 64 = c .before .before .before .before .byte .ensures in
-    rw b (filled-part (c .before .before .before .before .before .before .args .c .0 * 64) 64 0 _ _ (omega arith) (rw b at (c .before .before .clear .ensures)))
+    let a = c .before .before .before .before .before .before .args in
+    let b : c .before .before .before .before .byte .result ≡ a .c .0 * a .bytes = c .before .before .before .before .byte .ensures in
+    rw b (filled-part (a .c .0 * a .bytes) (a .bytes) 0 _ _ (omega arith) (rw b at (c .before .before .clear .ensures)))
 
 pub clear-cell-spec : {M : Type 1} → statement M
 clear-cell-spec =

@@ -44,7 +44,7 @@ returns c =
     let a = c .before .before .before .before .before .before .args in
     let s = c .before .before .before .least in
     let e = c .before .before .least2 in
-    c .same-padded .ensures ∙ cut-same (now (a .image)) (a .at) (s .result) (e .result) (s .ensures) (e .ensures) (now (a .cell)) (omega arith)
+    c .same-padded .ensures ∙ cut-same (now (a .image)) (a .at) (a .bytes) (s .result) (e .result) (s .ensures) (e .ensures) (now (a .cell)) (omega arith)
 
 pub end-same-spec : {M : Type 1} → statement M
 end-same-spec =

@@ -69,7 +69,7 @@ returns c =
     let a = c .before .before .before .before .before .before .before .before .before .before .before .before .before .args in
     let s = c .before .before .before .before .before .before .before .before .before .before .least in
     let e = c .before .before .before .before .before .before .before .before .before .least2 in
-    cut-put (now (a .image)) (a .at) (s .result) (e .result) (s .ensures) (e .ensures) (now (a .cell)) _ _ (omega arith) (c .before .before .before .before .before .before .copy-in .ensures) (c .before .before .clear .ensures)
+    cut-put (now (a .image)) (a .at) (a .bytes) (s .result) (e .result) (s .ensures) (e .ensures) (now (a .cell)) _ _ (omega arith) (c .before .before .before .before .before .before .copy-in .ensures) (c .before .before .clear .ensures)
 
 pub put-block-spec : {M : Type 1} → statement M
 put-block-spec =

@@ -1,8 +1,11 @@
-use Prim.Native.Nat.{_/_}
 use lib.ListN.{length}
-use borrow.Author.Needs.{needs}
 use denote.Ref.{now}
+use Rattle.model.specs.Table.{cellsIn}
+use Rattle.numbers.specs.Measures.{measuresOf}
+use Rattle.shelf.proofs.Inside.{cell-inside}
+use Rattle.shelf.proofs.Read.{stored-records}
 use Rattle.place.proofs.Marked.{marked-free, marked-length}
+use borrow.Author.Needs.{needs}
 use Rattle.place.proofs.place_marked.Statement.{statement}
 use Rattle.place.proofs.place_marked.Tie as tie
 
@@ -10,13 +13,12 @@ take-all-requires : tie.Need-take-all-requires
 take-all-requires c κs =
     let a = c .before .before .before .before .before .before .before .before in
     let st = a .pre .0 .stored in
-    let n = marked-length (length (now (a .args .pool)) / 64) (now (a .args .free)) (a .pre .1) in
-    ((st .sized .mostRecords, st .sized .tableSize), λ k h. rw n (st .sized .fits k h))
+    ((st .measured .mostBlocks, stored-records _ st, st .short), rw (marked-length (length (cellsIn (a .args .m .bytes) (now (a .args .pool)))) (now (a .args .free)) (a .pre .1)) (cell-inside st))
 
 place-segments-requires : tie.Need-place-segments-requires
 place-segments-requires c κs =
     let a = c .before .before .before .before .before .before .before .before .before .before .before .before .before .before .before .before in
-    (a .pre .0, marked-free (now (a .args .pool)) (now (a .args .records)) (now (a .args .free)) _ (a .pre .1) (c .before .before .before .before .before .before .before .take-all .ensures), a .pre .2)
+    (a .pre .0, marked-free (measuresOf (a .args .m)) (now (a .args .pool)) (now (a .args .records)) (now (a .args .free)) _ (a .pre .1) (c .before .before .before .before .before .before .before .take-all .ensures), a .pre .2)
 
 same-length : tie.Need-same-length
 same-length c = search needs

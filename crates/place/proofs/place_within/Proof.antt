@@ -1,30 +1,38 @@
-use mathlib.Core.Path.{sym}
-use Prim.Native.Nat.{_/_}
 use native.Mathlib.Omega.{arith}
+use mathlib.Core.Path.{_∙_, _≡_, sym}
+use Prim.Native.Nat.{_≤_}
 use lib.ListN.{length}
 use lib.Seq.{length-take-le}
-use borrow.Author.Needs.{needs}
 use denote.Ref.{now}
+use Rattle.model.specs.Table.{cellsIn}
+use Rattle.shelf.proofs.Inside.{cells-count, few-cells}
 use Rattle.place.proofs.Marked.{marked-length, marked-part}
+use borrow.Author.Needs.{needs}
 use Rattle.place.proofs.place_within.Statement.{statement}
 use Rattle.place.proofs.place_within.Tie as tie
 
+-- as many cells as the pool has
+counted : (c : tie.After-parts) → c .parts .result ≡ length (cellsIn (c .before .before .before .before .before .before .before .args .m .bytes) (now (c .before .before .before .before .before .before .before .args .pool)))
+counted c = c .parts .ensures ∙ sym (cells-count _ (now (c .before .before .before .before .before .before .before .args .pool)))
+
+roomy : (c : tie.After-parts) → c .parts .result ≤ length (now (c .before .before .before .before .before .before .before .args .free))
+roomy c =
+    let a = c .before .before .before .before .before .before .before in
+    omega (arith, counted c, marked-length 32768 (now (a .args .free)) (a .pre .1), few-cells (a .pre .0 .stored))
+
+parts-requires : tie.Need-parts-requires
+parts-requires c κs = omega (arith, c .before .before .before .before .before .before .pre .0 .stored .measured .someBytes)
+
 slice-relend-prefix-place-marked : tie.Need-slice-relend-prefix-place-marked
-slice-relend-prefix-place-marked c =
-    let a = c .before .before .before .before .before .before .before .before in
-    let n = marked-length 32768 (now (a .args .free)) (a .pre .1) in
-    omega (arith, n, a .pre .0 .stored .sized .mostCells)
+slice-relend-prefix-place-marked c = omega (arith, roomy (c .before .before))
 
 slice-aggregate-place-marked : tie.Need-slice-aggregate-place-marked
-slice-aggregate-place-marked c =
-    let a = c .before .before .before .before .before .before .before .before .before in
-    let n = marked-length 32768 (now (a .args .free)) (a .pre .1) in
-    sym (length-take-le (length (now (a .args .pool)) / 64) (now (a .args .free)) (omega (arith, n, a .pre .0 .stored .sized .mostCells)))
+slice-aggregate-place-marked c = sym (length-take-le _ (now (c .before .before .before .before .before .before .before .before .before .before .args .free)) (roomy (c .before .before .before)))
 
 place-marked-requires : tie.Need-place-marked-requires
 place-marked-requires c κs =
-    let a = c .before .before .before .before .before .before .before .before .before .before .before in
-    (a .pre .0, marked-part (length (now (a .args .pool)) / 64) 32768 (now (a .args .free)) (a .pre .0 .stored .sized .mostCells) (a .pre .1), a .pre .2)
+    let a = c .before .before .before .before .before .before .before .before .before .before .before .before in
+    (a .pre .0, rw (counted (c .before .before .before .before .before)) (marked-part _ 32768 (now (a .args .free)) (few-cells (a .pre .0 .stored)) (a .pre .1)), a .pre .2)
 
 same-length : tie.Need-same-length
 same-length c = search needs
@@ -48,6 +56,7 @@ pub place-within-spec : {M : Type 1} → statement M
 place-within-spec =
     tie.close
     (tie.spec
+    parts-requires
     slice-relend-prefix-place-marked
     slice-aggregate-place-marked
     place-marked-requires

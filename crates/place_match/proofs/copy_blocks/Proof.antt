@@ -1,38 +1,40 @@
-use mathlib.Core.Path.{_≡_, ap, refl}
-use Prim.Native.Nat.{_*_, _+_, _-_, _/_, ℕ}
 use native.Mathlib.Omega.{arith}
-use lib.Seq.{sets}
 use borrow.Author.Needs.{needs}
+use mathlib.Core.Path.{_≡_}
+use Prim.Native.Nat.{_*_, _+_, _-_}
+use native.Mathlib.Nat.{zero-mul}
+use lib.Seq.{sets}
+use denote.Ref.{now}
+use Rattle.lists.proofs.Places.{row-next}
 use Rattle.model.specs.Image.{blocksFrom}
 use Rattle.model.specs.Place.{nonNull}
 use Rattle.model.specs.Table.{cellsIn}
-use Rattle.place_match.proofs.Copying.{Copied, copied-end, copied-room, copied-step}
+use Rattle.place_match.proofs.Copying.{Copied, block-low, copied-end, copied-room, copied-start, copied-step}
 use Rattle.place_match.proofs.copy_blocks.Statement.{statement}
 use Rattle.place_match.proofs.copy_blocks.Tie as tie
 
 abbrev Inv-loop : tie.InvT-loop
-Inv-loop image from pool₀ mask m₀ cell₀ at₀ i₀ pool m cell at i = (at ≡ from + i * 64) × Copied image pool₀ (sets (cellsIn 64 pool₀) cell₀ (nonNull (blocksFrom 64 image from 8))) pool m cell at i
+Inv-loop image from pool₀ mask bytes n m₀ cell₀ at₀ i₀ pool m cell at i = (at ≡ from + i * bytes) × Copied bytes image pool₀ n (sets (cellsIn bytes pool₀) cell₀ (nonNull (blocksFrom bytes image from n))) pool m cell at i
 
 abbrev μ-loop : tie.MeasureT-loop
-μ-loop image from pool₀ mask m₀ cell₀ at₀ i₀ pool m cell at i = 8 - i
+μ-loop image from pool₀ mask bytes n m₀ cell₀ at₀ i₀ pool m cell at i = n - i
 
 loop-holds : tie.Need-loop-holds Inv-loop μ-loop
 loop-holds c =
     let a = c .before .before in
-    (omega arith, record { within = omega arith; mask = a .pre .2; room = a .pre .3; same = refl; left = refl })
+    (omega (arith, zero-mul (a .args .bytes)), copied-start (a .args .bytes) (now (a .args .image)) (now (a .args .pool)) (a .args .n) (a .args .mask) (a .args .first .0) (a .args .from) (a .pre .1) (a .pre .2))
 
 copy-if-requires : tie.Need-copy-if-requires Inv-loop μ-loop
 copy-if-requires c κs =
     let l = c .before .before .loop in
-    (omega arith, omega arith, copied-room (l .inv .1) (omega arith), omega (arith, l .inv .1 .room, ap (λ (x : ℕ). x / 64) (l .inv .1 .same)))
+    let a = c .before .before .before .before .before in
+    (omega (arith, l .inv .0, block-low (a .args .from) (a .args .bytes) (a .args .n) (l .i) (a .pre .0) (a .pre .5) (a .pre .6) (l .inv .1 .within)), omega arith, copied-room (l .inv .1) (omega arith) (a .pre .4), a .pre .4, a .pre .5)
 
 add-cell : tie.Need-add-cell Inv-loop μ-loop
-add-cell c =
-    let l = c .before .before .before .before .before .loop in
-    omega (arith, l .inv .1 .room, ap (λ (x : ℕ). x / 64) (l .inv .1 .same))
+add-cell c = let l = c .before .before .before .before .before .loop in omega (arith, l .inv .1 .room, c .before .before .before .before .before .before .before .before .pre .3)
 
 add-at : tie.Need-add-at Inv-loop μ-loop
-add-at c = search needs
+add-at c = let l = c .before .before .before .before .before .loop in let a = c .before .before .before .before .before .before .before .before in omega (arith, l .inv .0, block-low (a .args .from) (a .args .bytes) (a .args .n) (l .i) (a .pre .0) (a .pre .5) (a .pre .6) (l .inv .1 .within))
 
 add-i : tie.Need-add-i Inv-loop μ-loop
 add-i c = search needs
@@ -43,7 +45,7 @@ loop-less c = search needs
 loop-again : tie.Need-loop-again Inv-loop μ-loop
 loop-again c =
     let l = c .before .before .before .before .before .loop in
-    (omega arith, copied-step (l .inv .1) (omega arith) _ (omega arith) (c .before .before .copy-if .ensures))
+    (omega (arith, l .inv .0, row-next (l .i) (c .before .before .before .before .before .before .before .before .args .bytes)), copied-step (l .inv .1) (omega arith) _ (omega arith) (c .before .before .copy-if .ensures))
 
 same-length : tie.Need-same-length Inv-loop μ-loop
 same-length c = c .before .loop .inv .1 .same

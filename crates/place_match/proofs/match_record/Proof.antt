@@ -1,67 +1,82 @@
-use mathlib.Core.Path.{_∙_, _≡_, refl, sym}
-use Prim.Native.Nat.{_*_, _+_, _-_, _/_, _<_, _≤_}
 use native.Mathlib.Omega.{arith}
-use lib.ListN.{drop, length, length-drop}
-use lib.Seq.{length-take-le}
 use borrow.Author.Needs.{needs}
+use mathlib.Core.Path.{_∙_, _≡_, refl, sym}
+use mathlib.Core.List.{[]}
+use Prim.Native.Nat.{_+_, _-_, _<_, _≤_}
+use lib.ListN.{drop, getD, length}
 use denote.Ref.{now}
 use Rattle.lists.specs.Lists.{firstFrom}
 use Rattle.model.specs.Image.{blocksFrom}
-use Rattle.model.specs.Measures.{baseMeasures}
-use Rattle.model.specs.Records.{equals, isFree}
+use Rattle.model.specs.Records.{equals}
 use Rattle.model.specs.Table.{recordsIn, shelfIn}
+use Rattle.numbers.specs.Measures.{measuresOf}
+use Rattle.shelf.proofs.Along.{AtRow, at-few, at-length, at-next, at-room, at-row, at-sized, at-start}
+use Rattle.shelf.proofs.Inside.{cell-inside, cell-room}
+use Rattle.shelf.proofs.Read.{cells-of, stored-records}
 use Rattle.place_seek.specs.Seek.{RestFree}
-use Rattle.place_words.proofs.Reading.{as-none, first-no, first-yes, length-records}
+use Rattle.place_words.proofs.Reading.{as-none, cells-below, first-no, first-yes}
 use Rattle.place_match.proofs.Matching.{none-rest}
 use Rattle.place_match.proofs.match_record.Statement.{statement}
 use Rattle.place_match.proofs.match_record.Tie as tie
 
 abbrev Inv-loop : tie.InvT-loop
-Inv-loop image from mask pool records used count stop k₀ k = (k ≤ stop) × (stop ≤ length records / 19) × (firstFrom (equals (shelfIn baseMeasures pool records) (blocksFrom 64 image from 8)) k (drop k (recordsIn 8 records)) ≡ firstFrom (equals (shelfIn baseMeasures pool records) (blocksFrom 64 image from 8)) 0 (recordsIn 8 records))
+Inv-loop image from mask pool records used m width count stop at₀ k₀ at k = AtRow (m .blocks) records width count at k × (k ≤ stop) × (stop ≤ count) × (let f = equals (shelfIn (measuresOf m) pool records) (blocksFrom (m .bytes) image from (m .blocks)) in firstFrom f k (drop k (recordsIn (m .blocks) records)) ≡ firstFrom f 0 (recordsIn (m .blocks) records))
 
 abbrev μ-loop : tie.MeasureT-loop
-μ-loop image from mask pool records used count stop k₀ k = stop - k
+μ-loop image from mask pool records used m width count stop at₀ k₀ at k = stop - k
+
+room : (c : tie.In-loop Inv-loop μ-loop) → c .before .loop .at + c .before .before .before .before .row-words .result ≤ length (now (c .before .before .before .before .before .before .before .before .args .records))
+room c = at-room (c .before .loop .inv .0) (omega arith) (stored-records _ (c .before .before .before .before .before .before .before .before .pre .3))
+
+row-words-requires : tie.Need-row-words-requires Inv-loop μ-loop
+row-words-requires c κs = c .before .before .before .pre .3 .measured .mostBlocks
+
+rows-requires : tie.Need-rows-requires Inv-loop μ-loop
+rows-requires c κs = c .before .before .before .before .pre .3 .measured .mostBlocks
 
 least-requires : tie.Need-least-requires Inv-loop μ-loop
 least-requires c κs = search needs
 
 loop-holds : tie.Need-loop-holds Inv-loop μ-loop
-loop-holds c = (search needs, omega (arith, c .least .ensures), refl)
-
-mul-start : tie.Need-mul-start Inv-loop μ-loop
-mul-start c = search needs
+loop-holds c = (at-start _ _ _ _ (c .before .before .row-words .ensures .0) (c .before .rows .ensures), omega arith, omega (arith, c .least .ensures), refl)
 
 add-end : tie.Need-add-end Inv-loop μ-loop
-add-end c = search needs
+add-end c = omega (arith, room c)
 
 mul-record-equals : tie.Need-mul-record-equals Inv-loop μ-loop
-mul-record-equals c = search needs
+mul-record-equals c = omega (arith, room c)
 
 sub-record-equals : tie.Need-sub-record-equals Inv-loop μ-loop
-sub-record-equals c = search needs
+sub-record-equals c = omega (arith, room c)
 
 part-record-equals-start : tie.Need-part-record-equals-start Inv-loop μ-loop
-part-record-equals-start c = search needs
+part-record-equals-start c = omega (arith, room c)
 
 part-record-equals-end : tie.Need-part-record-equals-end Inv-loop μ-loop
-part-record-equals-end c = search needs
+part-record-equals-end c = omega (arith, room c)
 
 record-equals-requires : tie.Need-record-equals-requires Inv-loop μ-loop
 record-equals-requires c κs =
-    let a = c .before .before .before .before .before .before .before in
+    let a = c .before .before .before .before .before .before .before .before .before in
     let l = c .before .before .loop in
-    let ws = now (a .args .records) in
-    let n : l .k * 19 + 19 - l .k * 19 ≡ 19 = omega arith in
-    let h : l .k < length ws / 19 = omega arith in
-    (omega arith, a .pre .0 .1, rw n (length-take-le 19 (drop (l .k * 19) ws) (omega (arith, length-drop (l .k * 19) ws))), omega arith, rw n (a .pre .0 .2 .fits (l .k) h), rw n (a .pre .1 .0 (l .k) h))
+    let s = a .pre .3 in
+    let r = stored-records _ s in
+    let h : l .k < c .before .before .before .before .rows .result = omega arith in
+    let below = cells-below (a .args .m .blocks) _ (getD (recordsIn (a .args .m .blocks) (now (a .args .records))) (l .k) []) (at-sized (l .inv .0) h r) (λ i. cell-inside s (l .k) i) _ (at-row (l .inv .0) h r) in
+    (a .pre .0, a .pre .1, at-length (l .inv .0) h r, λ i q. cell-room s _ (below i q), s .measured .someBytes, s .measured .mostBytes, s .measured .pieces, s .measured .mostBlocks)
+
+cast-t22 : tie.Need-cast-t22 Inv-loop μ-loop
+cast-t22 c = omega (arith, at-few (c .before .before .before .before .loop .inv .0) (c .before .before .before .before .before .before .before .before .before .before .before .pre .3 .short))
 
 returns : tie.Need-returns Inv-loop μ-loop
 returns c =
-    let a = c .before .before .before .before .before .before .before .before .before in
+    let a = c .before .before .before .before .before .before .before .before .before .before .before in
     let l = c .before .before .before .before .loop in
-    let n : l .k * 19 + 19 - l .k * 19 ≡ 19 = omega arith in
-    let f = equals (shelfIn baseMeasures (now (a .args .pool)) (now (a .args .records))) (blocksFrom 64 (now (a .args .image)) (a .args .from) 8) in
-    (first-yes f (now (a .args .records)) (l .k) (omega arith) (sym (c .if1 .taken) ∙ (rw n at (c .before .record-equals .ensures (shelfIn baseMeasures (now (a .args .pool)) (now (a .args .records))) (unfold shelfIn in refl)))) ∙ l .inv .2, omega arith)
+    let r = stored-records _ (a .pre .3) in
+    let h : l .k < c .before .before .before .before .before .before .rows .result = omega arith in
+    let f = equals (shelfIn (measuresOf (a .args .m)) (now (a .args .pool)) (now (a .args .records))) (blocksFrom (a .args .m .bytes) (now (a .args .image)) (a .args .from) (a .args .m .blocks)) in
+    let e = c .before .record-equals .ensures _ _ (cells-of (measuresOf (a .args .m)) (now (a .args .pool)) (now (a .args .records))) (at-sized (l .inv .0) h r) (at-row (l .inv .0) h r) in
+    (first-yes f [] _ (l .k) (omega (arith, l .inv .0 .all)) (sym (c .if1 .taken) ∙ e) ∙ l .inv .3, omega (arith, l .inv .0 .all))
 
 add-k : tie.Need-add-k Inv-loop μ-loop
 add-k c = search needs
@@ -71,20 +86,25 @@ loop-less c = search needs
 
 loop-again : tie.Need-loop-again Inv-loop μ-loop
 loop-again c =
-    let a = c .before .before .before .before .before .before .before .before .before in
+    let a = c .before .before .before .before .before .before .before .before .before .before .before in
     let l = c .before .before .before .before .loop in
-    let n : l .k * 19 + 19 - l .k * 19 ≡ 19 = omega arith in
-    let f = equals (shelfIn baseMeasures (now (a .args .pool)) (now (a .args .records))) (blocksFrom 64 (now (a .args .image)) (a .args .from) 8) in
-    (omega arith, l .inv .1, sym (first-no f (now (a .args .records)) (l .k) (omega arith) (sym (c .if1 .left) ∙ (rw n at (c .before .record-equals .ensures (shelfIn baseMeasures (now (a .args .pool)) (now (a .args .records))) (unfold shelfIn in refl))))) ∙ l .inv .2)
+    let r = stored-records _ (a .pre .3) in
+    let h : l .k < c .before .before .before .before .before .before .rows .result = omega arith in
+    let f = equals (shelfIn (measuresOf (a .args .m)) (now (a .args .pool)) (now (a .args .records))) (blocksFrom (a .args .m .bytes) (now (a .args .image)) (a .args .from) (a .args .m .blocks)) in
+    let e = c .before .record-equals .ensures _ _ (cells-of (measuresOf (a .args .m)) (now (a .args .pool)) (now (a .args .records))) (at-sized (l .inv .0) h r) (at-row (l .inv .0) h r) in
+    (at-next (l .inv .0) h r, omega arith, l .inv .2, sym (first-no f [] (recordsIn (a .args .m .blocks) (now (a .args .records))) (l .k) (omega (arith, l .inv .0 .all)) (sym (c .if1 .left) ∙ e)) ∙ l .inv .3)
+
+cast-t23 : tie.Need-cast-t23 Inv-loop μ-loop
+cast-t23 c = omega (arith, at-few (c .before .loop .inv .0) (c .before .before .before .before .before .before .before .before .pre .3 .short))
 
 returns-2 : tie.Need-returns-2 Inv-loop μ-loop
 returns-2 c =
-    let a = c .before .before .before .before .before .before in
+    let a = c .before .before .before .before .before .before .before .before in
     let l = c .before .loop in
-    let ws = now (a .args .records) in
-    let rest : RestFree (l .k) (recordsIn 8 ws) = λ j h m. a .pre .1 .1 j (omega (arith, c .before .before .least .ensures, length-records isFree ws)) m in
-    let none = none-rest (shelfIn baseMeasures (now (a .args .pool)) ws) (blocksFrom 64 (now (a .args .image)) (a .args .from) 8) (omega arith) (l .k) (l .k) (recordsIn 8 ws) rest in
-    (as-none (length ws / 19) (length ws / 19) (omega arith) ∙ sym none ∙ l .inv .2, omega arith)
+    let segs = recordsIn (a .args .m .blocks) (now (a .args .records)) in
+    let rest : RestFree (l .k) segs = λ j h m. a .pre .4 j (omega (arith, c .before .before .least .ensures, l .inv .0 .all)) m in
+    let none = none-rest (shelfIn (measuresOf (a .args .m)) (now (a .args .pool)) (now (a .args .records))) (blocksFrom (a .args .m .bytes) (now (a .args .image)) (a .args .from) (a .args .m .blocks)) (omega (arith, a .pre .1, a .pre .2)) (l .k) (l .k) segs rest in
+    (as-none (length segs) _ (omega (arith, l .inv .0 .all)) ∙ sym none ∙ l .inv .3, omega (arith, l .inv .0 .all))
 
 pub match-record-spec : {M : Type 1} → statement M
 match-record-spec =
@@ -92,17 +112,20 @@ match-record-spec =
     (tie.spec
     Inv-loop
     μ-loop
+    row-words-requires
+    rows-requires
     least-requires
     loop-holds
-    mul-start
     add-end
     mul-record-equals
     sub-record-equals
     part-record-equals-start
     part-record-equals-end
     record-equals-requires
+    cast-t22
     returns
     add-k
     loop-less
     loop-again
+    cast-t23
     returns-2)

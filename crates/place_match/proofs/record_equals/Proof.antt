@@ -1,107 +1,98 @@
-use mathlib.Core.Path.{_∙_, _≡_, refl, sym}
-use Prim.Native.Nat.{_*_, _+_, _-_, _≤_}
 use native.Mathlib.Omega.{arith}
-use borrow.Author.Tests.{not-false, not-true}
 use borrow.Author.Needs.{needs}
+use mathlib.Core.Path.{_∙_, _≡_, sym}
+use Prim.Native.Nat.{_*_, _+_, _-_, _≤_}
+use native.Mathlib.Nat.{zero-mul}
+use lib.ListN.{length}
+use borrow.Author.Tests.{not-false, not-true}
 use denote.Ref.{now}
+use Rattle.lists.proofs.Places.{row-next}
 use Rattle.model.specs.Image.{blocksFrom}
-use Rattle.model.specs.Records.{equals}
-use Rattle.model.specs.State.{Shelf}
-use Rattle.model.specs.Table.{cellsIn, segmentIn}
+use Rattle.model.specs.State.{Segment, Shelf}
+use Rattle.model.specs.Table.{cellsIn, recordToWords}
 use Rattle.place_words.specs.Marks.{marks}
-use Rattle.place_match.proofs.Copying.{bit-first, bits-rest}
-use Rattle.place_match.proofs.Matching.{lacking, lost, rest, rest-end, rest-no, rest-start, rest-yes}
+use Rattle.place_match.proofs.Copying.{bit-first, bits-rest, block-low}
+use Rattle.place_match.proofs.Matching.{EqualTo, equal-end, equal-here, equal-no, equal-start, equal-yes, lacking, lost}
 use Rattle.place_match.proofs.record_equals.Statement.{statement}
 use Rattle.place_match.proofs.record_equals.Tie as tie
-use Rattle.place_match.proofs.record_equals.Reads as reads
-use Rattle.place_match.proofs.record_equals.Lts as lts
-use Rattle.place_match.proofs.position_holds.Reads as position-holds-reads
 
 abbrev Inv-loop : tie.InvT-loop
-Inv-loop image from mask pool row held₀ m₀ at₀ i₀ held m at i = (i ≤ 8) × (at ≡ from + i * 64) × (m ≡ marks (blocksFrom 64 image at (8 - i))) × ((s : Shelf) → s .cells ≡ cellsIn 64 pool → rest s image row held at i ≡ equals s (blocksFrom 64 image from 8) (segmentIn 8 row))
+Inv-loop image from mask pool row bytes n held₀ m₀ at₀ i₀ held m at i = (i ≤ n) × (at ≡ from + i * bytes) × (m ≡ marks (blocksFrom bytes image at (n - i))) × ((s : Shelf) (seg : Segment) → s .cells ≡ cellsIn bytes pool → length seg ≡ n → row ≡ recordToWords seg → EqualTo s bytes image from n seg held at i)
 
 abbrev μ-loop : tie.MeasureT-loop
-μ-loop image from mask pool row held₀ m₀ at₀ i₀ held m at i = 8 - i
+μ-loop image from mask pool row bytes n held₀ m₀ at₀ i₀ held m at i = n - i
 
--- src/lib.rt:37:8
 shared-slice-read-if1 : tie.Need-shared-slice-read-if1 Inv-loop μ-loop
 shared-slice-read-if1 c = search needs
 
--- src/lib.rt:38:9
 returns : tie.Need-returns Inv-loop μ-loop
-returns c = λ s e. lost s _ (now (c .before .before .before .before .before .args .row)) (c .before .before .before .before .before .pre .5) (c .if1 .taken)
+returns c = λ s seg e l q. lost s _ seg (now (c .before .before .before .before .before .args .row)) q (c .if1 .taken)
 
--- src/lib.rt:40:20
 shared-slice-read-held : tie.Need-shared-slice-read-held Inv-loop μ-loop
 shared-slice-read-held c = search needs
 
--- src/lib.rt:42:9
 returns-2 : tie.Need-returns-2 Inv-loop μ-loop
-returns-2 c = λ s e. lacking s _ (now (c .before .before .before .before .before .before .before .args .row)) (c .before .before .before .before .before .before .before .pre .5) (c .before .before .before .before .before .before .before .args .mask) (c .before .before .before .before .before .before .before .pre .1) (c .if2 .taken)
+returns-2 c = λ s seg e l q. lacking s _ seg (now (c .before .before .before .before .before .before .before .args .row)) q (c .before .before .before .before .before .before .before .args .mask) (c .before .before .before .before .before .before .before .pre .1) (c .if2 .taken)
 
--- src/lib.rt:47:5
 loop-holds : tie.Need-loop-holds Inv-loop μ-loop
 loop-holds c =
     let a = c .before .before .before .before .before .before .before .args in
-    (search needs, omega arith, c .before .before .before .before .before .before .before .pre .1, λ s e. rest-start s (now (a .image)) (now (a .row)) (omega arith) (a .from) _ refl (c .before .before .if1 .left))
+    let z : a .n - 0 ≡ a .n = omega arith in
+    (search needs, omega (arith, zero-mul (a .bytes)), rw z (c .before .before .before .before .before .before .before .pre .1), λ s seg e l q. equal-start s (a .bytes) (now (a .image)) (a .from) (a .n) seg (now (a .row)) q (c .before .before .if1 .left))
 
--- src/lib.rt:48:24
 add-cell : tie.Need-add-cell Inv-loop μ-loop
 add-cell c = search needs
 
--- src/lib.rt:48:20
 mul-cell : tie.Need-mul-cell Inv-loop μ-loop
 mul-cell c = search needs
 
--- src/lib.rt:48:20
 shared-slice-read-cell : tie.Need-shared-slice-read-cell Inv-loop μ-loop
 shared-slice-read-cell c = search needs
 
--- src/lib.rt:49:13
 position-holds-requires : tie.Need-position-holds-requires Inv-loop μ-loop
 position-holds-requires c κs =
     let l = c .before .before .loop in
-    (omega arith, bit-first (now (c .before .before .before .before .before .before .before .before .before .before .args .image)) (l .m) (l .at) (l .i) (omega arith) (l .inv .2), omega arith, c .before .before .before .before .before .before .before .before .before .before .pre .4 (l .i) (omega arith), omega arith)
+    let a = c .before .before .before .before .before .before .before .before .before .before in (
+      omega (arith, l .inv .1, block-low (a .args .from) (a .args .bytes) (a .args .n) (l .i) (a .pre .0) (a .pre .5) (a .pre .7) (l .inv .0)),
+      bit-first (a .args .bytes) (now (a .args .image)) (a .args .n) (l .m) (l .at) (l .i) (omega arith) (l .inv .2),
+      omega arith,
+      a .pre .3 (l .i) (omega arith),
+      a .pre .4,
+      a .pre .5,
+      a .pre .6,
+    )
 
--- src/lib.rt:50:13
 returns-3 : tie.Need-returns-3 Inv-loop μ-loop
-returns-3 c = λ s e.
+returns-3 c = λ s seg e l q.
+    let t = c .before .before .before .before .loop .inv .3 s seg e l q in
     let a = c .before .before .before .before .before .before .before .before .before .before .before .before .args in
-    let l = c .before .before .before .before .loop in
-    sym (rest-no s (now (a .image)) (now (a .row)) (omega arith) (l .held) (l .at) (l .i) (omega arith) (λ n. sym (not-true _ (c .if3 .taken)) ∙ c .before .position-holds .ensures s n e))
-    ∙ l .inv .3 s e
+    equal-no t l (omega arith) (now (a .row)) q
+    (sym (not-true _ (c .if3 .taken)) ∙ equal-here t l (omega arith) (now (a .row)) q _ (λ p x y z. c .before .position-holds .ensures s p e x y z))
 
--- src/lib.rt:54:14
 add-at : tie.Need-add-at Inv-loop μ-loop
-add-at c = search needs
+add-at c = let l = c .before .before .before .before .loop in let a = c .before .before .before .before .before .before .before .before .before .before .before .before in omega (arith, l .inv .1, block-low (a .args .from) (a .args .bytes) (a .args .n) (l .i) (a .pre .0) (a .pre .5) (a .pre .7) (l .inv .0))
 
--- src/lib.rt:55:13
 add-i : tie.Need-add-i Inv-loop μ-loop
 add-i c = search needs
 
--- src/lib.rt:47:5
 loop-less : tie.Need-loop-less Inv-loop μ-loop
 loop-less c = search needs
 
--- src/lib.rt:47:5
 loop-again : tie.Need-loop-again Inv-loop μ-loop
 loop-again c =
     let a = c .before .before .before .before .before .before .before .before .before .before .before .before .args in
     let l = c .before .before .before .before .loop in (
       omega arith,
-      omega arith,
-      bits-rest (now (a .image)) (l .m) (l .at) (l .i) (omega arith) (l .inv .2),
-      λ s e.
-          sym (rest-yes s (now (a .image)) (now (a .row)) (omega arith) (l .held) (l .at) (l .i) (omega arith) (λ n. sym (not-false _ (c .if3 .left)) ∙ c .before .position-holds .ensures s n e))
-          ∙ l .inv .3 s e,
+      omega (arith, l .inv .1, row-next (l .i) (a .bytes)),
+      bits-rest (a .bytes) (now (a .image)) (a .n) (l .m) (l .at) (l .i) (omega arith) (l .inv .2),
+      λ s seg e n q.
+          let t = l .inv .3 s seg e n q in
+          equal-yes t n (omega arith) (now (a .row)) q
+          (sym (not-false _ (c .if3 .left)) ∙ equal-here t n (omega arith) (now (a .row)) q _ (λ p x y z. c .before .position-holds .ensures s p e x y z)),
     )
 
--- src/lib.rt:33:1
 returns-4 : tie.Need-returns-4 Inv-loop μ-loop
-returns-4 c = λ s e.
-    let a = c .before .before .before .before .before .before .before .before .before .args in
-    let l = c .before .loop in
-    sym (rest-end s (now (a .image)) (now (a .row)) (omega arith) (l .held) (l .at) (l .i) (omega arith)) ∙ l .inv .3 s e
+returns-4 c = λ s seg e l q. equal-end (c .before .loop .inv .3 s seg e l q) l (omega arith)
 
 pub record-equals-spec : {M : Type 1} → statement M
 record-equals-spec =

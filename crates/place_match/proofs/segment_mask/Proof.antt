@@ -1,51 +1,61 @@
-use mathlib.Core.Path.{_∙_, _≡_, ap, refl}
-use Prim.Native.Nat.{_*_, _+_, _-_, _<_, _≤_, ℕ}
 use native.Mathlib.Omega.{arith}
 use borrow.Author.Needs.{needs}
+use mathlib.Core.Path.{_∙_, _≡_, ap}
+use Prim.Native.Nat.{_*_, _+_, _-_, _<_, _≤_, ℕ}
+use native.Mathlib.Nat.{zero-mul}
 use denote.Ref.{now}
-use Rattle.lists.specs.Masks.{maskOf}
 use Rattle.model.specs.Image.{blockFrom, blocksFrom}
 use Rattle.laws.proofs.Image.{length-blocks}
 use Rattle.place_words.specs.Marks.{marks}
 use Rattle.place_words.proofs.Marks.{mark-bit, marks-small}
-use Rattle.place_match.proofs.Copying.{marks-front}
+use Rattle.place_match.proofs.Copying.{block-back, block-low, marks-end, marks-front}
 use Rattle.place_match.proofs.segment_mask.Statement.{statement}
 use Rattle.place_match.proofs.segment_mask.Tie as tie
 
 abbrev Inv-loop : tie.InvT-loop
-Inv-loop image from m₀ i₀ m i = (i ≤ 8) × (m ≡ marks (blocksFrom 64 image (from + i * 64) (8 - i)))
+Inv-loop image from bytes n m₀ at₀ i₀ m at i = (i ≤ n) × (at ≡ from + i * bytes) × (m ≡ marks (blocksFrom bytes image at (n - i)))
 
 abbrev μ-loop : tie.MeasureT-loop
-μ-loop image from m₀ i₀ m i = i
+μ-loop image from bytes n m₀ at₀ i₀ m at i = i
 
-small : (c : tie.In-loop Inv-loop μ-loop) → c .before .loop .m < 256
+small : (c : tie.In-loop Inv-loop μ-loop) → c .before .loop .m < 65536
 small c =
     let l = c .before .loop in
-    let image = now (c .before .before .before .args .image) in
-    let from = c .before .before .before .args .from in
-    omega (arith, l .inv .1, marks-small (blocksFrom 64 image (from + l .i * 64) (8 - l .i)) (omega (arith, length-blocks 64 image (from + l .i * 64) (8 - l .i))))
+    let a = c .before .before .before .before .args in
+    omega (arith, l .inv .2, marks-small (blocksFrom (a .bytes) (now (a .image)) (l .at) (a .n - l .i)) (omega (arith, length-blocks (a .bytes) (now (a .image)) (l .at) (a .n - l .i))))
+
+low : (c : tie.In-loop Inv-loop μ-loop) → (c .before .loop .at ≤ 73728) × (c .before .loop .at - c .before .before .before .before .args .bytes + c .before .before .before .before .args .bytes ≡ c .before .loop .at)
+low c =
+    let l = c .before .loop in
+    let a = c .before .before .before .before in
+    (omega (arith, l .inv .1, block-low (a .args .from) (a .args .bytes) (a .args .n) (l .i) (a .pre .0) (a .pre .1) (a .pre .2) (l .inv .0)), omega (arith, l .inv .1, block-back (l .i) (a .args .bytes) (omega arith)))
+
+cast-t9 : tie.Need-cast-t9 Inv-loop μ-loop
+cast-t9 c = search needs
+
+byte-requires : tie.Need-byte-requires Inv-loop μ-loop
+byte-requires c κs = search needs
+
+add-at : tie.Need-add-at Inv-loop μ-loop
+add-at c = let a = c .before .before in omega (arith, c .byte .ensures, block-low (a .args .from) (a .args .bytes) (a .args .n) (a .args .n) (a .pre .0) (a .pre .1) (a .pre .2) (omega arith))
 
 loop-holds : tie.Need-loop-holds Inv-loop μ-loop
-unfolding blocksFrom maskOf
-loop-holds c = (search needs, refl)
+loop-holds c = (omega arith, omega (arith, c .byte .ensures), marks-end (c .before .before .args .bytes) (now (c .before .before .args .image)) _ (c .before .before .args .n))
 
 sub-i : tie.Need-sub-i Inv-loop μ-loop
 sub-i c = search needs
 
-mul-block-mark : tie.Need-mul-block-mark Inv-loop μ-loop
-mul-block-mark c = search needs
-
-add-block-mark : tie.Need-add-block-mark Inv-loop μ-loop
-add-block-mark c = search needs
+sub-at : tie.Need-sub-at Inv-loop μ-loop
+sub-at c = omega (arith, low c .1)
 
 block-mark-requires : tie.Need-block-mark-requires Inv-loop μ-loop
-block-mark-requires c κs = search needs
+block-mark-requires c κs = (omega (arith, low c .0), c .before .before .before .before .pre .1)
 
 mul-m : tie.Need-mul-m Inv-loop μ-loop
 mul-m c = omega (arith, small (c .before))
 
 add-m : tie.Need-add-m Inv-loop μ-loop
-add-m c = omega (arith, small (c .before), c .block-mark .ensures, mark-bit (blockFrom 64 (now (c .before .before .before .before .args .image)) (c .before .before .before .before .args .from + (c .before .before .loop .i - 1) * 64)))
+add-m c = omega (arith, small (c .before), c .block-mark .ensures, mark-bit (blockFrom (c .before .before .before .before .before .args .bytes) (now (c .before .before .before .before .before .args .image)) (c .before .before .loop .at - c .before .before .before .before .before .args .bytes)))
 
 loop-less : tie.Need-loop-less Inv-loop μ-loop
 loop-less c = search needs
@@ -53,19 +63,21 @@ loop-less c = search needs
 loop-again : tie.Need-loop-again Inv-loop μ-loop
 loop-again c =
     let l = c .before .before .loop in
-    let a = c .before .before .before .before .args in
-    (omega arith, ap (λ (x : ℕ). x + 2 * l .m) (c .block-mark .ensures) ∙ marks-front (now (a .image)) (a .from) (l .i) (l .m) (omega arith) (omega arith) (l .inv .1))
+    let a = c .before .before .before .before .before .args in (
+      omega arith,
+      omega (arith, l .inv .1, block-back (l .i) (a .bytes) (omega arith)),
+      ap (λ (x : ℕ). x + 2 * l .m) (c .block-mark .ensures) ∙ marks-front (a .bytes) (now (a .image)) (l .at - a .bytes) (a .n) (l .i) (l .m) (omega arith) (omega arith) (rw (low (c .before) .1) (l .inv .2)),
+    )
 
 returns : tie.Need-returns Inv-loop μ-loop
 returns c =
     let l = c .before .loop in
-    let image = now (c .before .before .before .args .image) in
-    let from = c .before .before .before .args .from in
+    let a = c .before .before .before .before .args in
     let z : l .i ≡ 0 = omega arith in
-    let e : from + l .i * 64 ≡ from = omega arith in
-    let f : 8 - l .i ≡ 8 = omega arith in
-    let g : l .m ≡ marks (blocksFrom 64 image from 8) = rw (e, f) at (l .inv .1) in
-    (g, omega (arith, g, marks-small (blocksFrom 64 image from 8) (omega (arith, length-blocks 64 image from 8))))
+    let e : l .at ≡ a .from = omega (arith, l .inv .1, ap (λ (x : ℕ). x * a .bytes) z, zero-mul (a .bytes)) in
+    let f : a .n - l .i ≡ a .n = omega arith in
+    let g : l .m ≡ marks (blocksFrom (a .bytes) (now (a .image)) (a .from) (a .n)) = rw (e, f) at (l .inv .2) in
+    (g, omega (arith, g, marks-small (blocksFrom (a .bytes) (now (a .image)) (a .from) (a .n)) (omega (arith, length-blocks (a .bytes) (now (a .image)) (a .from) (a .n)))))
 
 pub segment-mask-spec : {M : Type 1} → statement M
 segment-mask-spec =
@@ -73,10 +85,12 @@ segment-mask-spec =
     (tie.spec
     Inv-loop
     μ-loop
+    cast-t9
+    byte-requires
+    add-at
     loop-holds
     sub-i
-    mul-block-mark
-    add-block-mark
+    sub-at
     block-mark-requires
     mul-m
     add-m

@@ -1,29 +1,28 @@
-use mathlib.Core.Path.{_∙_, _≡_, refl, sym}
-use Prim.Native.Nat.{_-_, _≤_}
 use native.Mathlib.Omega.{arith}
-use lib.ListN.{drop, length}
 use borrow.Author.Needs.{needs}
+use mathlib.Core.Path.{_≡_, refl}
+use Prim.Native.Nat.{_-_, _≤_}
+use lib.ListN.{length}
 use denote.Ref.{now}
-use Rattle.model.specs.Records.{cellsOf}
-use Rattle.model.specs.Table.{segmentIn}
-use Rattle.place_words.proofs.Cells.{cellsBy, row-cells}
-use Rattle.place_words.proofs.Reading.{cellWords}
+use Rattle.model.specs.State.{Segment}
+use Rattle.model.specs.Table.{recordToWords}
+use Rattle.place_words.proofs.Cells.{Acted, acted-end, acted-next, acted-start}
 use Rattle.place_seek.specs.Seek.{taken}
-use Rattle.place_seek.proofs.Seeking.{taken-done, taken-step}
+use Rattle.place_seek.proofs.Seeking.{taken-append}
 use Rattle.place_seek.proofs.take_row.Statement.{statement}
 use Rattle.place_seek.proofs.take_row.Tie as tie
 
 abbrev Inv-loop : tie.InvT-loop
-Inv-loop row free₀ m₀ i₀ free m i = (i ≤ 8) × (length free ≡ length free₀) × (taken (cellsBy m (drop i (cellWords row))) free ≡ taken (cellsOf (segmentIn 8 row)) free₀)
+Inv-loop row free₀ n m₀ i₀ free m i = (i ≤ n) × (length free ≡ length free₀) × ((seg : Segment) → length seg ≡ n → row ≡ recordToWords seg → Acted taken seg free₀ m i free)
 
 abbrev μ-loop : tie.MeasureT-loop
-μ-loop row free₀ m₀ i₀ free m i = 8 - i
+μ-loop row free₀ n m₀ i₀ free m i = n - i
 
 shared-slice-read-m : tie.Need-shared-slice-read-m Inv-loop μ-loop
 shared-slice-read-m c = search needs
 
 loop-holds : tie.Need-loop-holds Inv-loop μ-loop
-loop-holds c = (search needs, refl, rw (row-cells (now (c .before .before .before .args .row)) (omega arith)))
+loop-holds c = (search needs, refl, λ seg l s. acted-start taken seg (now (c .before .before .before .args .row)) s (now (c .before .before .before .args .free)))
 
 add-cell : tie.Need-add-cell Inv-loop μ-loop
 add-cell c = search needs
@@ -37,7 +36,7 @@ shared-slice-read-cell c = search needs
 take-if-requires : tie.Need-take-if-requires Inv-loop μ-loop
 take-if-requires c κs =
     let l = c .before .before .before .loop in
-    (omega arith, omega (arith, l .inv .1, c .before .before .before .before .before .before .before .pre .1 (l .i) (omega arith)))
+    (omega arith, omega (arith, l .inv .1, c .before .before .before .before .before .before .before .pre .2 (l .i) (omega arith)))
 
 add-i : tie.Need-add-i Inv-loop μ-loop
 add-i c = search needs
@@ -48,16 +47,16 @@ loop-less c = search needs
 loop-again : tie.Need-loop-again Inv-loop μ-loop
 loop-again c =
     let l = c .before .before .before .before .before .before .loop in
-    let row = now (c .before .before .before .before .before .before .before .before .before .before .args .row) in
-    (omega arith, omega arith, rw (c .before .before .take-if .ensures) (sym (taken-step row (omega arith) (l .m) (l .i) (l .free) (omega arith)) ∙ l .inv .2))
+    let a = c .before .before .before .before .before .before .before .before .before .before .args in
+    (omega arith, omega arith, λ seg e s. rw (c .before .before .take-if .ensures) (acted-next taken seg (now (a .row)) s (now (a .free)) (l .m) (l .i) (l .free) (l .inv .2 seg e s) (λ xs ys. taken-append xs ys (l .free)) (omega (arith, e))))
 
 same-length : tie.Need-same-length Inv-loop μ-loop
 same-length c = c .before .loop .inv .1
 
 returns : tie.Need-returns Inv-loop μ-loop
-returns c =
+returns c = λ seg e s.
     let l = c .before .loop in
-    sym (taken-done (now (c .before .before .before .before .before .args .row)) (omega arith) (l .m) (l .i) (l .free) (omega arith)) ∙ l .inv .2
+    acted-end taken seg (now (c .before .before .before .before .before .args .row)) s (now (c .before .before .before .before .before .args .free)) (l .m) (l .i) (l .free) (l .inv .2 seg e s) (unfold taken in refl) (omega (arith, e))
 
 pub take-row-spec : {M : Type 1} → statement M
 take-row-spec =

@@ -1,50 +1,40 @@
-use mathlib.Core.Path.{refl}
-use Prim.Native.Nat.{_≤_}
 use native.Mathlib.Omega.{arith}
 use borrow.Author.Needs.{needs}
-use denote.Ref.{now}
-use Rattle.lists.specs.Lists.{count}
-use Rattle.lists.specs.Walk.{placed}
-use Rattle.model.specs.Measures.{baseMeasures}
+use mathlib.Core.Path.{refl}
+use Prim.Native.Nat.{_≤_}
 use Rattle.model.specs.Table.{shelfIn}
-use Rattle.place_words.proofs.Reading.{shelf-records}
+use Rattle.numbers.specs.Measures.{measuresOf}
 use Rattle.place_undo.specs.Undo.{undoUpto}
-use Rattle.place_undo.proofs.Undoing.{Going, going-end, going-step, steps-next}
+use Rattle.place_undo.proofs.Undoing.{Going, going-end, going-step}
 use Rattle.place_undo.proofs.undo_all.Statement.{statement}
 use Rattle.place_undo.proofs.undo_all.Tie as tie
 
 abbrev Inv-loop : tie.InvT-loop
-Inv-loop pool₀ records₀ placed count j₀ pool records j = (j ≤ count) × Going placed (undoUpto placed count (shelfIn baseMeasures pool₀ records₀)) pool₀ records₀ pool records j
+Inv-loop pool₀ records₀ placed count m j₀ pool records j = (j ≤ count) × Going (measuresOf m) placed (undoUpto (measuresOf m) placed count (shelfIn (measuresOf m) pool₀ records₀)) pool₀ records₀ pool records j
 
 abbrev μ-loop : tie.MeasureT-loop
-μ-loop pool₀ records₀ placed count j₀ pool records j = j
+μ-loop pool₀ records₀ placed count m j₀ pool records j = j
 
 loop-holds : tie.Need-loop-holds Inv-loop μ-loop
-loop-holds c = (omega arith, record { stored = c .before .before .before .pre .0; steps = c .before .before .before .pre .2; left = refl; samePool = refl; sameTable = refl })
+loop-holds c = (omega arith, record { stored = c .before .before .before .pre .0; left = refl; samePool = refl; sameTable = refl })
 
 sub-j : tie.Need-sub-j Inv-loop μ-loop
 sub-j c = search needs
 
-mul-undo-mark : tie.Need-mul-undo-mark Inv-loop μ-loop
-mul-undo-mark c = search needs
+mul-k : tie.Need-mul-k Inv-loop μ-loop
+mul-k c = search needs
 
-shared-slice-read-undo-mark : tie.Need-shared-slice-read-undo-mark Inv-loop μ-loop
-shared-slice-read-undo-mark c = search needs
+shared-slice-read-k : tie.Need-shared-slice-read-k Inv-loop μ-loop
+shared-slice-read-k c = search needs
 
-undo-mark-requires : tie.Need-undo-mark-requires Inv-loop μ-loop
-undo-mark-requires c κs =
-    let l = c .before .before .before .before .loop in
-    let g = l .inv .1 in
-    let p = steps-next (now (c .before .before .before .before .before .before .before .before .args .placed)) (l .j) (shelfIn baseMeasures (l .pool) (l .records)) (omega arith) (g .steps) in
-    (g .stored, omega (arith, p .0, shelf-records (l .pool) (l .records)))
+undo-placing-requires : tie.Need-undo-placing-requires Inv-loop μ-loop
+undo-placing-requires c κs = c .before .before .before .before .loop .inv .1 .stored
 
 loop-less : tie.Need-loop-less Inv-loop μ-loop
 loop-less c = search needs
 
 loop-again : tie.Need-loop-again Inv-loop μ-loop
-loop-again c =
-    let l = c .before .before .before .before .before .before .before .before .before .loop in
-    (omega arith, going-step (l .inv .1) (omega arith) _ _ (omega arith) (omega arith) (c .before .before .before .before .undo-mark .ensures))
+loop-again c = (omega arith, going-step (c .before .before .before .before .before .before .before .before .before .loop .inv .1) (omega arith) _ _ (omega arith) (omega arith) (c .before .before .before .before .undo-placing .ensures))
 
 same-length : tie.Need-same-length Inv-loop μ-loop
 same-length c = c .before .loop .inv .1 .samePool
@@ -63,9 +53,9 @@ undo-all-spec =
     μ-loop
     loop-holds
     sub-j
-    mul-undo-mark
-    shared-slice-read-undo-mark
-    undo-mark-requires
+    mul-k
+    shared-slice-read-k
+    undo-placing-requires
     loop-less
     loop-again
     same-length

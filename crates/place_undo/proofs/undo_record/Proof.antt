@@ -1,42 +1,54 @@
-use mathlib.Core.Path.{_∙_, _≡_, sym}
-use Prim.Native.Nat.{_*_, _+_, _-_}
 use native.Mathlib.Omega.{arith}
-use borrow.Author.Needs.{needs}
+use mathlib.Core.Path.{_∙_, sym}
+use Prim.Native.Nat.{_+_, _-_, _≤_}
+use lib.ListN.{length}
 use denote.Ref.{now}
-use Rattle.place_words.proofs.Storing.{row-nineteen}
+use Rattle.numbers.specs.Measures.{measuresOf}
+use Rattle.shelf.proofs.Inside.{cell-inside, cell-room}
+use Rattle.shelf.proofs.Read.{count-at, part-length, part-room, row-part, stored-records}
+use Rattle.place_words.proofs.Reading.{cells-below}
 use Rattle.place_undo.proofs.Undoing.{undo-freed, undo-lowered}
+use borrow.Author.Needs.{needs}
 use Rattle.place_undo.proofs.undo_record.Statement.{statement}
 use Rattle.place_undo.proofs.undo_record.Tie as tie
 
-cast-start : tie.Need-cast-start
-cast-start c = search needs
+room : (c : tie.After-row-words) → c .before .word .result + c .row-words .result ≤ length (now (c .before .before .before .before .args .records))
+room c =
+    let a = c .before .before .before .before in
+    part-room (a .args .m .blocks) (now (a .args .records)) _ (stored-records (measuresOf (a .args .m)) (a .pre .0)) (a .args .k .0) (a .pre .1) (c .before .word .result) (c .row-words .result) (c .before .word .ensures) (c .row-words .ensures .0)
 
-mul-start : tie.Need-mul-start
-mul-start c = search needs
+word-requires : tie.Need-word-requires
+word-requires c κs = c .before .before .pre .0 .measured .mostBlocks
+
+row-words-requires : tie.Need-row-words-requires
+row-words-requires c κs = c .before .before .before .pre .0 .measured .mostBlocks
 
 add-end : tie.Need-add-end
-add-end c = search needs
+add-end c = omega (arith, room c)
 
 add-counts : tie.Need-add-counts
-add-counts c = search needs
+add-counts c = omega (arith, c .before .before .before .before .before .pre .0 .measured .mostBlocks)
+
+add-counts-2 : tie.Need-add-counts-2
+add-counts-2 c = omega (arith, room (c .before), c .before .row-words .ensures .0)
 
 mul-words-low : tie.Need-mul-words-low
-mul-words-low c = search needs
+mul-words-low c = omega (arith, room (c .before))
 
 sub-words-low : tie.Need-sub-words-low
-sub-words-low c = search needs
+sub-words-low c = omega (arith, room (c .before), c .before .row-words .ensures .0)
 
 part-words-low-start : tie.Need-part-words-low-start
-part-words-low-start c = search needs
+part-words-low-start c = omega (arith, room (c .before .before), c .before .before .row-words .ensures .0)
 
 part-words-low-end : tie.Need-part-words-low-end
-part-words-low-end c = search needs
+part-words-low-end c = omega (arith, room (c .before .before))
 
 words-low-requires : tie.Need-words-low-requires
 words-low-requires c κs = search needs
 
 mul-clear-cells : tie.Need-mul-clear-cells
-mul-clear-cells c = search needs
+mul-clear-cells c = omega (arith, room (c .before .before .before .before .before))
 
 sub-clear-cells : tie.Need-sub-clear-cells
 sub-clear-cells c = search needs
@@ -45,30 +57,32 @@ part-clear-cells-start : tie.Need-part-clear-cells-start
 part-clear-cells-start c = search needs
 
 part-clear-cells-end : tie.Need-part-clear-cells-end
-part-clear-cells-end c = search needs
+part-clear-cells-end c = omega (arith, room (c .before .before .before .before .before .before))
 
 clear-cells-requires : tie.Need-clear-cells-requires
 clear-cells-requires c κs =
-    let a = c .before .before .before .before .before .before .before .before .before in
-    let k = a .args .k .0 in
-    let n : k * 19 + 19 - k * 19 ≡ 19 = omega arith in
+    let a = c .before .before .before .before .before .before .before .before .before .before .before .before in
     let st = a .pre .0 in
-    rw n (row-nineteen (now (a .args .records)) k (st .sized .tableSize) (a .pre .1), st .sized .mostCells, st .sized .fits k (a .pre .1))
+    let M = measuresOf (a .args .m) in
+    let wide = part-length (a .args .m .blocks) (now (a .args .records)) _ (stored-records M st) (a .args .k .0) (a .pre .1) (c .before .before .before .before .before .before .before .before .before .word .result) (c .before .before .before .before .before .before .before .before .row-words .result) (c .before .before .before .before .before .before .before .before .before .word .ensures) (c .before .before .before .before .before .before .before .before .row-words .ensures .0) in
+    let row = row-part (a .args .m .blocks) (now (a .args .records)) _ (stored-records M st) (a .args .k .0) (a .pre .1) (c .before .before .before .before .before .before .before .before .before .word .result) (c .before .before .before .before .before .before .before .before .row-words .result) (c .before .before .before .before .before .before .before .before .before .word .ensures) (c .before .before .before .before .before .before .before .before .row-words .ensures .0) in
+    let sized = count-at (a .args .m .blocks) (now (a .args .records)) _ (stored-records M st) (a .args .k .0) (a .pre .1) in
+    (wide, λ i l. cell-room st _ (cells-below (a .args .m .blocks) _ _ sized (λ j. cell-inside st (a .args .k .0) j) _ row i l), omega (arith, st .measured .someBytes), st .measured .mostBytes, st .measured .mostBlocks)
 
-mul-clear-row : tie.Need-mul-clear-row
-mul-clear-row c = search needs
+mul-clear : tie.Need-mul-clear
+mul-clear c = omega (arith, room (c .before .before .before .before .before .before .before .before .before .before .before))
 
-sub-clear-row : tie.Need-sub-clear-row
-sub-clear-row c = search needs
+sub-clear : tie.Need-sub-clear
+sub-clear c = search needs
 
-part-clear-row-start : tie.Need-part-clear-row-start
-part-clear-row-start c = search needs
+part-clear-start : tie.Need-part-clear-start
+part-clear-start c = search needs
 
-part-clear-row-end : tie.Need-part-clear-row-end
-part-clear-row-end c = search needs
+part-clear-end : tie.Need-part-clear-end
+part-clear-end c = omega (arith, room (c .before .before .before .before .before .before .before .before .before .before .before))
 
-clear-row-requires : tie.Need-clear-row-requires
-clear-row-requires c κs = search needs
+clear-requires : tie.Need-clear-requires
+clear-requires c κs = search needs
 
 same-length : tie.Need-same-length
 same-length c = search needs
@@ -78,14 +92,16 @@ same-length-2 c = search needs
 
 returns : tie.Need-returns
 returns c =
-    let a = c .before .before .before .before .before .before .before .before .before .before .before .before .before .before .before .before in
-    let k = a .args .k .0 in
-    let n : k * 19 + 19 - k * 19 ≡ 19 = omega arith in
-    let m : k * 19 + 19 - (k * 19 + 11) ≡ 8 = omega arith in
-    rw n (undo-freed (now (a .args .pool)) (now (a .args .records)) (a .pre .0) k (a .pre .1) _ _ (sym (c .before .before .before .before .before .before .before .before .before .before .if1 .taken) ∙ (rw m at (c .before .before .before .before .before .before .before .before .before .before .before .words-low .ensures))) (omega arith) (rw n at (c .before .before .before .before .before .before .clear-cells .ensures)) (rw n at (c .before .before .clear-row .ensures)))
+    let a = c .before .before .before .before .before .before .before .before .before .before .before .before .before .before .before .before .before .before .before in
+    let st = a .pre .0 in
+    let M = measuresOf (a .args .m) in
+    let row = row-part (a .args .m .blocks) (now (a .args .records)) _ (stored-records M st) (a .args .k .0) (a .pre .1) (c .before .before .before .before .before .before .before .before .before .before .before .before .before .before .before .before .word .result) (c .before .before .before .before .before .before .before .before .before .before .before .before .before .before .before .row-words .result) (c .before .before .before .before .before .before .before .before .before .before .before .before .before .before .before .before .word .ensures) (c .before .before .before .before .before .before .before .before .before .before .before .before .before .before .before .row-words .ensures .0) in
+    let sized = count-at (a .args .m .blocks) (now (a .args .records)) _ (stored-records M st) (a .args .k .0) (a .pre .1) in
+    undo-freed M (now (a .args .pool)) (now (a .args .records)) st (a .args .k .0) (a .pre .1) (c .before .before .before .before .before .before .before .before .before .before .before .before .before .before .before .before .word .result) (c .before .before .before .before .before .before .before .before .before .before .before .before .before .before .before .row-words .result) (c .before .before .before .before .before .before .before .before .before .before .before .before .before .before .before .before .word .ensures) (c .before .before .before .before .before .before .before .before .before .before .before .before .before .before .before .row-words .ensures .0)
+    _ _ (sym (c .before .before .before .before .before .before .before .before .before .before .if1 .taken) ∙ c .before .before .before .before .before .before .before .before .before .before .before .words-low .ensures) (omega arith) (c .before .before .before .before .before .before .clear-cells .ensures _ sized row) (c .before .before .clear .ensures)
 
 mul-lower-row : tie.Need-mul-lower-row
-mul-lower-row c = search needs
+mul-lower-row c = omega (arith, room (c .before .before .before .before .before))
 
 sub-lower-row : tie.Need-sub-lower-row
 sub-lower-row c = search needs
@@ -94,35 +110,36 @@ part-lower-row-start : tie.Need-part-lower-row-start
 part-lower-row-start c = search needs
 
 part-lower-row-end : tie.Need-part-lower-row-end
-part-lower-row-end c = search needs
+part-lower-row-end c = omega (arith, room (c .before .before .before .before .before))
 
 lower-row-requires : tie.Need-lower-row-requires
 lower-row-requires c κs =
-    let a = c .before .before .before .before .before .before .before in
-    let k = a .args .k .0 in
-    let n : k * 19 + 19 - k * 19 ≡ 19 = omega arith in
+    let a = c .before .before .before .before .before .before .before .before .before .before in
     let st = a .pre .0 in
-    rw n (row-nineteen (now (a .args .records)) k (st .sized .tableSize) (a .pre .1), st .says k (a .pre .1), λ i l. st .counts k i (a .pre .1) l)
+    (st .measured .mostBlocks, part-length (a .args .m .blocks) (now (a .args .records)) _ (stored-records (measuresOf (a .args .m)) st) (a .args .k .0) (a .pre .1) (c .before .before .before .before .before .before .before .word .result) (c .before .before .before .before .before .before .row-words .result) (c .before .before .before .before .before .before .before .word .ensures) (c .before .before .before .before .before .before .row-words .ensures .0))
 
 same-length-3 : tie.Need-same-length-3
 same-length-3 c = search needs
 
 returns-2 : tie.Need-returns-2
 returns-2 c =
-    let a = c .before .before .before .before .before .before .before .before .before .before in
-    let k = a .args .k .0 in
-    let n : k * 19 + 19 - k * 19 ≡ 19 = omega arith in
-    let m : k * 19 + 19 - (k * 19 + 11) ≡ 8 = omega arith in
-    rw n (undo-lowered (now (a .args .pool)) (now (a .args .records)) (a .pre .0) k (a .pre .1) _ (sym (c .before .before .before .before .if1 .left) ∙ (rw m at (c .before .before .before .before .before .words-low .ensures))) (rw n at (c .before .before .lower-row .ensures)))
+    let a = c .before .before .before .before .before .before .before .before .before .before .before .before .before in
+    let st = a .pre .0 in
+    let M = measuresOf (a .args .m) in
+    let row = row-part (a .args .m .blocks) (now (a .args .records)) _ (stored-records M st) (a .args .k .0) (a .pre .1) (c .before .before .before .before .before .before .before .before .before .before .word .result) (c .before .before .before .before .before .before .before .before .before .row-words .result) (c .before .before .before .before .before .before .before .before .before .before .word .ensures) (c .before .before .before .before .before .before .before .before .before .row-words .ensures .0) in
+    let sized = count-at (a .args .m .blocks) (now (a .args .records)) _ (stored-records M st) (a .args .k .0) (a .pre .1) in
+    undo-lowered M (now (a .args .pool)) (now (a .args .records)) st (a .args .k .0) (a .pre .1) (c .before .before .before .before .before .before .before .before .before .before .word .result) (c .before .before .before .before .before .before .before .before .before .row-words .result) (c .before .before .before .before .before .before .before .before .before .before .word .ensures) (c .before .before .before .before .before .before .before .before .before .row-words .ensures .0)
+    _ (sym (c .before .before .before .before .if1 .left) ∙ c .before .before .before .before .before .words-low .ensures) (c .before .before .lower-row .ensures _ sized row)
 
 pub undo-record-spec : {M : Type 1} → statement M
 undo-record-spec =
     tie.close
     (tie.spec
-    cast-start
-    mul-start
+    word-requires
+    row-words-requires
     add-end
     add-counts
+    add-counts-2
     mul-words-low
     sub-words-low
     part-words-low-start
@@ -133,11 +150,11 @@ undo-record-spec =
     part-clear-cells-start
     part-clear-cells-end
     clear-cells-requires
-    mul-clear-row
-    sub-clear-row
-    part-clear-row-start
-    part-clear-row-end
-    clear-row-requires
+    mul-clear
+    sub-clear
+    part-clear-start
+    part-clear-end
+    clear-requires
     same-length
     same-length-2
     returns

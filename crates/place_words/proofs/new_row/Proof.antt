@@ -1,10 +1,14 @@
-use mathlib.Core.Path.{refl}
 use native.Mathlib.Omega.{arith}
-use borrow.Author.Needs.{needs}
+use mathlib.Core.Path.{_≡_, refl}
+use Prim.Native.Nat.{_+_, _-_}
 use denote.Ref.{now}
 use Rattle.place_words.proofs.Rowing.{new-row-all}
+use borrow.Author.Needs.{needs}
 use Rattle.place_words.proofs.new_row.Statement.{statement}
 use Rattle.place_words.proofs.new_row.Tie as tie
+
+add-counts : tie.Need-add-counts
+add-counts c = search needs
 
 put-masks-requires : tie.Need-put-masks-requires
 put-masks-requires c κs = search needs
@@ -20,6 +24,9 @@ part-number-end c = search needs
 
 number-requires : tie.Need-number-requires
 number-requires c κs = search needs
+
+mul-put-bits : tie.Need-mul-put-bits
+mul-put-bits c = search needs
 
 sub-put-bits : tie.Need-sub-put-bits
 sub-put-bits c = search needs
@@ -37,19 +44,22 @@ same-length : tie.Need-same-length
 same-length c = search needs
 
 returns : tie.Need-returns
-returns c = λ xs ys lx ly.
+returns c = λ seg e s.
     let a = c .before .before .before .before .before .before .before .before .before .before .before .before .before .args in
-    new-row-all (now (a .row)) _ _ _ _ (a .mask) (a .start .0) (omega arith) (c .before .before .before .before .before .before .before .before .before .before .put-masks .ensures) (c .before .before .before .before .before .before .number .ensures) refl (c .before .before .put-bits .ensures) xs ys lx ly
+    let z : 3 + a .n - 3 ≡ a .n = omega arith in
+    rw z (new-row-all (a .n) (now (a .row)) _ _ _ _ (a .mask) (a .start .0) (omega arith) (c .before .before .before .before .before .before .before .before .before .before .put-masks .ensures) (rw z at (c .before .before .before .before .before .before .number .ensures)) refl (rw z at (c .before .before .put-bits .ensures)) seg e s)
 
 pub new-row-spec : {M : Type 1} → statement M
 new-row-spec =
     tie.close
     (tie.spec
+    add-counts
     put-masks-requires
     sub-number
     part-number-start
     part-number-end
     number-requires
+    mul-put-bits
     sub-put-bits
     part-put-bits-start
     part-put-bits-end

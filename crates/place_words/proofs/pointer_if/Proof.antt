@@ -4,19 +4,13 @@ use Rattle.laws.proofs.RoundTrip.{null-word}
 use borrow.Author.Needs.{needs}
 use Rattle.place_words.proofs.pointer_if.Statement.{statement}
 use Rattle.place_words.proofs.pointer_if.Tie as tie
-use Rattle.place_words.proofs.pointer_if.Reads as reads
-use Rattle.place_words.proofs.pointer_if.Lts as lts
-use Rattle.numbers.proofs.Pointer.null.Reads as null-reads
 
--- src/lib.rt:30:9
 returns : tie.Need-returns
 returns c = search needs
 
--- src/lib.rt:32:9
 null-requires : tie.Need-null-requires
 null-requires c κs = search needs
 
--- src/lib.rt:25:1
 returns-2 : tie.Need-returns-2
 returns-2 c = let z : c .before .before .args .bit ≡ 0 = omega arith in rw z (c .null .ensures ∙ null-word)
 

@@ -13,7 +13,7 @@ use Rattle.pool.proofs.take_marked.Tie as tie
 
 abbrev Inv-loop : tie.InvT-loop
 Inv-loop occupied₀ mask cells left₀ occupied left =
-    (left < 256)
+    (left < 65536)
     × (ones left ≤ ones mask)
     × (length occupied ≡ length occupied₀)
     × (along markAt left (ones mask - ones left) cells occupied ≡ along markAt mask 0 cells occupied₀)
@@ -24,14 +24,14 @@ abbrev μ-loop : tie.MeasureT-loop
 bit : (c : tie.In-loop Inv-loop μ-loop) → First (c .before .loop .left) (trailingZeros 32 (c .before .loop .left))
 bit c = trailing-first 32 _ (omega arith) (omega arith)
 
-small : (c : tie.In-loop Inv-loop μ-loop) → trailingZeros 32 (c .before .loop .left) < 8
-small c = first-lt 8 (bit c) (c .before .loop .inv .0)
+small : (c : tie.In-loop Inv-loop μ-loop) → trailingZeros 32 (c .before .loop .left) < 16
+small c = first-lt 16 (bit c) (c .before .loop .inv .0)
 
 power : (c : tie.In-loop Inv-loop μ-loop) → 1 * 2 ^ trailingZeros 32 (c .before .loop .left) % 2 ^ 32 ≡ 2 ^ trailingZeros 32 (c .before .loop .left)
 power c = one-shl _ 32 (omega (arith, small c))
 
-eight : (c : tie.Start Inv-loop μ-loop) → length (c .args .t3) ≡ 8
-eight c = search needs
+sixteen : (c : tie.Start Inv-loop μ-loop) → length (c .args .t3) ≡ 16
+sixteen c = search needs
 
 cell : (c : tie.In-loop Inv-loop μ-loop) → getD (c .before .before .args .t3) (trailingZeros 32 (c .before .loop .left)) 0 < length (c .before .loop .occupied)
 cell c = omega (arith, c .before .before .pre .1 (trailingZeros 32 (c .before .loop .left)))
@@ -73,7 +73,7 @@ loop-again c = let i = c .before .loop .inv in
       omega arith,
       omega (arith, f),
       simp length-set (i .2),
-      rw n (sym (first-along markAt _ _ _ (omega (arith, eight (c .before .before), small c)) (bit c)) ∙ i .3),
+      rw n (sym (first-along markAt _ _ _ (omega (arith, sixteen (c .before .before), small c)) (bit c)) ∙ i .3),
     )
 
 same-length : tie.Need-same-length Inv-loop μ-loop

@@ -1,60 +1,78 @@
-use mathlib.Core.Path.{refl}
-use Prim.Native.Nat.{_*_}
-use borrow.Author.Needs.{needs}
+use native.Mathlib.Omega.{arith}
+use mathlib.Core.Path.{refl, sym}
 use denote.Ref.{now}
 use Rattle.records.proofs.Words.{record-row}
+use borrow.Author.Needs.{needs}
 use Rattle.records.proofs.load.Statement.{statement}
 use Rattle.records.proofs.load.Tie as tie
+use Rattle.records.proofs.load.Reads as reads
+use Rattle.records.proofs.load.Lts as lts
+use Rattle.numbers.proofs.RecordNumber.word.Reads as word-reads
+use Rattle.records.proofs.sixteen.Reads as sixteen-reads
 
-cast-at : tie.Need-cast-at
-cast-at c = search needs
+-- src/lib.rt:162:9
+word-requires : tie.Need-word-requires
+word-requires c κs = search needs
 
-mul-at : tie.Need-mul-at
-mul-at c = search needs
+-- src/lib.rt:163:32
+add-sixteen : tie.Need-add-sixteen
+add-sixteen c = search needs
 
-add-eight : tie.Need-add-eight
-add-eight c = search needs
+-- src/lib.rt:163:9
+sixteen-requires : tie.Need-sixteen-requires
+sixteen-requires c κs = search needs
 
-eight-requires : tie.Need-eight-requires
-eight-requires c κs = search needs
+-- src/lib.rt:164:33
+add-sixteen-2 : tie.Need-add-sixteen-2
+add-sixteen-2 c = search needs
 
-add-eight-2 : tie.Need-add-eight-2
-add-eight-2 c = search needs
+-- src/lib.rt:164:33
+add-sixteen-3 : tie.Need-add-sixteen-3
+add-sixteen-3 c = search needs
 
-eight-requires-2 : tie.Need-eight-requires-2
-eight-requires-2 c κs = search needs
+-- src/lib.rt:164:9
+sixteen-requires-2 : tie.Need-sixteen-requires-2
+sixteen-requires-2 c κs = search needs
 
+-- src/lib.rt:166:15
 mul-t7 : tie.Need-mul-t7
 mul-t7 c = search needs
 
-shared-slice-read-t9 : tie.Need-shared-slice-read-t9
-shared-slice-read-t9 c = search needs
+-- src/lib.rt:166:15
+shared-slice-read-t10 : tie.Need-shared-slice-read-t10
+shared-slice-read-t10 c = search needs
 
-add-t10 : tie.Need-add-t10
-add-t10 c = search needs
+-- src/lib.rt:167:24
+add-t8 : tie.Need-add-t8
+add-t8 c = search needs
 
+-- src/lib.rt:167:18
 mul-t11 : tie.Need-mul-t11
 mul-t11 c = search needs
 
+-- src/lib.rt:167:18
 shared-slice-read-t13 : tie.Need-shared-slice-read-t13
 shared-slice-read-t13 c = search needs
 
+-- src/lib.rt:158:1
 returns : tie.Need-returns
-returns c = let a = c .before .before .before .before .before .args in record-row (now (a .words)) (a .number .0 * 19) _ refl refl (c .before .before .before .eight .ensures) (c .before .before .eight2 .ensures)
+returns c =
+    let a = c .before .before .before .before .before .before .args in
+    rw (sym (c .before .before .before .before .word .ensures)) (record-row (now (a .words)) _ (a .n) _ refl refl refl (c .before .before .before .sixteen .ensures) (c .before .before .sixteen2 .ensures))
 
 pub load-spec : {M : Type 1} → statement M
 load-spec =
     tie.close
     (tie.spec
-    cast-at
-    mul-at
-    add-eight
-    eight-requires
-    add-eight-2
-    eight-requires-2
+    word-requires
+    add-sixteen
+    sixteen-requires
+    add-sixteen-2
+    add-sixteen-3
+    sixteen-requires-2
     mul-t7
-    shared-slice-read-t9
-    add-t10
+    shared-slice-read-t10
+    add-t8
     mul-t11
     shared-slice-read-t13
     returns)

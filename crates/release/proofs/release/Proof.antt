@@ -1,5 +1,5 @@
 use mathlib.Core.Path.{refl}
-use Prim.Native.Nat.{_-_, _<_}
+use Prim.Native.Nat.{_-_, _<_, _≤_}
 use native.Mathlib.Omega.{arith}
 use lib.ListN.{length}
 use borrow.Author.Needs.{needs}
@@ -8,13 +8,13 @@ use Rattle.release.proofs.release.Statement.{statement}
 use Rattle.release.proofs.release.Tie as tie
 
 abbrev Inv-loop : tie.InvT-loop
-Inv-loop words₀ pointers i₀ words i = Lowering words₀ pointers words i
+Inv-loop words₀ pointers n i₀ words i = (n ≤ 16) × Lowering n words₀ pointers words i
 
 abbrev μ-loop : tie.MeasureT-loop
-μ-loop words₀ pointers i₀ words i = length pointers - i
+μ-loop words₀ pointers n i₀ words i = length pointers - i
 
 loop-holds : tie.Need-loop-holds Inv-loop μ-loop
-loop-holds c = record { inside = omega arith; long = refl; told = c .before .before .pre .0; rest = refl }
+loop-holds c = (c .before .before .pre .0 .0, record { inside = omega arith; long = refl; told = c .before .before .pre .0 .1; rest = refl })
 
 mul-lower : tie.Need-mul-lower Inv-loop μ-loop
 mul-lower c = search needs
@@ -26,7 +26,7 @@ lower-requires : tie.Need-lower-requires Inv-loop μ-loop
 lower-requires c κs =
     let a = c .before .before .before .before .before .before in
     let l = c .before .before .before .loop in
-    (l .inv .told, rw (l .inv .long) (a .pre .1 (l .i) (search needs)))
+    ((l .inv .0, l .inv .1 .told), rw (l .inv .1 .long) (a .pre .1 (l .i) (search needs)))
 
 add-i : tie.Need-add-i Inv-loop μ-loop
 add-i c = search needs
@@ -39,13 +39,13 @@ loop-again c =
     let a = c .before .before .before .before .before .before .before .before .before in
     let l = c .before .before .before .before .before .before .loop in
     let h : l .i < length (a .args .pointers .now) = search needs in
-    lowering-next _ _ _ (l .i) h (l .inv) _ (c .before .before .lower .kept .0) (c .before .before .lower .ensures)
+    (l .inv .0, lowering-next _ _ _ _ (l .i) h (l .inv .1) _ (c .before .before .lower .kept .0) (c .before .before .lower .ensures))
 
 same-length : tie.Need-same-length Inv-loop μ-loop
-same-length c = c .before .loop .inv .long
+same-length c = c .before .loop .inv .1 .long
 
 returns : tie.Need-returns Inv-loop μ-loop
-returns c = lowering-all _ _ _ _ (c .before .loop .inv) (omega arith)
+returns c = lowering-all _ _ _ _ _ (c .before .loop .inv .1) (omega arith)
 
 pub release-spec : {M : Type 1} → statement M
 release-spec =

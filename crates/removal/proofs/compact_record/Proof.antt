@@ -9,17 +9,17 @@ use Rattle.kept.proofs.Sweeps.{recoded, run-chosen, run-missing}
 use Rattle.removal.proofs.compact_record.Statement.{statement}
 use Rattle.removal.proofs.compact_record.Tie as tie
 
-start-ready : (c : tie.Start) → Ready (length (c .args .occupied .now)) (c .args .old) (c .args .going)
-start-ready c = ready _ _ _ _ _ _ (c .pre .0) (c .pre .1 .0)
+start-ready : (c : tie.Start) → Ready (length (c .args .occupied .now)) (c .args .m .blocks) (c .args .old) (c .args .going)
+start-ready c = ready _ _ _ _ _ _ _ (c .pre .0) (c .pre .1 .0)
 
-start-ones : (c : tie.Start) → ones (c .args .old .held - c .args .going) ≡ stayingAt (c .args .words .now) (c .args .number .0)
-start-ones c = need-ones _ _ _ _ _ _ (c .pre .0) (c .pre .1 .0)
+start-ones : (c : tie.Start) → ones (c .args .old .held - c .args .going) ≡ stayingAt (c .args .m .blocks) (c .args .words .now) (c .args .number .0)
+start-ones c = need-ones _ _ _ _ _ _ _ (c .pre .0) (c .pre .1 .0)
 
 sub-keep : tie.Need-sub-keep
 sub-keep c = start-ready (c .before .before .before .before) .within
 
 cast-need : tie.Need-cast-need
-cast-need c = omega (arith, ones-le 8 (c .before .before .before .before .args .old .held - c .before .before .before .before .args .going) (omega (arith, start-ready (c .before .before .before .before) .small)))
+cast-need c = omega (arith, ones-le 16 (c .before .before .before .before .args .old .held - c .before .before .before .before .args .going) (omega (arith, start-ready (c .before .before .before .before) .small)))
 
 best-run-requires : tie.Need-best-run-requires
 best-run-requires c κs = let a = c .before .before .before .before .before in (omega (arith, start-ones a, a .pre .1 .1), omega (arith, a .pre .0 .few))
@@ -37,10 +37,10 @@ same-length-3 : tie.Need-same-length-3
 same-length-3 c = c .before .before .before .before .before .before .strike-record .kept .1 .1 .0
 
 returns : tie.Need-returns
-returns c = let a = c .before .before .before .before .before .before .before .before .before .before .before .before .before .before .before .before .before .before in recoded (run-missing _ _ _ (a .pre .0) _ _ (start-ones a) _ (c .before .before .before .before .before .before .before .before .before .before .before .before .best-run .ensures) (c .before .before .before .before .before .before .before .before .before .before .if1 .taken)) (c .before .before .before .before .before .before .strike-record .ensures)
+returns c = let a = c .before .before .before .before .before .before .before .before .before .before .before .before .before .before .before .before .before .before in recoded (run-missing _ _ _ _ (a .pre .0) _ _ (start-ones a) _ (c .before .before .before .before .before .before .before .before .before .before .before .before .best-run .ensures) (c .before .before .before .before .before .before .before .before .before .before .if1 .taken)) (c .before .before .before .before .before .before .strike-record .ensures)
 
 move-record-requires : tie.Need-move-record-requires
-move-record-requires c κs = let a = c .before .before .before .before .before .before .before .before .before .before .before .before in (a .pre .0, (a .pre .1 .0, run-chosen _ _ _ (a .pre .0) _ _ (start-ones a) _ (c .before .before .before .before .before .before .best-run .ensures) (a .pre .1 .1) (c .before .before .before .before .if1 .left)))
+move-record-requires c κs = let a = c .before .before .before .before .before .before .before .before .before .before .before .before in (a .pre .0, (a .pre .1 .0, run-chosen _ _ _ _ (a .pre .0) _ _ (start-ones a) _ (c .before .before .before .before .before .before .best-run .ensures) (a .pre .1 .1) (c .before .before .before .before .if1 .left)))
 
 same-length-4 : tie.Need-same-length-4
 same-length-4 c = c .before .before .before .before .before .before .move-record .kept .0

@@ -6,19 +6,19 @@ use Rattle.kept.proofs.Done.{Ready, ready, free-done}
 use Rattle.removal.proofs.free_record.Statement.{statement}
 use Rattle.removal.proofs.free_record.Tie as tie
 
-start-ready : (c : tie.Start) → Ready (length (c .args .occupied .now)) (c .args .old) (c .args .going)
-start-ready c = ready _ _ _ _ _ _ (c .pre .0) (c .pre .1)
+start-ready : (c : tie.Start) → Ready (length (c .args .occupied .now)) (c .args .m .blocks) (c .args .old) (c .args .going)
+start-ready c = ready _ _ _ _ _ _ _ (c .pre .0) (c .pre .1)
 
 clear-marked-requires : tie.Need-clear-marked-requires
 clear-marked-requires c κs = let a = c .before .before .before .before .before .before in
     let y = start-ready a in
-    (y .small, y .cells, a .pre .0 .bytes, a .pre .0 .few)
+    (y .small, y .cells, a .pre .0 .measured .mostBytes, a .pre .0 .bytes, a .pre .0 .few)
 
 free-requires : tie.Need-free-requires
 free-requires c κs = search needs
 
 store-requires : tie.Need-store-requires
-store-requires c κs = (free-formed _ (c .before .free .ensures), omega (arith, c .before .before .before .before .before .before .before .before .before .before .before .before .before .pre .1 .room))
+store-requires c κs = (free-formed _ _ (c .before .free .ensures) (c .before .before .before .before .before .before .before .before .before .before .before .before .before .pre .0 .measured .mostBlocks), omega (arith, c .before .before .before .before .before .before .before .before .before .before .before .before .before .pre .1 .room))
 
 same-length : tie.Need-same-length
 same-length c = search needs
@@ -32,7 +32,7 @@ same-length-3 c = search needs
 returns : tie.Need-returns
 returns c = let a = c .before .before .before .before .before .before .before .before .before .before .before .before .before .before .before .before in
     let m = c .before .before .before .before .before .before .before .before .before .clear-marked .ensures in
-    free-done _ _ _ _ _ _ (a .pre .0) (a .pre .1) _ _ _ _ (m .0) (c .before .before .before .before .free .ensures) (c .before .before .store .ensures) (m .1)
+    free-done _ _ _ _ _ _ _ (a .pre .0) (a .pre .1) _ _ _ _ (m .0) (c .before .before .before .before .free .ensures) (c .before .before .store .ensures) (m .1)
 
 pub free-record-spec : {M : Type 1} → statement M
 free-record-spec =

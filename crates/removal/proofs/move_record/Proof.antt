@@ -1,5 +1,5 @@
-use mathlib.Core.Path.{_∙_}
-use Prim.Native.Nat.{_+_, _-_, _≤_}
+use mathlib.Core.Path.{ap, sym, _∙_}
+use Prim.Native.Nat.{ℕ, _+_, _-_, _*_, _≤_}
 use native.Mathlib.Omega.{arith}
 use lib.Count.{ones}
 use lib.ListN.{length}
@@ -9,11 +9,11 @@ use Rattle.kept.proofs.Done.{Ready, ready, start-room, move-done}
 use Rattle.removal.proofs.move_record.Statement.{statement}
 use Rattle.removal.proofs.move_record.Tie as tie
 
-start-ready : (c : tie.Start) → Ready (length (c .args .occupied .now)) (c .args .old) (c .args .going)
-start-ready c = ready _ _ _ _ _ _ (c .pre .0) (c .pre .1 .0)
+start-ready : (c : tie.Start) → Ready (length (c .args .occupied .now)) (c .args .m .blocks) (c .args .old) (c .args .going)
+start-ready c = ready _ _ _ _ _ _ _ (c .pre .0) (c .pre .1 .0)
 
 room : (c : tie.Start) → c .args .start .0 + ones (c .args .old .held - c .args .going) ≤ length (c .args .occupied .now)
-room c = start-room _ _ _ _ _ _ (c .pre .0) (c .pre .1 .0) _ (c .pre .1 .1)
+room c = start-room _ _ _ _ _ _ _ (c .pre .0) (c .pre .1 .0) _ (c .pre .1 .1)
 
 sub-keep : tie.Need-sub-keep
 sub-keep c = start-ready (c .before .before .before .before .before) .within
@@ -21,24 +21,26 @@ sub-keep c = start-ready (c .before .before .before .before .before) .within
 copy-marked-requires : tie.Need-copy-marked-requires
 copy-marked-requires c κs = let a = c .before .before .before .before .before .before .before in
     let y = start-ready a in
-    (omega (arith, y .small), room a, y .cells, a .pre .0 .bytes, a .pre .0 .few)
+    (omega (arith, y .small), room a, y .cells, a .pre .0 .measured .mostBytes, a .pre .0 .bytes, a .pre .0 .few)
 
 clear-marked-requires : tie.Need-clear-marked-requires
 clear-marked-requires c κs = let a = c .before .before .before .before .before .before .before .before .before .before .before .before .before .before in
     let y = start-ready a in
     let k = c .before .before .before .before .before .before .copy-marked .kept in
-    (y .small, (λ j. omega (arith, y .cells j, k .1)), omega (arith, k .0, k .1, a .pre .0 .bytes), omega (arith, k .1, a .pre .0 .few))
+    (y .small, (λ j. omega (arith, y .cells j, k .1)), a .pre .0 .measured .mostBytes, k .0 ∙ a .pre .0 .bytes ∙ ap (λ (i : ℕ). i * a .args .m .bytes) (sym (k .1 .0)), omega (arith, k .1, a .pre .0 .few))
 
 strike-all-requires : tie.Need-strike-all-requires
 strike-all-requires c κs = let y = start-ready (c .before .before .before .before .before .before .before .before .before .before .before .before .before .before .before .before .before .before .before) in (y .formed, y .gone)
 
 renumber-requires : tie.Need-renumber-requires
 renumber-requires c κs = let a = c .before .before .before .before .before .before .before .before .before .before .before .before .before .before .before .before .before .before .before .before in
-    (struck-formed _ _ (start-ready a .formed) (c .strike-all .ensures), (struck-clean _ _ (c .strike-all .ensures), omega (arith, room a, a .pre .0 .few)))
+    (struck-formed _ _ (start-ready a .formed) (c .strike-all .ensures) .0, (struck-clean _ _ (start-ready a .formed) (c .strike-all .ensures), omega (arith, room a, a .pre .0 .few)))
 
 store-requires : tie.Need-store-requires
 store-requires c κs = let a = c .before .before .before .before .before .before .before .before .before .before .before .before .before .before .before .before .before .before .before .before .before .before in
-    (moved-formed _ _ (struck-formed _ _ (start-ready a .formed) (c .before .before .strike-all .ensures)) _ (c .before .renumber .ensures), omega (arith, a .pre .1 .0 .room))
+    let f = struck-formed _ _ (start-ready a .formed) (c .before .before .strike-all .ensures) in
+    let g = moved-formed _ _ (f .0) _ (c .before .renumber .ensures) in
+    ((g .0, g .1 ∙ f .1 ∙ start-ready a .count), omega (arith, a .pre .1 .0 .room))
 
 same-length : tie.Need-same-length
 same-length c = search needs
@@ -53,7 +55,7 @@ returns : tie.Need-returns
 returns c = let a = c .before .before .before .before .before .before .before .before .before .before .before .before .before .before .before .before .before .before .before .before .before .before .before .before .before in
     let m = c .before .before .before .before .before .before .before .before .before .before .clear-marked .ensures in
     let n = c .before .before .before .before .before .before .before .before .before .before .before .before .before .before .before .before .before .copy-marked .ensures in
-    move-done _ _ _ _ _ _ (a .pre .0) (a .pre .1 .0) _ (a .pre .1 .1) _ _ _ _ _ (m .0 ∙ rw (n .0)) (c .before .before .before .before .before .strike-all .ensures) (c .before .before .before .before .renumber .ensures) (c .before .before .store .ensures) (m .1 ∙ rw (n .1))
+    move-done _ _ _ _ _ _ _ (a .pre .0) (a .pre .1 .0) _ (a .pre .1 .1) _ _ _ _ _ (m .0 ∙ rw (n .0)) (c .before .before .before .before .before .strike-all .ensures) (c .before .before .before .before .renumber .ensures) (c .before .before .store .ensures) (m .1 ∙ rw (n .1))
 
 pub move-record-spec : {M : Type 1} → statement M
 move-record-spec =

@@ -1,12 +1,15 @@
-use mathlib.Core.Path.{sym, _∙_}
+use mathlib.Core.Path.{_≡_, ap, sym, _∙_}
+use Prim.Native.Nat.{ℕ, _*_, _≤_}
+use native.Mathlib.Nat.{mul-le-mul}
 use native.Mathlib.Omega.{arith}
 use borrow.Author.Needs.{needs}
+use Rattle.kept.specs.Ways.{heldAt}
 use Rattle.kept.proofs.Sweeps.{recoded, removed-none, removed-all, removed-few, removed-many}
 use Rattle.removal.proofs.remove_from.Statement.{statement}
 use Rattle.removal.proofs.remove_from.Tie as tie
 
 returns : tie.Need-returns
-returns c = let a = c .before .before .before .before in recoded (removed-none _ _ _ (sym (a .pre .1 .1 .0) ∙ c .if1 .taken)) (a .pre .0 .coded)
+returns c = let a = c .before .before .before .before in recoded (removed-none _ _ _ _ (sym (a .pre .1 .1 .0) ∙ c .if1 .taken)) (a .pre .0 .coded)
 
 free-record-requires : tie.Need-free-record-requires
 free-record-requires c κs = let a = c .before .before .before .before .before .before .before .before in (a .pre .0, a .pre .1 .0)
@@ -22,16 +25,18 @@ same-length-3 c = c .before .before .before .before .before .before .free-record
 
 returns-2 : tie.Need-returns-2
 returns-2 c = let v = c .before .before .before .before .before .before .before .before .before .before .before .before .before .before .before .pre .1 .1 in
-    recoded (removed-all _ _ _ (λ e. c .before .before .before .before .before .before .before .before .before .before .before .if1 .left (v .0 ∙ e)) (sym (v .0) ∙ c .before .before .before .before .before .before .before .before .before .before .if2 .taken ∙ v .1)) (c .before .before .before .before .before .before .free-record .ensures)
+    recoded (removed-all _ _ _ _ (λ e. c .before .before .before .before .before .before .before .before .before .before .before .if1 .left (v .0 ∙ e)) (sym (v .0) ∙ c .before .before .before .before .before .before .before .before .before .before .if2 .taken ∙ v .1)) (c .before .before .before .before .before .before .free-record .ensures)
 
 mul-if3 : tie.Need-mul-if3
 mul-if3 c = search needs
 
 mul-if3-2 : tie.Need-mul-if3-2
-mul-if3-2 c = search needs
+mul-if3-2 c = let a = c .before .before .before .before .before .before in
+    let p : a .args .m .percent * a .args .s ≤ 1600 = mul-le-mul (a .pre .0 .measured .mostPercent) (a .pre .1 .1 .3) in
+    omega (arith, p)
 
 strike-record-requires : tie.Need-strike-record-requires
-strike-record-requires c κs = let a = c .before .before .before .before .before .before .before .before .before in (a .pre .0, a .pre .1 .0)
+strike-record-requires c κs = let a = c .before .before .before .before .before .before .before .before .before .before in (a .pre .0, a .pre .1 .0)
 
 same-length-4 : tie.Need-same-length-4
 same-length-4 c = c .before .before .before .before .before .before .strike-record .kept .0
@@ -43,14 +48,16 @@ same-length-6 : tie.Need-same-length-6
 same-length-6 c = c .before .before .before .before .before .before .strike-record .kept .1 .1 .0
 
 returns-3 : tie.Need-returns-3
-returns-3 c = let v = c .before .before .before .before .before .before .before .before .before .before .before .before .before .before .before .before .pre .1 .1 in
-    recoded (removed-few _ _ _ (λ e. c .before .before .before .before .before .before .before .before .before .before .before .before .if1 .left (v .0 ∙ e)) (λ e. c .before .before .before .before .before .before .before .before .before .before .before .if2 .left (v .0 ∙ e ∙ sym (v .1))) (omega (arith, v .0, v .1, c .before .before .before .before .before .before .before .before .before .before .if3 .taken)))
+returns-3 c = let a = c .before .before .before .before .before .before .before .before .before .before .before .before .before .before .before .before .before in
+    let v = a .pre .1 .1 in
+    let p : a .args .m .percent * a .args .s ≡ a .args .m .percent * heldAt (a .args .m .blocks) (a .args .words .now) (a .args .number .0) = ap (λ (i : ℕ). a .args .m .percent * i) (v .1) in
+    recoded (removed-few _ _ _ _ (λ e. c .before .before .before .before .before .before .before .before .before .before .before .before .before .if1 .left (v .0 ∙ e)) (λ e. c .before .before .before .before .before .before .before .before .before .before .before .before .if2 .left (v .0 ∙ e ∙ sym (v .1))) (omega (arith, v .0, p, c .before .before .before .before .before .before .before .before .before .before .if3 .taken)))
     (c .before .before .before .before .before .before .strike-record .ensures)
 
 compact-record-requires : tie.Need-compact-record-requires
-compact-record-requires c κs = let a = c .before .before .before .before .before .before .before .before .before in
+compact-record-requires c κs = let a = c .before .before .before .before .before .before .before .before .before .before in
     let v = a .pre .1 .1 in
-    (a .pre .0, (a .pre .1 .0, omega (arith, v .0, v .1, v .2, c .before .before .before .before .if2 .left)))
+    (a .pre .0, (a .pre .1 .0, omega (arith, v .0, v .1, v .2, c .before .before .before .before .before .if2 .left)))
 
 same-length-7 : tie.Need-same-length-7
 same-length-7 c = c .before .before .before .before .before .before .compact-record .kept .0
@@ -62,8 +69,10 @@ same-length-9 : tie.Need-same-length-9
 same-length-9 c = c .before .before .before .before .before .before .compact-record .kept .1 .1 .0
 
 returns-4 : tie.Need-returns-4
-returns-4 c = let v = c .before .before .before .before .before .before .before .before .before .before .before .before .before .before .before .before .pre .1 .1 in
-    recoded (removed-many _ _ _ (λ e. c .before .before .before .before .before .before .before .before .before .before .before .before .if1 .left (v .0 ∙ e)) (λ e. c .before .before .before .before .before .before .before .before .before .before .before .if2 .left (v .0 ∙ e ∙ sym (v .1))) (omega (arith, v .0, v .1, c .before .before .before .before .before .before .before .before .before .before .if3 .left)))
+returns-4 c = let a = c .before .before .before .before .before .before .before .before .before .before .before .before .before .before .before .before .before in
+    let v = a .pre .1 .1 in
+    let p : a .args .m .percent * a .args .s ≡ a .args .m .percent * heldAt (a .args .m .blocks) (a .args .words .now) (a .args .number .0) = ap (λ (i : ℕ). a .args .m .percent * i) (v .1) in
+    recoded (removed-many _ _ _ _ (λ e. c .before .before .before .before .before .before .before .before .before .before .before .before .before .if1 .left (v .0 ∙ e)) (λ e. c .before .before .before .before .before .before .before .before .before .before .before .before .if2 .left (v .0 ∙ e ∙ sym (v .1))) (omega (arith, v .0, p, c .before .before .before .before .before .before .before .before .before .before .if3 .left)))
     (c .before .before .before .before .before .before .compact-record .ensures)
 
 pub remove-from-spec : {M : Type 1} → statement M

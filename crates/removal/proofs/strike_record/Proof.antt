@@ -1,3 +1,4 @@
+use mathlib.Core.Path.{_∙_}
 use native.Mathlib.Omega.{arith}
 use lib.ListN.{length}
 use borrow.Author.Needs.{needs}
@@ -6,19 +7,22 @@ use Rattle.kept.proofs.Done.{Ready, ready, strike-done}
 use Rattle.removal.proofs.strike_record.Statement.{statement}
 use Rattle.removal.proofs.strike_record.Tie as tie
 
-start-ready : (c : tie.Start) → Ready (length (c .args .occupied .now)) (c .args .old) (c .args .going)
-start-ready c = ready _ _ _ _ _ _ (c .pre .0) (c .pre .1)
+start-ready : (c : tie.Start) → Ready (length (c .args .occupied .now)) (c .args .m .blocks) (c .args .old) (c .args .going)
+start-ready c = ready _ _ _ _ _ _ _ (c .pre .0) (c .pre .1)
 
 clear-marked-requires : tie.Need-clear-marked-requires
 clear-marked-requires c κs = let a = c .before .before .before .before .before .before in
     let y = start-ready a in
-    (y .few, y .cells, a .pre .0 .bytes, a .pre .0 .few)
+    (y .few, y .cells, a .pre .0 .measured .mostBytes, a .pre .0 .bytes, a .pre .0 .few)
 
 strike-all-requires : tie.Need-strike-all-requires
 strike-all-requires c κs = let y = start-ready (c .before .before .before .before .before .before .before .before .before .before .before) in (y .formed, y .gone)
 
 store-requires : tie.Need-store-requires
-store-requires c κs = (struck-formed _ _ (start-ready (c .before .before .before .before .before .before .before .before .before .before .before .before .before) .formed) (c .before .strike-all .ensures), omega (arith, c .before .before .before .before .before .before .before .before .before .before .before .before .before .pre .1 .room))
+store-requires c κs = let a = c .before .before .before .before .before .before .before .before .before .before .before .before .before in
+    let y = start-ready a in
+    let f = struck-formed _ _ (y .formed) (c .before .strike-all .ensures) in
+    ((f .0, f .1 ∙ y .count), omega (arith, a .pre .1 .room))
 
 same-length : tie.Need-same-length
 same-length c = search needs
@@ -32,7 +36,7 @@ same-length-3 c = search needs
 returns : tie.Need-returns
 returns c = let a = c .before .before .before .before .before .before .before .before .before .before .before .before .before .before .before .before in
     let m = c .before .before .before .before .before .before .before .before .before .clear-marked .ensures in
-    strike-done _ _ _ _ _ _ (a .pre .0) (a .pre .1) _ _ _ _ (m .0) (c .before .before .before .before .strike-all .ensures) (c .before .before .store .ensures) (m .1)
+    strike-done _ _ _ _ _ _ _ (a .pre .0) (a .pre .1) _ _ _ _ (m .0) (c .before .before .before .before .strike-all .ensures) (c .before .before .store .ensures) (m .1)
 
 pub strike-record-spec : {M : Type 1} → statement M
 strike-record-spec =

@@ -1,4 +1,5 @@
 use mathlib.Core.Path.{sym}
+use Prim.Native.Nat.{_≤_}
 use native.Mathlib.Omega.{arith}
 use Rattle.shelf.proofs.Read.{room-at}
 use Rattle.kept.specs.Kept.{Loaded}
@@ -6,23 +7,27 @@ use Rattle.kept.proofs.Sweeps.{recoded, records-told, loaded-formed, loaded, go
 use Rattle.removal.proofs.sweep_record.Statement.{statement}
 use Rattle.removal.proofs.sweep_record.Tie as tie
 
+few : (c : tie.Start) → c .args .m .blocks ≤ 16
+few c = c .pre .0 .measured .mostBlocks
+
 load-requires : tie.Need-load-requires
-load-requires c κs = let a = c .before .before .before .before in room-at _ _ (records-told (a .pre .0)) _ (a .pre .1)
+load-requires c κs = let a = c .before .before .before .before in (few a, room-at _ _ _ (records-told (a .pre .0)) _ (a .pre .1))
 
 going-requires : tie.Need-going-requires
-going-requires c κs = let a = c .before .before .before .before .before in loaded-formed _ (records-told (a .pre .0)) _ (a .pre .1) _ (c .load .ensures)
+going-requires c κs = let a = c .before .before .before .before .before in loaded-formed _ (few a) _ (records-told (a .pre .0)) _ (a .pre .1) _ (c .load .ensures)
 
 size-requires : tie.Need-size-requires
-size-requires c κs = let a = c .before .before .before .before .before .before in loaded-formed _ (records-told (a .pre .0)) _ (a .pre .1) _ (c .before .load .ensures)
+size-requires c κs = let a = c .before .before .before .before .before .before in loaded-formed _ (few a) _ (records-told (a .pre .0)) _ (a .pre .1) _ (c .before .load .ensures)
 
 remove-from-requires : tie.Need-remove-from-requires
 remove-from-requires c κs = let a = c .before .before .before .before .before .before .before .before .before .before in
+    let b = a .args .m .blocks in
     let d = records-told (a .pre .0) in
-    let l : Loaded (a .args .words .now) (a .args .number .0) (c .before .before .before .before .before .load .result) (c .before .before .before .before .going .result) = loaded _ d _ (a .pre .1) _ (c .before .before .before .before .before .load .ensures) _ (c .before .before .before .before .going .ensures) in
-    let g = going-ones _ _ _ _ l in
-    let h = held-count _ _ _ _ _ l (c .before .before .before .size .ensures) in
-    let n = going-within (a .args .words .now) (a .args .number .0) in
-    let m = held-most _ d _ (a .pre .1) in
+    let l : Loaded b (a .args .words .now) (a .args .number .0) (c .before .before .before .before .before .load .result) (c .before .before .before .before .going .result) = loaded _ (few a) _ d _ (a .pre .1) _ (c .before .before .before .before .before .load .ensures) _ (c .before .before .before .before .going .ensures) in
+    let g = going-ones _ _ _ _ _ l in
+    let h = held-count _ (few a) _ d _ (a .pre .1) _ _ _ l (c .before .before .before .size .ensures) in
+    let n = going-within b (a .args .words .now) (a .args .number .0) in
+    let m = held-most _ (few a) _ d _ (a .pre .1) in
     (a .pre .0, (l, (g, h, omega (arith, g, h, n), omega (arith, h, m))))
 
 same-length : tie.Need-same-length
@@ -35,7 +40,7 @@ same-length-3 : tie.Need-same-length-3
 same-length-3 c = c .before .before .before .before .before .before .remove-from .kept .1 .1 .0
 
 returns : tie.Need-returns
-returns c = recoded (sym (removed-is _ _ _)) (c .before .before .before .before .before .before .remove-from .ensures)
+returns c = recoded (sym (removed-is _ _ _ _)) (c .before .before .before .before .before .before .remove-from .ensures)
 
 pub sweep-record-spec : {M : Type 1} → statement M
 sweep-record-spec =

@@ -16,7 +16,7 @@ shared-slice-read-length c = search needs
 
 -- src/lib.rt:36:23
 cast-if1 : tie.Need-cast-if1
-cast-if1 c = let p = c .before .before .before .before .before .pre in record { fits = first-fits _ _ _ (p .blocks) (p .traceable .fits 0) (p .traceable .small) }
+cast-if1 c = let p = c .before .before .before .before .before .pre in record { fits = first-fits _ _ _ _ (p .stored .measured) (p .blocks) (p .traceable .fits 0) (p .traceable .small) }
 
 -- src/lib.rt:37:9
 refused-requires : tie.Need-refused-requires
@@ -24,7 +24,7 @@ refused-requires c κs = search needs
 
 -- src/lib.rt:37:9
 returns : tie.Need-returns
-returns c = rw (c .refused .ensures) (too-short _ _ _ _ _ (c .before .before .before .before .before .before .before .pre .traceable .some) (c .before .if1 .taken))
+returns c = rw (c .refused .ensures) (too-short _ _ _ _ _ _ (c .before .before .before .before .before .before .before .pre .traceable .some) (c .before .if1 .taken))
 
 -- src/lib.rt:39:9
 restore-image-requires : tie.Need-restore-image-requires
@@ -36,7 +36,7 @@ same-length c = search needs
 
 -- src/lib.rt:31:1
 returns-2 : tie.Need-returns-2
-returns-2 c = restored _ _ _ _ _ (c .before .before .before .before .before .before .before .before .before .before .pre .traceable .some) _ _ (omega (arith, c .before .before .before .before .if1 .left)) (c .before .before .restore-image .ensures .1) (c .before .before .restore-image .ensures .0)
+returns-2 c = restored _ _ _ _ _ _ (c .before .before .before .before .before .before .before .before .before .before .pre .traceable .some) _ _ (omega (arith, c .before .before .before .before .if1 .left)) (c .before .before .restore-image .ensures .1) (c .before .before .restore-image .ensures .0)
 
 pub restore-slots-spec : {M : Type 1} → statement M
 restore-slots-spec =

@@ -4,6 +4,7 @@ use mathlib.Core.List.{[]}
 use mathlib.Core.Path.{sym, _∙_, ap, ap₂}
 use native.Mathlib.Omega.{arith}
 use borrow.Author.Needs.{needs}
+use Rattle.layout.proofs.measures_in.Reads as measures-in-reads
 use Rattle.restore.proofs.restore_version.Statement.{statement}
 use Rattle.restore.proofs.restore_version.Tie as tie
 use Rattle.restore.proofs.restore_version.Reads as reads
@@ -56,9 +57,12 @@ returns-3 c = rw (c .refused3 .ensures) (too-new (c .before .before .before .bef
 cast-j : tie.Need-cast-j
 cast-j c = search needs
 
+measures-in-requires : tie.Need-measures-in-requires
+measures-in-requires c κs = header (c .before .before .before .before .before .before .before .before .before .before .pre) .eight
+
 -- src/lib.rt:79:5
 restore-held-requires : tie.Need-restore-held-requires
-restore-held-requires c κs = let (a, b) = bounded (c .before .before .before .before .before .before .before .before .before .before .before .pre) _ 0 [] (omega (arith, c .before .before .before .before .before .before .if1 .left)) _ (c .before .before .before .before .before .till-head .ensures) in (c .before .before .before .before .before .before .before .before .before .before .before .pre, omega (arith, c .before .before .before .before .before .before .if1 .left), c .before .before .before .before .before .till-head .ensures, omega (arith, c .before .before .if2 .left, c .before .if3 .left, a))
+restore-held-requires c κs = let (a, b) = bounded (c .before .before .before .before .before .before .before .before .before .before .before .before .pre) _ 0 [] (omega (arith, c .before .before .before .before .before .before .before .if1 .left)) _ (c .before .before .before .before .before .before .till-head .ensures) in (c .before .before .before .before .before .before .before .before .before .before .before .before .pre, omega (arith, c .before .before .before .before .before .before .before .if1 .left), c .before .before .before .before .before .before .till-head .ensures, omega (arith, c .before .before .before .if2 .left, c .before .before .if3 .left, a), c .before .measures-in .ensures)
 
 -- src/lib.rt:62:1
 same-length : tie.Need-same-length
@@ -66,7 +70,7 @@ same-length c = search needs
 
 -- src/lib.rt:62:1
 returns-4 : tie.Need-returns-4
-returns-4 c = c .before .before .restore-held .ensures ∙ held-at (c .before .before .before .before .before .before .before .before .before .before .before .before .before .before .pre) _ _ _ (omega (arith, c .before .before .before .before .before .before .before .before .before .if1 .left)) _ (c .before .before .before .before .before .before .before .before .till-head .ensures) (omega (arith, c .before .before .before .before .before .if2 .left)) (omega (arith, c .before .before .before .before .if3 .left))
+returns-4 c = c .before .before .restore-held .ensures ∙ held-at (c .before .before .before .before .before .before .before .before .before .before .before .before .before .before .before .pre) _ _ _ (omega (arith, c .before .before .before .before .before .before .before .before .before .before .if1 .left)) _ (c .before .before .before .before .before .before .before .before .before .till-head .ensures) (omega (arith, c .before .before .before .before .before .before .if2 .left)) (omega (arith, c .before .before .before .before .before .if3 .left))
 
 pub restore-version-spec : {M : Type 1} → statement M
 restore-version-spec =
@@ -83,6 +87,7 @@ restore-version-spec =
     refused-requires-3
     returns-3
     cast-j
+    measures-in-requires
     restore-held-requires
     same-length
     returns-4)

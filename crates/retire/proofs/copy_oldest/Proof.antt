@@ -1,68 +1,74 @@
-use Rattle.retire.proofs.Cases.{room, copy-room, copied}
 use native.Mathlib.Omega.{arith}
+use mathlib.Core.Path.{_≡_, ap, _∙_}
+use Rattle.laws.proofs.Stores.{header}
+use Rattle.retire.proofs.Cases.{by-bytes, room, copy-in-table, copy-room, copied}
 use borrow.Author.Needs.{needs}
 use Rattle.retire.proofs.copy_oldest.Statement.{statement}
 use Rattle.retire.proofs.copy_oldest.Tie as tie
+use Rattle.retire.proofs.copy_oldest.Reads as reads
+use Rattle.retire.proofs.copy_oldest.Lts as lts
+use Rattle.numbers.proofs.parts_for.Reads as parts-for-reads
+use Rattle.words.proofs.copy_in.Reads as copy-in-reads
 
--- src/lib.rt:26:24
+-- src/lib.rt:37:24
 add-length : tie.Need-add-length
-add-length c = let (p, q, r, s) = room (c .before .before .before .pre .0) in omega (arith, p, q, r, s)
+add-length c = omega (arith, room (c .before .before .before .pre .0))
 
--- src/lib.rt:26:18
+-- src/lib.rt:37:18
 mul-length : tie.Need-mul-length
-mul-length c = let (p, q, r, s) = room (c .before .before .before .pre .0) in omega (arith, p, q, r, s)
+mul-length c = omega (arith, room (c .before .before .before .pre .0))
 
--- src/lib.rt:26:18
+-- src/lib.rt:37:18
 shared-slice-read-length : tie.Need-shared-slice-read-length
-shared-slice-read-length c = let (p, q, r, s) = room (c .before .before .before .before .pre .0) in omega (arith, p, q, r, s)
+shared-slice-read-length c = omega (arith, room (c .before .before .before .before .pre .0))
 
--- src/lib.rt:27:18
-cast-count : tie.Need-cast-count
-cast-count c = let (p, q, r, s) = room (c .before .before .before .before .pre .0) in omega (arith, p, q, r, s)
+-- src/lib.rt:38:43
+cast-parts-for : tie.Need-cast-parts-for
+cast-parts-for c = omega (arith, room (c .before .before .before .before .pre .0) .2)
 
--- src/lib.rt:27:18
-add-count : tie.Need-add-count
-add-count c = let (p, q, r, s) = room (c .before .before .before .before .pre .0) in omega (arith, p, q, r, s)
+-- src/lib.rt:38:9
+parts-for-requires : tie.Need-parts-for-requires
+parts-for-requires c κs = let d = header (c .before .before .before .before .pre .0 .sound) .measured in (omega (arith, c .before .before .before .before .pre .2, d .someBytes), omega (arith, c .before .before .before .before .pre .2, d .mostBytes), omega (arith, room (c .before .before .before .before .pre .0) .2))
 
--- src/lib.rt:28:27
+-- src/lib.rt:39:27
 add-copy-in : tie.Need-add-copy-in
-add-copy-in c = let (p, q, r, s) = room (c .before .before .before .before .pre .0) in omega (arith, p, q, r, s)
+add-copy-in c = omega (arith, room (c .before .before .before .before .before .pre .0))
 
--- src/lib.rt:28:35
+-- src/lib.rt:39:35
 add-copy-in-2 : tie.Need-add-copy-in-2
-add-copy-in-2 c = let (p, q, r, s) = room (c .before .before .before .before .pre .0) in omega (arith, p, q, r, s)
+add-copy-in-2 c = omega (arith, room (c .before .before .before .before .before .pre .0))
 
--- src/lib.rt:28:35
+-- src/lib.rt:39:35
 add-copy-in-3 : tie.Need-add-copy-in-3
-add-copy-in-3 c = let (p, q, r, s) = room (c .before .before .before .before .pre .0) in omega (arith, p, q, r, s)
+add-copy-in-3 c = omega (arith, room (c .before .before .before .before .before .pre .0), copy-in-table (c .before .before .before .before .before .pre .0) _ (by-bytes _ _ _ _ (c .before .before .before .before .before .pre .2) (c .parts-for .ensures)))
 
--- src/lib.rt:28:20
+-- src/lib.rt:39:20
 mul-copy-in : tie.Need-mul-copy-in
-mul-copy-in c = let (p, q, r, s) = room (c .before .before .before .before .pre .0) in omega (arith, p, q, r, s)
+mul-copy-in c = omega (arith, room (c .before .before .before .before .before .pre .0))
 
--- src/lib.rt:28:20
+-- src/lib.rt:39:20
 sub-copy-in : tie.Need-sub-copy-in
 sub-copy-in c = search needs
 
--- src/lib.rt:28:20
+-- src/lib.rt:39:20
 part-copy-in-start : tie.Need-part-copy-in-start
 part-copy-in-start c = search needs
 
--- src/lib.rt:28:20
+-- src/lib.rt:39:20
 part-copy-in-end : tie.Need-part-copy-in-end
-part-copy-in-end c = let (p, q, r, s) = room (c .before .before .before .before .pre .0) in omega (arith, p, q, r, s)
+part-copy-in-end c = copy-in-table (c .before .before .before .before .before .pre .0) _ (by-bytes _ _ _ _ (c .before .before .before .before .before .pre .2) (c .parts-for .ensures))
 
--- src/lib.rt:28:5
+-- src/lib.rt:39:5
 copy-in-requires : tie.Need-copy-in-requires
-copy-in-requires c κs = copy-room (c .before .before .before .before .before .before .pre .0) (c .before .before .before .before .before .before .args .pointers .now) (c .before .before .before .before .before .before .pre .1)
+copy-in-requires c κs = copy-room (c .before .before .before .before .before .before .before .pre .0) _ (by-bytes _ _ _ _ (c .before .before .before .before .before .before .before .pre .2) (c .before .before .parts-for .ensures)) (c .before .before .before .before .before .before .before .args .pointers .now) (c .before .before .before .before .before .before .before .pre .1)
 
--- src/lib.rt:22:1
+-- src/lib.rt:26:1
 same-length : tie.Need-same-length
 same-length c = search needs
 
--- src/lib.rt:22:1
+-- src/lib.rt:26:1
 returns : tie.Need-returns
-returns c = copied (c .before .before .before .before .before .before .before .before .before .pre .0) _ _ (c .before .before .before .before .before .before .before .before .before .pre .1) (c .before .before .copy-in .ensures)
+returns c = copied (c .before .before .before .before .before .before .before .before .before .before .pre .0) _ (by-bytes _ _ _ _ (c .before .before .before .before .before .before .before .before .before .before .pre .2) (c .before .before .before .before .before .parts-for .ensures)) _ _ (c .before .before .before .before .before .before .before .before .before .before .pre .1) (c .before .before .copy-in .ensures)
 
 pub copy-oldest-spec : {M : Type 1} → statement M
 copy-oldest-spec =
@@ -71,8 +77,8 @@ copy-oldest-spec =
     add-length
     mul-length
     shared-slice-read-length
-    cast-count
-    add-count
+    cast-parts-for
+    parts-for-requires
     add-copy-in
     add-copy-in-2
     add-copy-in-3

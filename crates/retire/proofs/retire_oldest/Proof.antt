@@ -8,7 +8,7 @@ slice-aggregate-retire-with : tie.Need-slice-aggregate-retire-with
 slice-aggregate-retire-with c = sym (zeros-long 1024)
 
 retire-with-requires : tie.Need-retire-with-requires
-retire-with-requires c κs = (c .before .before .before .before .before .pre, zeros-long 1024)
+retire-with-requires c κs = (c .before .before .before .before .before .pre .0, zeros-long 1024, c .before .before .before .before .before .pre .1)
 
 same-length : tie.Need-same-length
 same-length c = search needs

@@ -3,6 +3,7 @@ use Rattle.laws.proofs.Stores.{header}
 use Rattle.retire.proofs.Cases.{no-till, above, below, bounded, newer, holds, oldest}
 use native.Mathlib.Omega.{arith}
 use borrow.Author.Needs.{needs}
+use Rattle.layout.proofs.measures_in.Reads as measures-in-reads
 use Rattle.retire.proofs.retire_version.Statement.{statement}
 use Rattle.retire.proofs.retire_version.Tie as tie
 
@@ -67,8 +68,11 @@ returns-4 : tie.Need-returns-4
 returns-4 c = newer (c .before .before .before .before .before .before .before .before .before .before .before .before .before .before .before .pre) _ _ (omega (arith, c .before .before .before .before .before .before .before .before .before .before .before .if1 .left)) _ (c .before .before .before .before .before .before .before .before .till-head .ensures) (omega (arith, c .before .before .before .before .before .before .if2 .left)) (omega (arith, c .before .before .before .if3 .left)) (c .if4 .taken)
 
 -- src/lib.rt:89:9
+measures-in-requires : tie.Need-measures-in-requires
+measures-in-requires c κs = header (c .before .before .before .before .before .before .before .before .before .before .before .before .before .before .before .before .pre) .eight
+
 retire-oldest-requires : tie.Need-retire-oldest-requires
-retire-oldest-requires c κs = holds (c .before .before .before .before .before .before .before .before .before .before .before .before .before .before .before .before .before .pre) _ (c .before .before .before .before .before .before .before .before .before .before .before .before .before .before .before .before .before .args .version) (omega (arith, c .before .before .before .before .before .before .before .before .before .before .before .before .before .if1 .left)) _ (c .before .before .before .before .before .before .before .before .before .before .till-head .ensures) (omega (arith, c .before .before .before .before .before .before .before .before .if2 .left)) (omega (arith, c .before .before .before .before .before .if3 .left))
+retire-oldest-requires c κs = (holds (c .before .before .before .before .before .before .before .before .before .before .before .before .before .before .before .before .before .before .before .pre) _ (c .before .before .before .before .before .before .before .before .before .before .before .before .before .before .before .before .before .before .before .args .version) (omega (arith, c .before .before .before .before .before .before .before .before .before .before .before .before .before .before .before .if1 .left)) _ (c .before .before .before .before .before .before .before .before .before .before .before .before .till-head .ensures) (omega (arith, c .before .before .before .before .before .before .before .before .before .before .if2 .left)) (omega (arith, c .before .before .before .before .before .before .before .if3 .left)), c .before .before .measures-in .ensures)
 
 -- src/lib.rt:72:1
 same-length-7 : tie.Need-same-length-7
@@ -80,7 +84,7 @@ same-length-8 c = search needs
 
 -- src/lib.rt:72:1
 returns-5 : tie.Need-returns-5
-returns-5 c = c .before .before .before .before .retire-oldest .ensures ∙ sym (oldest (c .before .before .before .before .before .before .before .before .before .before .before .before .before .before .before .before .before .before .before .before .before .before .pre) _ _ (omega (arith, c .before .before .before .before .before .before .before .before .before .before .before .before .before .before .before .before .before .before .if1 .left)) _ (c .before .before .before .before .before .before .before .before .before .before .before .before .before .before .before .till-head .ensures) (omega (arith, c .before .before .before .before .before .before .before .if4 .left)) (omega (arith, c .before .before .before .before .before .before .before .before .before .before .before .before .before .if2 .left)))
+returns-5 c = c .before .before .before .before .retire-oldest .ensures ∙ sym (oldest (c .before .before .before .before .before .before .before .before .before .before .before .before .before .before .before .before .before .before .before .before .before .before .before .before .pre) _ _ (omega (arith, c .before .before .before .before .before .before .before .before .before .before .before .before .before .before .before .before .before .before .before .before .if1 .left)) _ (c .before .before .before .before .before .before .before .before .before .before .before .before .before .before .before .before .before .till-head .ensures) (omega (arith, c .before .before .before .before .before .before .before .before .before .if4 .left)) (omega (arith, c .before .before .before .before .before .before .before .before .before .before .before .before .before .before .before .if2 .left)))
 
 pub retire-version-spec : {M : Type 1} → statement M
 retire-version-spec =
@@ -101,6 +105,7 @@ retire-version-spec =
     same-length-5
     same-length-6
     returns-4
+    measures-in-requires
     retire-oldest-requires
     same-length-7
     same-length-8

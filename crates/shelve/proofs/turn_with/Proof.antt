@@ -1,3 +1,4 @@
+use Rattle.numbers.specs.Measures.{measuresOf}
 use denote.Ref.{now}
 use lib.Seq.{length-take-le}
 use lib.ListN.{length}
@@ -22,7 +23,7 @@ slice-aggregate-turn-pointers c = sym (length-take-le (length (now (c .before .b
 
 -- src/lib.rt:26:9
 turn-pointers-requires : tie.Need-turn-pointers-requires
-turn-pointers-requires c κs = (c .before .before .before .before .before .before .before .before .before .before .before .pre .0 .short, c .before .before .before .before .before .before .before .before .before .before .before .pre .0 .placed, length-take-le (length (now (c .before .before .before .before .before .before .before .before .before .before .before .args .prev))) (now (c .before .before .before .before .before .before .before .before .before .before .before .args .targets)) (omega (arith, c .before .before .before .before .before .before .before .before .before .before .before .pre .0 .pointers .few, c .before .before .before .before .before .before .before .before .before .before .before .pre .1)), omega (arith, c .before .before .before .before .before .before .before .before .before .before .before .pre .0 .pointers .few, c .before .before .before .before .before .before .before .before .before .before .before .pre .2), prev-fits _ _ (c .before .before .before .before .before .before .before .before .before .before .before .pre .0 .pointers))
+turn-pointers-requires c κs = (c .before .before .before .before .before .before .before .before .before .before .before .pre .0 .short, c .before .before .before .before .before .before .before .before .before .before .before .pre .0 .stored, length-take-le (length (now (c .before .before .before .before .before .before .before .before .before .before .before .args .prev))) (now (c .before .before .before .before .before .before .before .before .before .before .before .args .targets)) (omega (arith, c .before .before .before .before .before .before .before .before .before .before .before .pre .0 .pointers .few, c .before .before .before .before .before .before .before .before .before .before .before .pre .1)), omega (arith, c .before .before .before .before .before .before .before .before .before .before .before .pre .0 .pointers .few, c .before .before .before .before .before .before .before .before .before .before .before .pre .2), prev-fits _ _ _ (c .before .before .before .before .before .before .before .before .before .before .before .pre .0 .pointers))
 
 -- src/lib.rt:27:34
 slice-reshare-prefix-let-go : tie.Need-slice-reshare-prefix-let-go
@@ -34,7 +35,7 @@ slice-aggregate-let-go c = sym (length-take-le _ _ (omega (arith, c .before .bef
 
 -- src/lib.rt:27:5
 let-go-requires : tie.Need-let-go-requires
-let-go-requires c κs = (c .before .before .before .before .before .before .before .before .before .before .before .before .before .before .before .before .before .before .before .before .before .pre .0 .stored, turned-lead (now (c .before .before .before .before .before .before .before .before .before .before .before .before .before .before .before .before .before .before .before .before .before .args .image)) (now (c .before .before .before .before .before .before .before .before .before .before .before .before .before .before .before .before .before .before .before .before .before .args .pool)) (now (c .before .before .before .before .before .before .before .before .before .before .before .before .before .before .before .before .before .before .before .before .before .args .records)) (now (c .before .before .before .before .before .before .before .before .before .before .before .before .before .before .before .before .before .before .before .before .before .args .prev)) (c .before .before .before .before .before .before .before .before .before .before .before .before .before .before .before .before .before .before .before .before .before .pre .0) _ (c .before .before .before .before .before .before .before .before .before .turn-pointers .ensures .1))
+let-go-requires c κs = (c .before .before .before .before .before .before .before .before .before .before .before .before .before .before .before .before .before .before .before .before .before .pre .0 .stored, turned-lead (measuresOf (c .before .before .before .before .before .before .before .before .before .before .before .before .before .before .before .before .before .before .before .before .before .args .m)) (now (c .before .before .before .before .before .before .before .before .before .before .before .before .before .before .before .before .before .before .before .before .before .args .image)) (now (c .before .before .before .before .before .before .before .before .before .before .before .before .before .before .before .before .before .before .before .before .before .args .pool)) (now (c .before .before .before .before .before .before .before .before .before .before .before .before .before .before .before .before .before .before .before .before .before .args .records)) (now (c .before .before .before .before .before .before .before .before .before .before .before .before .before .before .before .before .before .before .before .before .before .args .prev)) (c .before .before .before .before .before .before .before .before .before .before .before .before .before .before .before .before .before .before .before .before .before .pre .0) _ (c .before .before .before .before .before .before .before .before .before .turn-pointers .ensures .1))
 
 -- src/lib.rt:14:1
 same-length : tie.Need-same-length
@@ -58,7 +59,7 @@ same-length-5 c = search needs
 
 -- src/lib.rt:14:1
 returns : tie.Need-returns
-returns c = turned-swept (now (c .before .before .before .before .before .before .before .before .before .before .before .before .before .before .before .before .before .before .before .before .before .before .before .before .before .before .args .image)) (now (c .before .before .before .before .before .before .before .before .before .before .before .before .before .before .before .before .before .before .before .before .before .before .before .before .before .before .args .pool)) (now (c .before .before .before .before .before .before .before .before .before .before .before .before .before .before .before .before .before .before .before .before .before .before .before .before .before .before .args .records)) (now (c .before .before .before .before .before .before .before .before .before .before .before .before .before .before .before .before .before .before .before .before .before .before .before .before .before .before .args .prev)) (c .before .before .before .before .before .before .before .before .before .before .before .before .before .before .before .before .before .before .before .before .before .before .before .before .before .before .pre .0) _ _ _ _ (c .before .before .before .before .before .before .before .before .before .before .before .before .before .before .turn-pointers .ensures .1) (c .before .before .before .before .let-go .ensures) (c .before .before .before .before .before .before .before .before .before .before .before .before .before .before .turn-pointers .ensures .0)
+returns c = turned-swept (measuresOf (c .before .before .before .before .before .before .before .before .before .before .before .before .before .before .before .before .before .before .before .before .before .before .before .before .before .before .args .m)) (now (c .before .before .before .before .before .before .before .before .before .before .before .before .before .before .before .before .before .before .before .before .before .before .before .before .before .before .args .image)) (now (c .before .before .before .before .before .before .before .before .before .before .before .before .before .before .before .before .before .before .before .before .before .before .before .before .before .before .args .pool)) (now (c .before .before .before .before .before .before .before .before .before .before .before .before .before .before .before .before .before .before .before .before .before .before .before .before .before .before .args .records)) (now (c .before .before .before .before .before .before .before .before .before .before .before .before .before .before .before .before .before .before .before .before .before .before .before .before .before .before .args .prev)) (c .before .before .before .before .before .before .before .before .before .before .before .before .before .before .before .before .before .before .before .before .before .before .before .before .before .before .pre .0) _ _ _ _ (c .before .before .before .before .before .before .before .before .before .before .before .before .before .before .turn-pointers .ensures .1) (c .before .before .before .before .let-go .ensures) (c .before .before .before .before .before .before .before .before .before .before .before .before .before .before .turn-pointers .ensures .0)
 
 pub turn-with-spec : {M : Type 1} → statement M
 turn-with-spec =

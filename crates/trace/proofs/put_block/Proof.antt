@@ -1,58 +1,76 @@
-use mathlib.Core.Path.{refl}
-use Prim.Native.Nat.{_/_, _<_}
 use native.Mathlib.Omega.{arith}
+use mathlib.Core.Path.{_≡_, refl, ap}
+use Prim.Native.Nat.{ℕ, _+_, _*_, _≤_}
 use lib.ListN.{length}
-use borrow.Author.Needs.{needs}
 use Rattle.shelf.proofs.Lowers.{fits-direct}
 use Rattle.shelf.proofs.Read.{stored-records}
-use Rattle.trace.proofs.Images.{cell-below, put-cell, put-zero}
+use Rattle.trace.proofs.Images.{cell-room, put-cell, put-zero}
+use borrow.Author.Needs.{needs}
 use Rattle.trace.proofs.put_block.Statement.{statement}
 use Rattle.trace.proofs.put_block.Tie as tie
+use Rattle.trace.proofs.put_block.Reads as reads
+use Rattle.trace.proofs.put_block.Lts as lts
+use Rattle.blocks.proofs.clear.Reads as clear-reads
+use Rattle.blocks.proofs.copy_in.Reads as copy-in-reads
+use Rattle.numbers.proofs.Cell.byte.Reads as byte-reads
+use Rattle.trace.proofs.cell_of.Reads as cell-of-reads
 
-below : (c : tie.After-cell-of) → c .cell-of .result .0 < length (c .before .before .before .before .before .args .pool .now) / 64
-below c =
+room : (c : tie.After-cell-of) → c .cell-of .result .0 * c .before .before .before .before .before .args .m .bytes + c .before .before .before .before .before .args .m .bytes ≤ length (c .before .before .before .before .before .args .pool .now)
+room c =
     let a = c .before .before .before .before .before in
-    let f = fits-direct _ _ (c .before .if1 .taken) (a .pre .1 .0) in
-    omega (arith, c .cell-of .ensures, cell-below _ _ (a .pre .0) _ _ (f .0) (f .1))
+    let f = fits-direct _ _ _ (c .before .if1 .taken) (a .pre .1 .0) in
+    omega (arith, ap (λ (i : ℕ). i * a .args .m .bytes) (c .cell-of .ensures), cell-room _ _ _ (a .pre .0) _ _ (f .0) (f .1))
 
+-- src/lib.rt:64:13
 cell-of-requires : tie.Need-cell-of-requires
 cell-of-requires c κs = let a = c .before .before .before .before in
-    let f = fits-direct _ _ (c .if1 .taken) (a .pre .1 .0) in
-    (stored-records (a .pre .0), (f .0, f .1, omega (arith, f .0, a .pre .0 .short)))
+    let f = fits-direct _ _ _ (c .if1 .taken) (a .pre .1 .0) in
+    ((a .pre .0 .measured .mostBlocks, stored-records _ (a .pre .0)), (f .0, f .1))
 
+-- src/lib.rt:65:13
 byte-requires : tie.Need-byte-requires
-byte-requires c κs = omega (arith, below c, c .before .before .before .before .before .pre .0 .few)
+byte-requires c κs = search needs
 
+-- src/lib.rt:66:19
 add-end : tie.Need-add-end
-add-end c = omega (arith, below (c .before), c .before .before .before .before .before .before .pre .0 .few, c .byte .ensures)
+add-end c = omega (arith, room (c .before), c .byte .ensures)
 
+-- src/lib.rt:67:25
 sub-copy-in : tie.Need-sub-copy-in
 sub-copy-in c = search needs
 
+-- src/lib.rt:67:25
 part-copy-in-start : tie.Need-part-copy-in-start
 part-copy-in-start c = search needs
 
+-- src/lib.rt:67:25
 part-copy-in-end : tie.Need-part-copy-in-end
-part-copy-in-end c = omega (arith, below (c .before), c .before .before .before .before .before .before .pre .0 .few, c .byte .ensures)
+part-copy-in-end c = omega (arith, room (c .before), c .byte .ensures)
 
+-- src/lib.rt:67:9
 copy-in-requires : tie.Need-copy-in-requires
 copy-in-requires c κs = search needs
 
+-- src/lib.rt:68:9
 same-length : tie.Need-same-length
 same-length c = search needs
 
+-- src/lib.rt:68:9
 returns : tie.Need-returns
 returns c = let a = c .before .before .before .before .before .before .before .before .before .before .before in
-    put-cell _ _ (a .pre .0) (a .args .pointer) _ _ _ (a .args .part .now) _ (c .before .before .before .before .before .before .before .if1 .taken) (a .pre .1 .0) refl (a .pre .1 .1) (c .before .before .before .before .before .before .cell-of .ensures) (c .before .before .before .before .before .byte .ensures) (c .before .before .copy-in .ensures)
+    put-cell _ _ _ (a .pre .0) (a .args .pointer) _ _ _ (a .args .part .now) _ (c .before .before .before .before .before .before .before .if1 .taken) (a .pre .1 .0) refl (a .pre .1 .1) (c .before .before .before .before .before .before .cell-of .ensures) (c .before .before .before .before .before .byte .ensures) (c .before .before .copy-in .ensures)
 
+-- src/lib.rt:70:5
 clear-requires : tie.Need-clear-requires
 clear-requires c κs = search needs
 
+-- src/lib.rt:57:1
 same-length-2 : tie.Need-same-length-2
 same-length-2 c = search needs
 
+-- src/lib.rt:57:1
 returns-2 : tie.Need-returns-2
-returns-2 c = let a = c .before .before .before .before .before .before .before .before in put-zero _ _ (a .pre .0) (a .args .pointer) (a .args .part .now) _ (c .before .before .before .before .if1 .left) (a .pre .1 .1) (c .before .before .clear .ensures)
+returns-2 c = let a = c .before .before .before .before .before .before .before .before in put-zero _ _ _ (a .pre .0) (a .args .pointer) (a .args .part .now) _ (c .before .before .before .before .if1 .left) (a .pre .1 .1) (c .before .before .clear .ensures)
 
 pub put-block-spec : {M : Type 1} → statement M
 put-block-spec =

@@ -7,31 +7,31 @@ use Rattle.trace.proofs.trace.Statement.{statement}
 use Rattle.trace.proofs.trace.Tie as tie
 
 abbrev Inv-loop : tie.InvT-loop
-Inv-loop slots b h v₀ n₀ w₀ v n w = Tracing b h slots n₀ v n w
+Inv-loop slots bytes b h v₀ n₀ w₀ v n w = Tracing bytes b h slots n₀ v n w
 
 abbrev μ-loop : tie.MeasureT-loop
-μ-loop slots b h v₀ n₀ w₀ v n w = h - v
+μ-loop slots bytes b h v₀ n₀ w₀ v n w = h - v
 
 next : (c : tie.In-loop Inv-loop μ-loop) → c .before .loop .v + 1 < c .before .before .before .args .h
-next c = next-inside _ _ _ (c .before .before .before .pre .0) _ _ _ _ (c .before .loop .inv) (c .loop-test .taken)
+next c = next-inside _ _ _ _ (c .before .before .before .pre .0) _ _ _ _ (c .before .loop .inv) (c .loop-test .taken)
 
 place : (c : tie.In-loop Inv-loop μ-loop) → (c .before .loop .v + 1) * (3 + c .before .before .before .args .b) + (3 + c .before .loop .w % 16777216) < length (c .before .before .before .args .slots .now)
-place c = place-inside _ _ _ (c .before .before .before .pre .0) _ _ (next c) (next-block _ _ _ (c .before .before .before .pre .0) _ _ _ _ (c .before .loop .inv) (c .loop-test .taken))
+place c = place-inside _ _ _ _ (c .before .before .before .pre .0) _ _ (next c) (next-block _ _ _ _ (c .before .before .before .pre .0) _ _ _ _ (c .before .loop .inv) (c .loop-test .taken))
 
 cast-w : tie.Need-cast-w Inv-loop μ-loop
 cast-w c = search needs
 
 add-w : tie.Need-add-w Inv-loop μ-loop
-add-w c = omega (arith, start-inside _ _ _ (c .pre .0) _ (c .pre .1))
+add-w c = omega (arith, start-inside _ _ _ _ (c .pre .0) _ (c .pre .1))
 
 mul-w : tie.Need-mul-w Inv-loop μ-loop
-mul-w c = omega (arith, start-inside _ _ _ (c .pre .0) _ (c .pre .1))
+mul-w c = omega (arith, start-inside _ _ _ _ (c .pre .0) _ (c .pre .1))
 
 shared-slice-read-w : tie.Need-shared-slice-read-w Inv-loop μ-loop
-shared-slice-read-w c = start-inside _ _ _ (c .before .pre .0) _ (c .before .pre .1)
+shared-slice-read-w c = start-inside _ _ _ _ (c .before .pre .0) _ (c .before .pre .1)
 
 loop-holds : tie.Need-loop-holds Inv-loop μ-loop
-loop-holds c = trace-start _ _ _ (c .before .pre .0) _ (c .before .pre .1)
+loop-holds c = trace-start _ _ _ _ (c .before .pre .0) _ (c .before .pre .1)
 
 add-v : tie.Need-add-v Inv-loop μ-loop
 add-v c = omega (arith, next c)
@@ -61,14 +61,14 @@ loop-less : tie.Need-loop-less Inv-loop μ-loop
 loop-less c = omega (arith, next (c .before))
 
 loop-again : tie.Need-loop-again Inv-loop μ-loop
-loop-again c = trace-next _ _ _ (c .before .before .before .before .pre .0) _ _ _ _ (c .before .before .loop .inv) (c .before .loop-test .taken)
+loop-again c = trace-next _ _ _ _ (c .before .before .before .before .pre .0) _ _ _ _ (c .before .before .loop .inv) (c .before .loop-test .taken)
 
-cast-t12 : tie.Need-cast-t12 Inv-loop μ-loop
-cast-t12 c = omega (arith, c .before .loop .inv .inside, c .before .before .before .pre .0 .few)
+cast-t13 : tie.Need-cast-t13 Inv-loop μ-loop
+cast-t13 c = omega (arith, c .before .loop .inv .inside, c .before .before .before .pre .0 .few)
 
 returns : tie.Need-returns Inv-loop μ-loop
 returns c = let l = c .before .loop in
-    record { ends = trace-ends _ _ _ (c .before .before .before .pre .0) _ _ _ _ (l .inv) (c .loop-test .left); hop = trace-hops _ _ _ (c .before .before .before .pre .0) _ _ _ _ (l .inv) (c .loop-test .left) }
+    record { ends = trace-ends _ _ _ _ (c .before .before .before .pre .0) _ _ _ _ (l .inv) (c .loop-test .left); hop = trace-hops _ _ _ _ (c .before .before .before .pre .0) _ _ _ _ (l .inv) (c .loop-test .left) }
 
 pub trace-spec : {M : Type 1} → statement M
 trace-spec =
@@ -91,5 +91,5 @@ trace-spec =
     shared-slice-read-w-2
     loop-less
     loop-again
-    cast-t12
+    cast-t13
     returns)

@@ -8,10 +8,10 @@ use Rattle.trial_compare.proofs.filled_cells.Lts as lts
 use Rattle.trial_compare.proofs.filled_at.Reads as filled-at-reads
 
 abbrev Inv-loop : tie.InvT-loop
-Inv-loop pool cells n₀ cell₀ n cell = (cell ≤ cells) × (n ≤ cell)
+Inv-loop pool cells bytes n₀ cell₀ n cell = (cell ≤ cells) × (n ≤ cell)
 
 abbrev μ-loop : tie.MeasureT-loop
-μ-loop pool cells n₀ cell₀ n cell = cells - cell
+μ-loop pool cells bytes n₀ cell₀ n cell = cells - cell
 
 -- src/lib.rt:120:5
 loop-holds : tie.Need-loop-holds Inv-loop μ-loop

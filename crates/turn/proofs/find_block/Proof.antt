@@ -1,56 +1,67 @@
-use mathlib.Core.Path.{_∙_, _≡_, refl, sym}
-use Prim.Native.Nat.{_*_, _+_, _-_, _/_, _≤_}
 use native.Mathlib.Omega.{arith}
-use lib.ListN.{length}
 use borrow.Author.Needs.{needs}
+use mathlib.Core.Path.{_≡_, _∙_, sym, refl, ap}
+use Prim.Native.Nat.{ℕ, _+_, _*_, _-_, _<_, _≤_}
+use native.Mathlib.Nat.{suc-mul}
 use denote.Ref.{now}
-use Rattle.lists.specs.Lists.{count, firstFrom, sameNumbers}
+use lib.ListN.{length}
+use Rattle.lists.specs.Lists.{firstFrom, sameNumbers}
 use Rattle.model.specs.Image.{blocksFrom, imageBlocks}
-use Rattle.turn.proofs.Turning.{find-end, find-no, find-start, find-yes}
+use Rattle.model.specs.Measures.{partsFor}
+use Rattle.turn.specs.Turn.{targetWord}
+use Rattle.turn.proofs.Turning.{begins-in, find-yes, find-no, find-end, find-start, next-at}
 use Rattle.turn.proofs.find_block.Statement.{statement}
 use Rattle.turn.proofs.find_block.Tie as tie
+use Rattle.turn.proofs.find_block.Reads as reads
+use Rattle.turn.proofs.find_block.Lts as lts
+use Rattle.blocks.proofs.block_same.Reads as block-same-reads
+use Rattle.numbers.proofs.parts_for.Reads as parts-for-reads
 
 abbrev Inv-loop : tie.InvT-loop
-Inv-loop image cell count at₀ n₀ at n = (n ≤ count) × (count ≡ (length image + 63) / 64) × (at ≡ n * 64) × (firstFrom (sameNumbers cell) n (blocksFrom 64 image at (count - n)) ≡ firstFrom (sameNumbers cell) 0 (imageBlocks 64 image))
+Inv-loop image cell bytes count at₀ n₀ at n = (n ≤ count) × (count ≡ partsFor bytes (length image)) × (at ≡ n * bytes) × (firstFrom (sameNumbers cell) n (blocksFrom bytes image at (count - n)) ≡ firstFrom (sameNumbers cell) 0 (imageBlocks bytes image))
 
 abbrev μ-loop : tie.MeasureT-loop
-μ-loop image cell count at₀ n₀ at n = count - n
+μ-loop image cell bytes count at₀ n₀ at n = count - n
 
-add-count : tie.Need-add-count Inv-loop μ-loop
-add-count c = search needs
+-- src/lib.rt:26:9
+parts-for-requires : tie.Need-parts-for-requires Inv-loop μ-loop
+parts-for-requires c κs = let p = c .before .before .pre in (omega (arith, p .2), p .3, omega (arith, p .0))
 
+-- src/lib.rt:29:5
 loop-holds : tie.Need-loop-holds Inv-loop μ-loop
-loop-holds c = (search needs, refl, refl, find-start (sameNumbers (now (c .before .before .args .cell))) (now (c .before .before .args .image)) _ refl)
+loop-holds c = (omega arith, c .parts-for .ensures, omega arith, find-start (c .before .before .before .args .bytes) (sameNumbers (now (c .before .before .before .args .cell))) (now (c .before .before .before .args .image)) _ (c .parts-for .ensures))
 
+-- src/lib.rt:30:12
 block-same-requires : tie.Need-block-same-requires Inv-loop μ-loop
-block-same-requires c κs = search needs
+block-same-requires c κs = let p = c .before .before .before .before .before .pre in let l = c .before .loop in (omega (arith, p .0, l .inv .2, begins-in (c .before .before .before .before .before .args .bytes) (l .n) (length (now (c .before .before .before .before .before .args .image))) (omega (arith, p .2)) (omega (arith, l .inv .1, c .loop-test .taken))), p .2, p .3, p .4, p .1)
 
+-- src/lib.rt:31:20
+cast-result : tie.Need-cast-result Inv-loop μ-loop
+cast-result c = let p = c .before .before .before .before .before .before .before .pre in let l = c .before .before .before .loop in omega (arith, p .0, p .2, l .inv .2, next-at (c .before .before .before .before .before .before .before .args .bytes) (l .n) (omega (arith, p .2)), begins-in (c .before .before .before .before .before .before .before .args .bytes) (l .n) (length (now (c .before .before .before .before .before .before .before .args .image))) (omega (arith, p .2)) (omega (arith, l .inv .1, c .before .before .loop-test .taken)))
+
+-- src/lib.rt:31:13
 returns : tie.Need-returns Inv-loop μ-loop
-returns c =
-    let l = c .before .before .before .loop in
-    let a = c .before .before .before .before .before .before .args in
-    (find-yes (sameNumbers (now (a .cell))) (now (a .image)) _ (l .at) (l .n) (c .before .before .loop-test .taken) (sym (c .if1 .taken) ∙ c .before .block-same .ensures) ∙ l .inv .3, omega arith)
+returns c = let l = c .before .before .before .loop in let a = c .before .before .before .before .before .before .before .args in find-yes (a .bytes) (sameNumbers (now (a .cell))) (now (a .image)) _ (l .at) (l .n) (c .before .before .loop-test .taken) (sym (c .if1 .taken) ∙ c .before .block-same .ensures) ∙ ap targetWord (l .inv .3)
 
+-- src/lib.rt:33:14
 add-at : tie.Need-add-at Inv-loop μ-loop
-add-at c = search needs
+add-at c = let p = c .before .before .before .before .before .before .before .pre in let l = c .before .before .before .loop in omega (arith, p .0, p .3, l .inv .2, begins-in (c .before .before .before .before .before .before .before .args .bytes) (l .n) (length (now (c .before .before .before .before .before .before .before .args .image))) (omega (arith, p .2)) (omega (arith, l .inv .1, c .before .before .loop-test .taken)))
 
+-- src/lib.rt:34:13
 add-n : tie.Need-add-n Inv-loop μ-loop
 add-n c = search needs
 
+-- src/lib.rt:29:5
 loop-less : tie.Need-loop-less Inv-loop μ-loop
 loop-less c = search needs
 
+-- src/lib.rt:29:5
 loop-again : tie.Need-loop-again Inv-loop μ-loop
-loop-again c =
-    let l = c .before .before .before .loop in
-    let a = c .before .before .before .before .before .before .args in
-    (omega arith, refl, omega arith, sym (find-no (sameNumbers (now (a .cell))) (now (a .image)) _ (l .at) (l .n) (c .before .before .loop-test .taken) (sym (c .if1 .left) ∙ c .before .block-same .ensures)) ∙ l .inv .3)
+loop-again c = let l = c .before .before .before .loop in let a = c .before .before .before .before .before .before .before .args in (omega arith, l .inv .1, omega (arith, l .inv .2, suc-mul (l .n) (a .bytes)), sym (find-no (a .bytes) (sameNumbers (now (a .cell))) (now (a .image)) _ (l .at) (l .n) (c .before .before .loop-test .taken) (sym (c .if1 .left) ∙ c .before .block-same .ensures)) ∙ l .inv .3)
 
+-- src/lib.rt:22:1
 returns-2 : tie.Need-returns-2 Inv-loop μ-loop
-returns-2 c =
-    let l = c .before .loop in
-    let a = c .before .before .before .before .args in
-    (find-end (sameNumbers (now (a .cell))) (now (a .image)) ((length (now (a .image)) + 63) / 64) (l .at) (l .n) (omega arith) ∙ l .inv .3, omega arith)
+returns-2 c = let l = c .before .loop in let a = c .before .before .before .before .before .args in find-end (a .bytes) (sameNumbers (now (a .cell))) (now (a .image)) (c .before .before .parts-for .result) (l .at) (l .n) (omega arith) ∙ ap targetWord (l .inv .3)
 
 pub find-block-spec : {M : Type 1} → statement M
 find-block-spec =
@@ -58,9 +69,10 @@ find-block-spec =
     (tie.spec
     Inv-loop
     μ-loop
-    add-count
+    parts-for-requires
     loop-holds
     block-same-requires
+    cast-result
     returns
     add-at
     add-n

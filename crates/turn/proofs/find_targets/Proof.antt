@@ -5,16 +5,17 @@ use native.Mathlib.Omega.{arith}
 use lib.ListN.{drop, length, length-set, take}
 use borrow.Author.Needs.{needs}
 use denote.Ref.{now}
+use Rattle.numbers.specs.Measures.{measuresOf}
 use Rattle.turn.specs.Turn.{targetOf}
 use Rattle.lists.proofs.Maps.{map-end, map-more}
 use Rattle.turn.proofs.find_targets.Statement.{statement}
 use Rattle.turn.proofs.find_targets.Tie as tie
 
 abbrev Inv-loop : tie.InvT-loop
-Inv-loop pointers image pool records targets₀ b₀ targets b = (b ≤ length pointers) × (length targets ≡ length targets₀) × (targets ≡ map (targetOf image pool records) (take b pointers) ++ drop b targets₀)
+Inv-loop pointers image pool records targets₀ m b₀ targets b = (b ≤ length pointers) × (length targets ≡ length targets₀) × (targets ≡ map (targetOf (measuresOf m) image pool records) (take b pointers) ++ drop b targets₀)
 
 abbrev μ-loop : tie.MeasureT-loop
-μ-loop pointers image pool records targets₀ b₀ targets b = length pointers - b
+μ-loop pointers image pool records targets₀ m b₀ targets b = length pointers - b
 
 loop-holds : tie.Need-loop-holds Inv-loop μ-loop
 loop-holds c = (search needs, refl, refl)
@@ -46,7 +47,7 @@ loop-again : tie.Need-loop-again Inv-loop μ-loop
 loop-again c =
     let l = c .before .before .before .loop in
     let a = c .before .before .before .before .before .before .before .before .before in
-    (omega arith, simp length-set (l .inv .1), map-more (targetOf (now (a .args .image)) (now (a .args .pool)) (now (a .args .records))) (now (a .args .pointers)) (now (a .args .targets)) (l .targets) (l .b) _ (omega arith) (a .pre .2) (l .inv .2) (c .target-of .ensures))
+    (omega arith, simp length-set (l .inv .1), map-more (targetOf (measuresOf (a .args .m)) (now (a .args .image)) (now (a .args .pool)) (now (a .args .records))) (now (a .args .pointers)) (now (a .args .targets)) (l .targets) (l .b) _ (omega arith) (a .pre .2) (l .inv .2) (c .target-of .ensures))
 
 same-length : tie.Need-same-length Inv-loop μ-loop
 same-length c = c .before .loop .inv .1
@@ -55,7 +56,7 @@ returns : tie.Need-returns Inv-loop μ-loop
 returns c =
     let l = c .before .loop in
     let a = c .before .before .before .before .before .before .before in
-    map-end (targetOf (now (a .args .image)) (now (a .args .pool)) (now (a .args .records))) (now (a .args .pointers)) (now (a .args .targets)) (l .targets) (l .b) (omega arith) (a .pre .2) (l .inv .2)
+    map-end (targetOf (measuresOf (a .args .m)) (now (a .args .image)) (now (a .args .pool)) (now (a .args .records))) (now (a .args .pointers)) (now (a .args .targets)) (l .targets) (l .b) (omega arith) (a .pre .2) (l .inv .2)
 
 pub find-targets-spec : {M : Type 1} → statement M
 find-targets-spec =

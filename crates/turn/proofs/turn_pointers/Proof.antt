@@ -1,10 +1,11 @@
 use mathlib.Core.Path.{_∙_, ap}
-use Prim.Native.Nat.{_/_}
+use Prim.Native.Nat.{_<_}
 use native.Mathlib.Omega.{arith}
 use lib.ListN.{length}
 use borrow.Author.Needs.{needs}
 use denote.Ref.{now}
 use Rattle.lists.specs.Over.{over}
+use Rattle.numbers.specs.Measures.{measuresOf}
 use Rattle.turn.specs.Turn.{releasedOf, targetOf, turnWord}
 use Rattle.turn.proofs.Turning.{released-all, target-ok, targets-ok, turned-all}
 use Rattle.turn.proofs.turn_pointers.Statement.{statement}
@@ -19,10 +20,12 @@ list-released-requires c κs = search needs
 turn-words-requires : tie.Need-turn-words-requires
 turn-words-requires c κs =
     let a = c .before .before .before .before .before .before .before .before .before .before .before .before .before .before .before .before .before .before .before in
+    let m = measuresOf (a .args .m) in
+    let some : 0 < m .blockBytes = omega (arith, a .pre .1 .measured .someBytes) in
     let image = now (a .args .image) in
     let pool = now (a .args .pool) in
     let ws = now (a .args .records) in
-    (omega arith, λ b h. targets-ok (targetOf image pool ws) (target-ok image pool ws (a .pre .0)) (now (a .args .pointers)) _ (c .before .before .before .before .before .before .before .before .before .before .find-targets .ensures) b h)
+    (omega arith, λ b h. targets-ok (targetOf m image pool ws) (target-ok m some image pool ws (a .pre .0)) (now (a .args .pointers)) _ (c .before .before .before .before .before .before .before .before .before .before .find-targets .ensures) b h)
 
 same-length : tie.Need-same-length
 same-length c = search needs
@@ -36,13 +39,15 @@ same-length-3 c = search needs
 returns : tie.Need-returns
 returns c =
     let a = c .before .before .before .before .before .before .before .before .before .before .before .before .before .before .before .before .before .before .before .before .before .before in
+    let m = measuresOf (a .args .m) in
+    let some : 0 < m .blockBytes = omega (arith, a .pre .1 .measured .someBytes) in
     let image = now (a .args .image) in
     let pool = now (a .args .pool) in
     let ws = now (a .args .records) in
     let ps = now (a .args .pointers) in
     let t = c .before .before .before .before .before .before .before .before .before .before .before .before .before .find-targets .ensures in (
-      c .before .before .turn-words .ensures ∙ ap (over turnWord ps) t ∙ turned-all image pool ws (a .pre .0) (length ws / 19) ps (a .pre .4),
-      c .before .before .before .before .before .before .before .list-released .ensures .0 ∙ ap (releasedOf ps) t ∙ released-all image pool ws (a .pre .0) (length ws / 19) ps (a .pre .4),
+      c .before .before .turn-words .ensures ∙ ap (over turnWord ps) t ∙ turned-all m some image pool ws (a .pre .0) (m .segmentBlocks) (length ws) ps (a .pre .4),
+      c .before .before .before .before .before .before .before .list-released .ensures .0 ∙ ap (releasedOf ps) t ∙ released-all m some image pool ws (a .pre .0) (m .segmentBlocks) (length ws) ps (a .pre .4),
       c .before .before .before .before .before .before .before .list-released .ensures .1,
     )
 

@@ -8,7 +8,7 @@ use crate::reply::Reply;
 use crate::syntax::Command;
 use crate::words::grouped;
 use crate::{leftovers, storefile, table, Failure};
-use lurdempos::BLOCK;
+use lurdempos::BASE;
 use std::ffi::OsString;
 use std::fs;
 use std::os::unix::fs::DirBuilderExt;
@@ -81,7 +81,8 @@ impl Play {
 
     /// The other evenings, with what the images would take whole and what they take in cells.
     fn week(&mut self) -> Result<(), Failure> {
-        self.say("\nThe week, and what has to be kept: as whole images, and in cells of 64 bytes:");
+        let cell = BASE[0];
+        self.say(&format!("\nThe week, and what has to be kept: as whole images, and in cells of {cell} bytes:"));
         self.say("              versions   whole, bytes   cells   cells, bytes");
         self.measured(DAYS[0])?;
         for day in &DAYS[1..] {
@@ -101,9 +102,10 @@ impl Play {
         let store = storefile::read(Path::new(STORE))?;
         let cells = tally::of(Path::new(STORE), &store)?.cells as usize;
         let versions: usize = table::tills(&store).iter().map(Vec::len).sum();
-        let (whole, kept) = (grouped(versions * LENGTH), grouped(BLOCK * cells));
+        let cell_bytes = cells * store.capacities().block_bytes as usize;
+        let (whole, kept) = (grouped(versions * LENGTH), grouped(cell_bytes));
         self.say(&format!("  {day:<9}   {versions:>8}   {whole:>12}   {cells:>5}   {kept:>12}"));
-        let fields = [("versions", versions), ("whole_bytes", versions * LENGTH), ("cell_bytes", BLOCK * cells)];
+        let fields = [("versions", versions), ("whole_bytes", versions * LENGTH), ("cell_bytes", cell_bytes)];
         let fields = fields.map(|(name, number)| (name, number.into()));
         self.days.push(Json::Object([("day", day.into())].into_iter().chain(fields).collect()));
         Ok(())

@@ -1,15 +1,13 @@
 //! `grow`: a store carried into a larger one.
 
-use super::capacities::{
-    self, any_asked, asked, described, empty_store, BLOCKS, BYTES, CELLS, RECORDS, TILLS, VERSIONS,
-};
+use super::capacities::{self, any_asked, asked, described, empty_store, possible, OPTIONS};
 use crate::advice::{self, Call};
 use crate::arguments::{Arguments, Named};
 use crate::json::Json;
 use crate::names::shown;
 use crate::patience::Patience;
 use crate::reply::Reply;
-use crate::syntax::{Argument, Command, Takes, WAIT};
+use crate::syntax::{Argument, Command, Takes};
 use crate::table::{self, Layout};
 use crate::words::counted;
 use crate::{storefile, Failure};
@@ -19,12 +17,12 @@ use std::path::Path;
 pub static COMMAND: Command = Command {
     name: "grow",
     arguments: &[Argument::needed("OLD", Takes::File), Argument::needed("NEW", Takes::File)],
-    options: &[TILLS, VERSIONS, BYTES, BLOCKS, RECORDS, CELLS, WAIT],
+    options: &OPTIONS,
     about: "carry a store into a new, larger one",
     help: "
 Every version of OLD is backed up into NEW under its own number, the oldest first, and compared at the end.
-OLD is not altered; NEW must not exist yet. A capacity that no option gives is OLD's; without any option the
-records and the cells are doubled, as far as a store can have them.
+OLD is not altered; NEW must not exist yet. A capacity or setting that no option gives is OLD's; without any
+option the records and the cells are doubled, as far as a store can have them.
 ",
     run,
 };
@@ -58,11 +56,14 @@ fn run(arguments: &Arguments) -> Result<Reply, Failure> {
     Ok(Reply::done(text, fields))
 }
 
-/// The capacities of the new store. None may be smaller than the old one's.
+/// The capacities of the new store. None may be smaller than the old one's, but the settings may be any.
 fn larger(arguments: &Arguments, old: Capacities) -> Result<Capacities, Failure> {
     let new = if any_asked(arguments) { asked(arguments, old)? } else { doubled(old) };
-    let names = ["tills", "versions", "blocks of an image", "records", "cells"];
-    let pairs = old.to_array().into_iter().zip(new.to_array());
+    let names = ["tills", "versions", "bytes of an image", "records", "cells"];
+    // Blocks may be of two sizes, so that images are compared in bytes.
+    let image = |of: Capacities| of.blocks.saturating_mul(possible(of.block_bytes));
+    let sizes = |of: Capacities| [of.tills, of.versions, image(of), of.records, of.cells];
+    let pairs = sizes(old).into_iter().zip(sizes(new));
     match names.into_iter().zip(pairs).find(|(_, (old, new))| new < old) {
         Some((name, (old, new))) => Err(arguments.wrong(&format!("NEW would have {new} {name}, OLD has {old}"))),
         None => Ok(new),

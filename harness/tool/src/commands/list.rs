@@ -1,5 +1,6 @@
 //! `list`: the versions held.
 
+use super::capacities;
 use crate::advice::Call;
 use crate::arguments::Arguments;
 use crate::json::Json;
@@ -35,7 +36,12 @@ fn run(arguments: &Arguments) -> Result<Reply, Failure> {
     let asked = arguments.word(1).map(|_| arguments.number(1)).transpose()?;
     let store = storefile::read(file)?;
     let tills = tills(file, &store, asked)?;
-    Ok(Reply::text(text(&tills), Json::object([("file", file.into()), ("tills", Json::list(&tills, fields))])))
+    let fields = Json::object([
+        ("file", file.into()),
+        ("tills", Json::list(&tills, fields)),
+        ("capacities", capacities::fields(store.capacities())),
+    ]);
+    Ok(Reply::text(text(&tills), fields))
 }
 
 fn tills(file: &Path, store: &Store, asked: Option<u32>) -> Result<Vec<Till>, Failure> {

@@ -1,13 +1,13 @@
 //! `tally`: the space in use.
 
-use super::capacities;
+use super::capacities::{self, measures_in_words};
 use crate::arguments::Arguments;
 use crate::json::Json;
 use crate::reply::Reply;
 use crate::syntax::{Command, FILE};
 use crate::words::bytes;
 use crate::{advice, storefile, table, Failure};
-use lurdempos::{Store, Tally, BLOCK};
+use lurdempos::{Store, Tally};
 use std::path::Path;
 
 pub static COMMAND: Command = Command {
@@ -18,7 +18,8 @@ pub static COMMAND: Command = Command {
     help: "
 Occupied cells and records in use, each of how many there are; the sum of all counts, which is how many
 blocks of all versions point straight to a cell; and the versions held, with what they take as whole
-images and in cells.
+images and in cells. A store with other settings than 64, 8 and 20 has them in a last line: bytes of a block,
+blocks of a segment, and the rebuild percentage; --json always has them.
 ",
     run,
 };
@@ -43,13 +44,16 @@ fn whole(store: &Store) -> (usize, usize) {
 
 fn text(store: &Store, Tally { cells, records, counts }: Tally) -> String {
     let (capacities, (held, whole)) = (store.capacities(), whole(store));
-    let (whole, kept) = (bytes(whole), bytes(BLOCK * cells as usize));
+    let (whole, kept) = (bytes(whole), bytes(capacities.block_bytes as usize * cells as usize));
+    let settings = measures_in_words(capacities).map(|words| format!("settings          {words}\n"));
     format!(
         "cells     {cells:>7} of {} occupied\n\
          records   {records:>7} of {} in use\n\
          counts    {counts:>7} in sum\n\
-         versions  {held:>7} held: {whole} as whole images, {kept} in cells\n",
-        capacities.cells, capacities.records
+         versions  {held:>7} held: {whole} as whole images, {kept} in cells\n{}",
+        capacities.cells,
+        capacities.records,
+        settings.unwrap_or_default()
     )
 }
 

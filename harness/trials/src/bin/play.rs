@@ -43,7 +43,7 @@ fn play(wish: Wish) {
     let mut met: BTreeMap<u32, usize> = BTreeMap::new();
     while made < wish.calls {
         let (capacities, style) = history::small(&mut random);
-        let full = (Capacities::LARGEST, Style { kinds: random.between(20, 2_000), ..style });
+        let full = (Capacities::largest(capacities.measures()), Style { kinds: random.between(20, 2_000), ..style });
         let (capacities, style) = if wish.full { full } else { (capacities, style) };
         let seed = random.number();
         println!("store {stores}: {:?}, {style:?}, seed {seed}", capacities.to_array());

@@ -1,13 +1,12 @@
 use mathlib.Core.Path.{refl}
-use Rattle.lists.specs.Masks.{maskOf}
-use Rattle.model.specs.Records.{freeSegment}
-use Rattle.records.specs.Records.{recordOf}
+use Rattle.lists.specs.Rows.{fill}
+use Rattle.records.proofs.Records.{free-record}
 use Rattle.records.proofs.Record.free.Statement.{statement}
 use Rattle.records.proofs.Record.free.Tie as tie
 
 returns : tie.Need-returns
-unfolding recordOf freeSegment maskOf
-returns c = refl
+unfolding fill
+returns c = free-record _ _ refl refl refl refl refl
 
 pub free-spec : {M : Type 1} → statement M
 free-spec = tie.close (tie.spec returns)

@@ -6,21 +6,21 @@ use borrow.Author.Needs.{needs}
 use Rattle.lists.specs.Masks.{maskOf}
 use Rattle.model.specs.Sweep.{goes}
 use Rattle.records.specs.Records.{positions, Formed}
-use Rattle.records.proofs.Records.{going-start, going-next, going-small}
+use Rattle.records.proofs.Records.{used-few, going-start, going-next, going-small}
 use Rattle.records.proofs.Record.going.Statement.{statement}
 use Rattle.records.proofs.Record.going.Tie as tie
 
 abbrev Inv-loop : tie.InvT-loop
-Inv-loop self mask₀ i₀ mask i = Formed self × (i ≤ 8) × (mask ≡ maskOf goes (drop i (positions self)))
+Inv-loop self mask₀ i₀ mask i = Formed self × (i ≤ self .used) × (self .used ≤ 16) × (mask ≡ maskOf goes (drop i (positions self)))
 
 abbrev μ-loop : tie.MeasureT-loop
 μ-loop self mask₀ i₀ mask i = i
 
-mask-small : (c : tie.In-loop Inv-loop μ-loop) → c .before .loop .mask < 256
+mask-small : (c : tie.In-loop Inv-loop μ-loop) → c .before .loop .mask < 65536
 mask-small c = omega (arith, going-small _ (c .before .loop .inv .0) (c .before .loop .i))
 
 loop-holds : tie.Need-loop-holds Inv-loop μ-loop
-loop-holds c = (c .pre, omega arith, going-start _ (c .pre))
+loop-holds c = (c .pre, search needs, used-few _ (c .pre), going-start _ (c .pre))
 
 sub-i : tie.Need-sub-i Inv-loop μ-loop
 sub-i c = search needs
@@ -50,10 +50,10 @@ loop-less : tie.Need-loop-less Inv-loop μ-loop
 loop-less c = search needs
 
 loop-again : tie.Need-loop-again Inv-loop μ-loop
-loop-again c = let l = c .before .before .before .loop in (l .inv .0, omega arith, going-next _ (l .inv .0) (l .i) _ _ (omega arith) (l .inv .1) (l .inv .2) (c .unused .ensures .0))
+loop-again c = let l = c .before .before .before .loop in (l .inv .0, omega arith, l .inv .2, going-next _ (l .inv .0) (l .i) _ _ (omega arith) (l .inv .1) (l .inv .3) (c .unused .ensures .0))
 
 returns : tie.Need-returns Inv-loop μ-loop
-returns c = let l = c .before .loop in let z : l .i ≡ 0 = omega arith in rw z at (l .inv .2)
+returns c = let l = c .before .loop in let z : l .i ≡ 0 = omega arith in rw z at (l .inv .3)
 
 pub going-spec : {M : Type 1} → statement M
 going-spec =

@@ -10,10 +10,11 @@ use Rattle.records.proofs.Record.renumber.Tie as tie
 
 abbrev Inv-loop : tie.InvT-loop
 Inv-loop self₀ left₀ at₀ self left at =
-    (left < 256)
-    × (at + ones left ≤ 65544)
+    (left < 65536)
+    × (at + ones left ≤ 65552)
     × (self .held ≡ self₀ .held)
     × (self .removed ≡ self₀ .removed)
+    × (self .used ≡ self₀ .used)
     × (renumbered left at (self .cells) ≡ renumbered left₀ at₀ (self₀ .cells))
     × (self .counts ≡ self₀ .counts)
 
@@ -23,14 +24,14 @@ abbrev μ-loop : tie.MeasureT-loop
 bit : (c : tie.In-loop Inv-loop μ-loop) → First (c .before .loop .left) (trailingZeros 32 (c .before .loop .left))
 bit c = trailing-first 32 _ (omega arith) (omega arith)
 
-small : (c : tie.In-loop Inv-loop μ-loop) → trailingZeros 32 (c .before .loop .left) < 8
-small c = first-lt 8 (bit c) (c .before .loop .inv .0)
+small : (c : tie.In-loop Inv-loop μ-loop) → trailingZeros 32 (c .before .loop .left) < 16
+small c = first-lt 16 (bit c) (c .before .loop .inv .0)
 
 power : (c : tie.In-loop Inv-loop μ-loop) → 1 * 2 ^ trailingZeros 32 (c .before .loop .left) % 2 ^ 32 ≡ 2 ^ trailingZeros 32 (c .before .loop .left)
 power c = one-shl _ 32 (omega (arith, small c))
 
 loop-holds : tie.Need-loop-holds Inv-loop μ-loop
-loop-holds c = (held-small _ (c .pre .0), omega (arith, ones-le 8 (c .args .t1 .held) (held-small _ (c .pre .0))), refl, refl, refl, refl)
+loop-holds c = (held-small _ (c .pre .0), omega (arith, ones-le 16 (c .args .t1 .held) (held-small _ (c .pre .0))), refl, refl, refl, refl, refl)
 
 cast-i : tie.Need-cast-i Inv-loop μ-loop
 cast-i c = omega (arith, small c)
@@ -57,14 +58,14 @@ loop-again : tie.Need-loop-again Inv-loop μ-loop
 loop-again c =
     let i = c .before .loop .inv in
     rw (power c)
-    (omega arith, omega (arith, first-ones (bit c)), i .2, i .3, sym (first-renumbered _ _ (bit c)) ∙ i .4, i .5)
+    (omega arith, omega (arith, first-ones (bit c)), i .2, i .3, i .4, sym (first-renumbered _ _ (bit c)) ∙ i .5, i .6)
 
 returns : tie.Need-returns Inv-loop μ-loop
 returns c =
     let i = c .before .loop .inv in
     let s = c .before .before in
     let e : c .before .loop .left ≡ 0 = c .loop-test .left in
-    moved-of _ _ (s .pre .0) (s .pre .1 .0) _ (i .2) (i .3) (sym (renumbered-none (c .before .loop .at) _) ∙ (rw e at (i .4))) (i .5)
+    moved-of _ _ (s .pre .0) (s .pre .1 .0) _ (i .2) (i .3) (i .4) (sym (renumbered-none (c .before .loop .at) _) ∙ (rw e at (i .5))) (i .6)
 
 pub renumber-spec : {M : Type 1} → statement M
 renumber-spec =

@@ -8,11 +8,14 @@ use Rattle.records.proofs.Records.{held-bit, struck-of, removed-small}
 use Rattle.records.proofs.Record.strike.Statement.{statement}
 use Rattle.records.proofs.Record.strike.Tie as tie
 
-power : (c : tie.Start) → 1 * 2 ^ (c .args .position) % 2 ^ 32 ≡ 2 ^ (c .args .position)
-power c = one-shl (c .args .position) 32 (omega (arith, c .pre .1 .0))
+inside : (c : tie.Start) → c .args .position < 16
+inside c = omega (arith, c .pre .1 .0, c .pre .0 .few)
 
-small : (c : tie.Start) → 2 ^ (c .args .position) < 256
-small c = pow-lt {i = c .args .position} {j = 8} (c .pre .1 .0)
+power : (c : tie.Start) → 1 * 2 ^ (c .args .position) % 2 ^ 32 ≡ 2 ^ (c .args .position)
+power c = one-shl (c .args .position) 32 (omega (arith, inside c))
+
+small : (c : tie.Start) → 2 ^ (c .args .position) < 65536
+small c = pow-lt {i = c .args .position} {j = 16} (inside c)
 
 cast-bit : tie.Need-cast-bit
 cast-bit c = search needs

@@ -17,8 +17,8 @@ abbrev μ-loop : tie.MeasureT-loop
 bit : (c : tie.In-loop Inv-loop μ-loop) → First (c .before .loop .left) (trailingZeros 32 (c .before .loop .left))
 bit c = trailing-first 32 _ (omega arith) (omega (arith, left-small _ _ _ (c .before .loop .inv)))
 
-small : (c : tie.In-loop Inv-loop μ-loop) → trailingZeros 32 (c .before .loop .left) < 8
-small c = next-small _ _ _ _ (c .before .loop .inv) (bit c)
+small : (c : tie.In-loop Inv-loop μ-loop) → trailingZeros 32 (c .before .loop .left) < 16
+small c = omega (arith, next-small _ _ _ _ (c .before .loop .inv) (bit c), c .before .loop .inv .formed .few)
 
 power : (c : tie.In-loop Inv-loop μ-loop) → 1 * 2 ^ trailingZeros 32 (c .before .loop .left) % 2 ^ 32 ≡ 2 ^ trailingZeros 32 (c .before .loop .left)
 power c = one-shl _ 32 (omega (arith, small c))
@@ -30,7 +30,7 @@ cast-i : tie.Need-cast-i Inv-loop μ-loop
 cast-i c = omega (arith, small c)
 
 strike-requires : tie.Need-strike-requires Inv-loop μ-loop
-strike-requires c κs = (c .before .loop .inv .formed, (small c, next-held _ _ _ _ (c .before .loop .inv) (bit c)))
+strike-requires c κs = (c .before .loop .inv .formed, (next-small _ _ _ _ (c .before .loop .inv) (bit c), next-held _ _ _ _ (c .before .loop .inv) (bit c)))
 
 shl-left : tie.Need-shl-left Inv-loop μ-loop
 shl-left c = omega (arith, small (c .before))

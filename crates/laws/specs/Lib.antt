@@ -1,0 +1,3 @@
+-- What contracts ask of a store: its capacities as numbers, and its buffers.
+pub mod Ranges
+pub mod Stores

@@ -1,0 +1,74 @@
+//! One store under test, with its buffers. Its images are letters: a letter is a block filled with it.
+
+use terms::{Calls, Capacities};
+
+pub struct Trial<'a> {
+    store: &'a dyn Calls,
+    capacities: Capacities,
+    pub pool: Vec<u8>,
+    pub table: Vec<u32>,
+}
+
+/// An image of blocks of so many bytes, each filled with a letter.
+pub fn letters(text: &str, bytes: u32) -> Vec<u8> {
+    text.bytes().flat_map(|letter| vec![letter; bytes as usize]).collect()
+}
+
+impl<'a> Trial<'a> {
+    /// A store laid out in buffers that were not blank.
+    pub fn new(store: &'a dyn Calls, capacities: Capacities) -> Trial<'a> {
+        let [_, words] = store.table_length(capacities);
+        let (mut pool, mut table) = (vec![9; capacities.pool_bytes()], vec![9; words as usize]);
+        assert_eq!(store.lay_out(&mut pool, &mut table, capacities), [0], "{:?}", capacities.to_array());
+        Trial { store, capacities, pool, table }
+    }
+
+    /// The page's store, with so many cells.
+    pub fn of_page(store: &'a dyn Calls, cells: u32) -> Trial<'a> {
+        Trial::new(store, Capacities::new(1, 4, 16, 8, cells))
+    }
+
+    pub fn backup(&mut self, image: &[u8]) -> [u32; 2] {
+        self.store.backup(&mut self.pool, &mut self.table, 0, image)
+    }
+
+    /// Backs letters up.
+    pub fn file(&mut self, text: &str) -> [u32; 2] {
+        self.backup(&letters(text, self.capacities.block_bytes))
+    }
+
+    pub fn restore(&self, version: u32, output: &mut [u8]) -> [u32; 3] {
+        self.store.restore(&self.pool, &self.table, 0, version, output)
+    }
+
+    pub fn retire(&mut self, version: u32) -> [u32; 2] {
+        self.store.retire(&mut self.pool, &mut self.table, 0, version)
+    }
+
+    pub fn listing(&self) -> [u32; 4] {
+        self.store.listing(&self.pool, &self.table, 0)
+    }
+
+    pub fn tally(&self) -> [u32; 4] {
+        self.store.tally(&self.pool, &self.table)
+    }
+
+    /// What each cell holds: its letter, or a dot.
+    pub fn picture(&self) -> String {
+        let shown = |cell: &[u8]| if cell[0] == 0 { '.' } else { cell[0] as char };
+        let cells = self.pool.chunks(self.capacities.block_bytes as usize);
+        cells.map(shown).collect::<String>().trim_end_matches('.').to_string()
+    }
+
+    /// Where the records begin.
+    pub fn records_at(&self) -> usize {
+        self.table.len() - self.capacities.record_words() * self.capacities.records as usize
+    }
+
+    /// A record: held mask, removed mask, cells, counts.
+    pub fn record(&self, number: usize) -> (u32, u32, &[u32], &[u32]) {
+        let (size, positions) = (self.capacities.record_words(), self.capacities.segment_blocks as usize);
+        let words = &self.table[self.records_at() + size * number..][..size];
+        (words[0], words[1], &words[3..3 + positions], &words[3 + positions..])
+    }
+}
