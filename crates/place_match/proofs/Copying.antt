@@ -4,11 +4,12 @@ use mathlib.Core.List.{List}
 use Prim.Native.Nat.{_%_, _*_, _+_, _-_, _/_, _<_, _≤_, suc, zero, ℕ}
 use native.Mathlib.Nat.{mul-le-mul, suc-mul}
 use native.Mathlib.Omega.{arith}
-use lib.ListN.{length}
-use lib.Seq.{sets}
+use lib.ListN.{drop, length, length-drop, take}
+use lib.Seq.{length-take-le, sets}
 use Rattle.lists.specs.Lists.{keep}
 use Rattle.lists.specs.Masks.{maskOf}
 use Rattle.lists.proofs.Places.{row-in}
+use Rattle.lists.proofs.Rows.{fill-all, fill-take}
 use Rattle.model.specs.Image.{blockFrom, blocksFrom}
 use Rattle.model.specs.Place.{nonNull}
 use Rattle.model.specs.State.{Block}
@@ -29,6 +30,12 @@ block-low from bytes n i f b h l =
 pub block-back : (k w : ℕ) → 0 < k → k * w ≡ (k - 1) * w + w
 block-back zero w h = absurd (omega arith)
 block-back (suc k) w h = let e : suc k - 1 ≡ k = omega arith in rw e (suc-mul k w)
+
+-- a block that is not cut
+pub block-whole : (bytes : ℕ) (image : List ℕ) (at : ℕ) → at + bytes ≤ length image → take bytes (drop at image) ≡ blockFrom bytes image at
+unfolding blockFrom
+block-whole bytes image at h =
+    sym (fill-all bytes (take bytes (drop at image)) (length-take-le bytes (drop at image) (omega (arith, length-drop at image)))) ∙ fill-take bytes (drop at image)
 
 -- ---- marks
 

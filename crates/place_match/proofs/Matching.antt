@@ -5,12 +5,16 @@ use mathlib.Core.List.{List, [], _∷_}
 use mathlib.Core.Option.{none}
 use Prim.Native.Nat.{_%_, _*_, _+_, _-_, _/_, _<_, _≤_, suc, zero, zero-le, ℕ}
 use native.Mathlib.Omega.{arith}
-use lib.Dec.{eqb}
+use lib.Dec.{eqb, leb}
+use borrow.Author.Tests.{leb-false, leb-true}
 use lib.ListN.{drop, getD, length, take}
 use Rattle.lists.specs.Lists.{allZero, firstFrom, sameNumbers}
 use Rattle.lists.specs.Masks.{maskOf}
+use Rattle.lists.specs.Rows.{fill}
 use Rattle.lists.proofs.Masks.{bit-false}
-use Rattle.lists.proofs.Slices.{drop-end, drop-next}
+use Rattle.lists.proofs.Rows.{zeros-fill}
+use Rattle.lists.proofs.Same.{same-eq}
+use Rattle.lists.proofs.Slices.{drop-end, drop-next, part-get}
 use Rattle.lists.proofs.Tests.{cond-true}
 use Rattle.lists.proofs.Walks.{mask-after, mask-here}
 use Rattle.model.specs.Image.{blockFrom, blocksFrom}
@@ -97,6 +101,46 @@ null-bit b = go (allZero b)
     go : (t : Bool) → eqb (cond (not t) 1 0) 0 ≡ t
     go true = refl
     go false = refl
+
+-- ---- the first byte
+
+-- a block that is not null begins within the image
+pub mark-inside : (bytes : ℕ) (image : List ℕ) (at : ℕ) → mark (blockFrom bytes image at) ≡ 1 → at < length image
+mark-inside bytes image at e = go (leb (length image) at) refl
+  where
+    past : length image ≤ at → allZero (blockFrom bytes image at) ≡ true
+    past h = unfold blockFrom in (ap (λ (l : List ℕ). allZero (fill bytes l)) (drop-end image at h) ∙ zeros-fill bytes)
+
+    go : (t : Bool) → leb (length image) at ≡ t → at < length image
+    go true q = absurd (omega (arith, e, ap {B = ℕ} (λ (t : Bool). cond (not t) 1 0) (past (leb-true (length image) at q))))
+    go false q = leb-false (length image) at q
+
+first-of : (bytes : ℕ) (image : List ℕ) (at : ℕ) → 0 < bytes → at < length image → getD (blockFrom bytes image at) 0 0 ≡ getD image at 0
+unfolding blockFrom
+first-of zero image at z h = absurd (omega arith)
+first-of (suc b) image at z h = rw (drop-next image at 0 h) (unfold fill in refl)
+
+pub first-apart : (bytes : ℕ) (image : List ℕ) (from : ℕ) (pool : List ℕ) (c : ℕ) → 0 < bytes → c * bytes + bytes ≤ length pool → mark (blockFrom bytes image from) ≡ 1
+    → (getD pool (c * bytes) 0 ≡ getD image from 0 → ⊥) → (s : Shelf) (p : Position) → s .cells ≡ cellsIn bytes pool → c ≡ cellOf p → false ≡ holds s p (blockFrom bytes image from)
+first-apart bytes image from pool c z room k d s nullPosition e q = go (allZero (blockFrom bytes image from)) k
+  where
+    go : (t : Bool) → _≡_ {A = ℕ} (cond (not t) 1 0) 1 → false ≡ t
+    go true x = absurd (omega (arith, x))
+    go false x = refl
+first-apart bytes image from pool c z room k d s (held b n) e q = go (sameNumbers (cellAt s b) (blockFrom bytes image from)) refl
+  where
+    same : sameNumbers (cellAt s b) (blockFrom bytes image from) ≡ true → getD pool (c * bytes) 0 ≡ getD image from 0
+    same t =
+        let cell : cellAt s b ≡ take bytes (drop (c * bytes) pool) = ap (cellAt s) (sym q) ∙ cell-same s bytes pool c e z room in
+        let here : c * bytes + 0 ≡ c * bytes = omega arith in
+        sym (ap (λ (l : List ℕ). getD l 0 0) cell ∙ part-get pool (c * bytes) bytes 0 0 z ∙ rw here)
+        ∙ ap (λ (l : List ℕ). getD l 0 0) (same-eq (cellAt s b) (blockFrom bytes image from) t)
+        ∙ first-of bytes image from z (mark-inside bytes image from k)
+
+    go : (t : Bool) → sameNumbers (cellAt s b) (blockFrom bytes image from) ≡ t → false ≡ t
+    go true t = absurd (d (same t))
+    go false t = refl
+first-apart bytes image from pool c z room k d s removed e q = refl
 
 -- ---- a record that equals a segment has lost no position, and holds each block that is not null
 

@@ -1,10 +1,10 @@
 // The lowest whole record that equals a segment of the image; a segment's blocks that are not null: their mask, and their copies in consecutive cells.
 ghost use mathlib.Core.Path.{_≡_};
-ghost use mathlib.Core.Bool.{false, cond};
+ghost use mathlib.Core.Bool.{true, false, cond};
 ghost use Prim.Native.Nat.{ℕ, _+_, _*_, _%_, _≤_, _<_};
 ghost use lib.ListN.{length, getD};
 ghost use lib.Seq.{sets};
-ghost use Rattle.lists.specs.Lists.{firstFrom};
+ghost use Rattle.lists.specs.Lists.{allZero, firstFrom};
 ghost use Rattle.model.specs.Measures.{recordWords};
 ghost use Rattle.model.specs.State.{Position, Segment, Shelf};
 ghost use Rattle.model.specs.Image.{blockFrom, blocksFrom};
@@ -42,9 +42,27 @@ fn position_holds(
     bit == 0
 }
 
-// Whether a record equals the segment of the image that begins at a byte, whose mask is given. A record that has lost a position equals none, and
-// one whose held mask is less than the segment's lacks a block: neither is compared.
-fn record_equals(
+// Whether the first byte of a record's first cell is not that of the segment's first block, where that block is stored.
+fn first_differs(
+    image: &[u8],
+    from: usize,
+    mask: u32,
+    pool: &[u8],
+    cell: Cell,
+    bytes: usize,
+) -> bool
+    requires { ⌜ (mask % 2 ≡ mark (blockFrom bytes (now image) from)) × (cell .0 * bytes + bytes ≤ length (now pool)) × (0 < bytes) × (bytes ≤ 512) ⌝ }
+    ensures { λ r. ⌜ (r ≡ true → (s : Shelf) (p : Position) → s .cells ≡ cellsIn bytes (now (pool .entry)) → cell .0 ≡ cellOf p → false ≡ holds s p (blockFrom bytes (now (image .entry)) from)) ⌝ }
+{
+    if mask % 2 == 0 {
+        return false;
+    }
+    let at = cell.byte(bytes);
+    pool[at] != image[from]
+}
+
+// Whether a record that has lost no position equals the segment of the image that begins at a byte, whose mask is given.
+fn positions_equal(
     image: &[u8],
     from: usize,
     mask: u32,
@@ -53,16 +71,10 @@ fn record_equals(
     bytes: usize,
     n: usize,
 ) -> bool
-    requires { ⌜ (from ≤ 65536) × (mask ≡ marks (blocksFrom bytes (now image) from n)) × (length (now row) ≡ recordWords n) × ((i : ℕ) → i < n → getD (now row) (3 + i) 0 * bytes + bytes ≤ length (now pool)) × (64 ≤ bytes) × (bytes ≤ 512) × (bytes % 64 ≡ 0) × (n ≤ 16) ⌝ }
+    requires { ⌜ (from ≤ 65536) × (mask ≡ marks (blocksFrom bytes (now image) from n)) × (length (now row) ≡ recordWords n) × (getD (now row) 1 0 ≡ 0) × ((i : ℕ) → i < n → getD (now row) (3 + i) 0 * bytes + bytes ≤ length (now pool)) × (64 ≤ bytes) × (bytes ≤ 512) × (bytes % 64 ≡ 0) × (n ≤ 16) ⌝ }
     ensures { λ r. ⌜ ((s : Shelf) (seg : Segment) → s .cells ≡ cellsIn bytes (now (pool .entry)) → length seg ≡ n → now (row .entry) ≡ recordToWords seg → r ≡ equals s (blocksFrom bytes (now (image .entry)) from n) seg) ⌝ }
 {
-    if row[1] != 0 {
-        return false;
-    }
     let mut held = row[0];
-    if held < mask {
-        return false;
-    }
     let mut m = mask;
     let mut at = from;
     let mut i: usize = 0;
@@ -77,6 +89,33 @@ fn record_equals(
         i = i + 1;
     }
     true
+}
+
+// The same for any record. One that has lost a position equals none, one whose held mask is less than the segment's lacks a block, and the first byte
+// settles most others: none of these is compared.
+fn record_equals(
+    image: &[u8],
+    from: usize,
+    mask: u32,
+    pool: &[u8],
+    row: &[u32],
+    bytes: usize,
+    n: usize,
+) -> bool
+    requires { ⌜ (from ≤ 65536) × (mask ≡ marks (blocksFrom bytes (now image) from n)) × (length (now row) ≡ recordWords n) × ((i : ℕ) → i < n → getD (now row) (3 + i) 0 * bytes + bytes ≤ length (now pool)) × (64 ≤ bytes) × (bytes ≤ 512) × (bytes % 64 ≡ 0) × (0 < n) × (n ≤ 16) ⌝ }
+    ensures { λ r. ⌜ ((s : Shelf) (seg : Segment) → s .cells ≡ cellsIn bytes (now (pool .entry)) → length seg ≡ n → now (row .entry) ≡ recordToWords seg → r ≡ equals s (blocksFrom bytes (now (image .entry)) from n) seg) ⌝ }
+{
+    if row[1] != 0 {
+        return false;
+    }
+    if row[0] < mask {
+        return false;
+    }
+    let cell = row[3];
+    if first_differs(image, from, mask, pool, Cell(cell), bytes) {
+        return false;
+    }
+    positions_equal(image, from, mask, pool, row, bytes, n)
 }
 
 // The lowest record that equals the segment, whose mask is given and not 0, or how many records there are. The records from `used` on are free, and
@@ -117,12 +156,24 @@ pub fn match_record(
     RecordNumber(count as u32)
 }
 
+// Whether the image's block at a byte is all zero. Most blocks are not cut.
+fn block_null(image: &[u8], at: usize, bytes: usize) -> bool
+    requires { ⌜ (at ≤ 131072) × (64 ≤ bytes) × (bytes ≤ 512) × (bytes % 64 ≡ 0) ⌝ }
+    ensures { λ r. ⌜ r ≡ allZero (blockFrom bytes (now (image .entry)) at) ⌝ }
+{
+    let end = at + bytes;
+    if end <= image.len() {
+        return blocks::pieces_zero(&image[at..end]);
+    }
+    blocks::block_zero(image, at, bytes)
+}
+
 // 0 for a block that is all zero, else 1.
 fn block_mark(image: &[u8], at: usize, bytes: usize) -> u32
-    requires { ⌜ (at ≤ 131072) × (bytes ≤ 512) ⌝ }
+    requires { ⌜ (at ≤ 131072) × (64 ≤ bytes) × (bytes ≤ 512) × (bytes % 64 ≡ 0) ⌝ }
     ensures { λ r. ⌜ r ≡ mark (blockFrom bytes (now (image .entry)) at) ⌝ }
 {
-    if blocks::block_zero(image, at, bytes) {
+    if block_null(image, at, bytes) {
         return 0;
     }
     1
@@ -130,7 +181,7 @@ fn block_mark(image: &[u8], at: usize, bytes: usize) -> u32
 
 // The mask of the segment's blocks that are not null, from the last block on.
 pub fn segment_mask(image: &[u8], from: usize, bytes: usize, n: usize) -> u32
-    requires { ⌜ (from ≤ 65536) × (bytes ≤ 512) × (n ≤ 16) ⌝ }
+    requires { ⌜ (from ≤ 65536) × (64 ≤ bytes) × (bytes ≤ 512) × (bytes % 64 ≡ 0) × (n ≤ 16) ⌝ }
     ensures { λ r. ⌜ (r ≡ marks (blocksFrom bytes (now (image .entry)) from n)) × (r < 65536) ⌝ }
 {
     let mut m: u32 = 0;

@@ -63,7 +63,7 @@ record-equals-requires c κs =
     let r = stored-records _ s in
     let h : l .k < c .before .before .before .before .rows .result = omega arith in
     let below = cells-below (a .args .m .blocks) _ (getD (recordsIn (a .args .m .blocks) (now (a .args .records))) (l .k) []) (at-sized (l .inv .0) h r) (λ i. cell-inside s (l .k) i) _ (at-row (l .inv .0) h r) in
-    (a .pre .0, a .pre .1, at-length (l .inv .0) h r, λ i q. cell-room s _ (below i q), s .measured .someBytes, s .measured .mostBytes, s .measured .pieces, s .measured .mostBlocks)
+    (a .pre .0, a .pre .1, at-length (l .inv .0) h r, λ i q. cell-room s _ (below i q), s .measured .someBytes, s .measured .mostBytes, s .measured .pieces, omega (arith, s .measured .someBlocks), s .measured .mostBlocks)
 
 cast-t22 : tie.Need-cast-t22 Inv-loop μ-loop
 cast-t22 c = omega (arith, at-few (c .before .before .before .before .loop .inv .0) (c .before .before .before .before .before .before .before .before .before .before .before .pre .3 .short))

@@ -28,7 +28,7 @@ low : (c : tie.In-loop Inv-loop μ-loop) → (c .before .loop .at ≤ 73728) × 
 low c =
     let l = c .before .loop in
     let a = c .before .before .before .before in
-    (omega (arith, l .inv .1, block-low (a .args .from) (a .args .bytes) (a .args .n) (l .i) (a .pre .0) (a .pre .1) (a .pre .2) (l .inv .0)), omega (arith, l .inv .1, block-back (l .i) (a .args .bytes) (omega arith)))
+    (omega (arith, l .inv .1, block-low (a .args .from) (a .args .bytes) (a .args .n) (l .i) (a .pre .0) (a .pre .2) (a .pre .4) (l .inv .0)), omega (arith, l .inv .1, block-back (l .i) (a .args .bytes) (omega arith)))
 
 cast-t9 : tie.Need-cast-t9 Inv-loop μ-loop
 cast-t9 c = search needs
@@ -37,7 +37,7 @@ byte-requires : tie.Need-byte-requires Inv-loop μ-loop
 byte-requires c κs = search needs
 
 add-at : tie.Need-add-at Inv-loop μ-loop
-add-at c = let a = c .before .before in omega (arith, c .byte .ensures, block-low (a .args .from) (a .args .bytes) (a .args .n) (a .args .n) (a .pre .0) (a .pre .1) (a .pre .2) (omega arith))
+add-at c = let a = c .before .before in omega (arith, c .byte .ensures, block-low (a .args .from) (a .args .bytes) (a .args .n) (a .args .n) (a .pre .0) (a .pre .2) (a .pre .4) (omega arith))
 
 loop-holds : tie.Need-loop-holds Inv-loop μ-loop
 loop-holds c = (omega arith, omega (arith, c .byte .ensures), marks-end (c .before .before .args .bytes) (now (c .before .before .args .image)) _ (c .before .before .args .n))
@@ -49,7 +49,7 @@ sub-at : tie.Need-sub-at Inv-loop μ-loop
 sub-at c = omega (arith, low c .1)
 
 block-mark-requires : tie.Need-block-mark-requires Inv-loop μ-loop
-block-mark-requires c κs = (omega (arith, low c .0), c .before .before .before .before .pre .1)
+block-mark-requires c κs = (omega (arith, low c .0), c .before .before .before .before .pre .1, c .before .before .before .before .pre .2, c .before .before .before .before .pre .3)
 
 mul-m : tie.Need-mul-m Inv-loop μ-loop
 mul-m c = omega (arith, small (c .before))

@@ -7,7 +7,7 @@ use Rattle.place_one.proofs.place_segment.Statement.{statement}
 use Rattle.place_one.proofs.place_segment.Tie as tie
 
 segment-mask-requires : tie.Need-segment-mask-requires
-segment-mask-requires c κs = let r = c .before .before .before .before .before .pre .0 in (r .begins, r .stored .measured .mostBytes, r .stored .measured .mostBlocks)
+segment-mask-requires c κs = let r = c .before .before .before .before .before .pre .0 in (r .begins, r .stored .measured .someBytes, r .stored .measured .mostBytes, r .stored .measured .pieces, r .stored .measured .mostBlocks)
 
 put-nulls-requires : tie.Need-put-nulls-requires
 put-nulls-requires c κs = search needs
