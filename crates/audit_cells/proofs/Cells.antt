@@ -2,20 +2,20 @@
 use mathlib.Core.Path.{_≡_, refl, sym, ap, _∙_}
 use mathlib.Core.Bool.{Bool, true, false, not, Bool·beq}
 use mathlib.Core.List.{List, [], _∷_, map}
-use Prim.Native.Nat.{ℕ, zero, suc, _+_, _*_, _/_, _≤_, _<_}
+use Prim.Native.Nat.{ℕ, zero, suc, _+_, _*_, _/_, _%_, _≤_, _<_}
 use native.Mathlib.Nat.{not-suc-le-zero, le-of-suc-le-suc, zero-add, add-zero}
 use native.Mathlib.Omega.{arith}
 use lib.ListN.{length, getD, take, drop, replicate, length-map, length-replicate, List·getD-map}
 use Rattle.lists.specs.Lists.{isIn, allZero}
 use Rattle.lists.specs.Rows.{joined, rows, chunks}
-use Rattle.lists.specs.Marks.{fits, marked, collect}
+use Rattle.lists.specs.Marks.{fits, marked, collect, Marks}
 use Rattle.lists.proofs.Checkers.{clash}
 use Rattle.lists.proofs.Tests.{clause, all-true}
 use Rattle.lists.proofs.Cuts.{length-chunks, chunk-at, length-read}
 use Rattle.model.specs.State.{Block, nullPosition, held, removed, Segment}
 use Rattle.model.specs.Measures.{Measures, recordWords}
 use Rattle.model.specs.Records.{cellsOf, namedCells}
-use Rattle.model.specs.Table.{segmentIn, recordsIn, cellsIn, shelfIn}
+use Rattle.model.specs.Table.{positionOf, positionsIn, segmentIn, recordsIn, cellsIn, shelfIn}
 use Rattle.model.specs.Sound.{hasCells, areFilled}
 use Rattle.audit_words.specs.Words.{bitOf}
 use Rattle.audit_words.proofs.Positions.{bit-off, position-held, other-cells, segment-at}
@@ -46,6 +46,24 @@ record-cells n seg l =
     ap (collect (λ i. cellsOf (getD seg i nullPosition ∷ [])) 0) (sym (length-map seg (λ p. cellsOf (p ∷ [])) ∙ l))
     ∙ collect-at (λ i. cellsOf (getD seg i nullPosition ∷ [])) [] (map (λ p. cellsOf (p ∷ [])) seg) (λ j h. sym (List·getD-map (λ p. cellsOf (p ∷ [])) seg j nullPosition))
     ∙ cells-of seg
+
+-- none where no position is held
+none-held : (r : ℕ) (cs ns : List ℕ) → cellsOf (positionsIn 0 r cs ns) ≡ []
+unfolding positionsIn positionOf cellsOf
+none-held r [] ns = refl
+none-held r (c ∷ cs) [] = refl
+none-held r (c ∷ cs) (n ∷ ns) = go (r % 2) (none-held (r / 2) cs ns)
+  where
+    go : (b : ℕ) → cellsOf (positionsIn 0 (r / 2) cs ns) ≡ [] → cellsOf (positionOf 0 b c n ∷ positionsIn 0 (r / 2) cs ns) ≡ []
+    go zero e = e
+    go (suc b) e = e
+
+pub marks-none : (n : ℕ) (row : List ℕ) (c : ℕ) (occ : List Bool) → getD row 0 0 ≡ 0 → Marks true c (cellsOf (segmentIn n row)) occ occ
+unfolding segmentIn fits marked
+marks-none n row c occ e =
+    let z : cellsOf (segmentIn n row) ≡ [] =
+    ap (λ (h : ℕ). cellsOf (positionsIn h (getD row 1 0) (take n (drop 3 row)) (take n (drop (3 + n) row)))) e ∙ none-held (getD row 1 0) (take n (drop 3 row)) (take n (drop (3 + n) row)) in
+    record { ok = ap (λ (cs : List ℕ). fits c cs occ) (sym z); done = λ t. ap (λ (cs : List ℕ). marked cs occ) (sym z) }
 
 -- by record
 pub all-cells : (n : ℕ) (ws : List ℕ) (c : ℕ) → c ≡ length ws / recordWords n → collect (cells-in n ws) 0 c ≡ namedCells (recordsIn n ws)

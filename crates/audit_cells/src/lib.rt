@@ -36,8 +36,8 @@ fn mark_position(row: &[u32], i: usize, n: usize, cells: usize, occupied: &mut [
     true
 }
 
-// The cells of a record.
-fn mark_record(row: &[u32], n: usize, cells: usize, occupied: &mut [bool]) -> bool
+// The cells of a record, position by position.
+fn mark_positions(row: &[u32], n: usize, cells: usize, occupied: &mut [bool]) -> bool
     requires { ⌜ (n ≤ 16) × (length (now row) ≡ recordWords n) × (cells ≤ length (now occupied)) ⌝ }
     ensures { λ r. ⌜ Marks r cells (cellsOf (segmentIn n (now (row .entry)))) (now (occupied .entry)) (now (occupied .exit)) ⌝ }
 {
@@ -49,6 +49,17 @@ fn mark_record(row: &[u32], n: usize, cells: usize, occupied: &mut [bool]) -> bo
         i += 1;
     }
     true
+}
+
+// The same at once where no position is held.
+fn mark_record(row: &[u32], n: usize, cells: usize, occupied: &mut [bool]) -> bool
+    requires { ⌜ (n ≤ 16) × (length (now row) ≡ recordWords n) × (cells ≤ length (now occupied)) ⌝ }
+    ensures { λ r. ⌜ Marks r cells (cellsOf (segmentIn n (now (row .entry)))) (now (occupied .entry)) (now (occupied .exit)) ⌝ }
+{
+    if row[0] == 0 {
+        return true;
+    }
+    mark_positions(row, n, cells, occupied)
 }
 
 // The cells of all records.

@@ -39,7 +39,7 @@ fn count_says(row: &[u32], i: usize, count: u32, n: usize) -> bool
 }
 
 // Whether those of a record are, by its counters.
-fn record_counts(row: &[u32], counts: &[u32], n: usize) -> bool
+fn positions_counts(row: &[u32], counts: &[u32], n: usize) -> bool
     requires { ⌜ (n ≤ 16) × (length (now row) ≡ recordWords n) × (n ≤ length (now counts)) ⌝ }
     ensures { λ r. ⌜ Tells r ((i : ℕ) → i < n → CountSays n (now (row .entry)) i (getD (now (counts .entry)) i 0)) ⌝ }
 {
@@ -51,6 +51,17 @@ fn record_counts(row: &[u32], counts: &[u32], n: usize) -> bool
         i += 1;
     }
     true
+}
+
+// The same at once where no position is held.
+fn record_counts(row: &[u32], counts: &[u32], n: usize) -> bool
+    requires { ⌜ (n ≤ 16) × (length (now row) ≡ recordWords n) × (n ≤ length (now counts)) ⌝ }
+    ensures { λ r. ⌜ Tells r ((i : ℕ) → i < n → CountSays n (now (row .entry)) i (getD (now (counts .entry)) i 0)) ⌝ }
+{
+    if row[0] == 0 {
+        return true;
+    }
+    positions_counts(row, counts, n)
 }
 
 // Whether those of all records are. A record has as many counters as the most positions that one can have.

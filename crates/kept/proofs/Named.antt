@@ -1,6 +1,6 @@
 -- The cells that the records name, marked.
 use mathlib.Core.Path.{_≡_, refl, sym, ap, _∙_}
-use mathlib.Core.Bool.{Bool, true, false, cond}
+use mathlib.Core.Bool.{Bool, true, false, cond, false≢true}
 use mathlib.Core.List.{List, [], _∷_, map}
 use Prim.Native.Nat.{ℕ, zero, suc, _+_, _*_, _/_, _≤_, _<_}
 use native.Mathlib.Nat.{zero-mul, eq-of-mul-eq-mul-right, le-of-mul-le-mul-right, mul-div-cancel}
@@ -22,14 +22,15 @@ use Rattle.lists.proofs.Slices.{drop-next, drop-end}
 use Rattle.lists.proofs.Apart.{marked-at}
 use Rattle.model.specs.Measures.{Measures, recordWords}
 use Rattle.model.specs.Records.{isHeld, cellOf, cellsOf, namedCells}
-use Rattle.model.specs.State.{Segment, Shelf, Block}
+use Rattle.model.specs.State.{nullPosition, held, removed, Segment, Shelf, Block}
 use Rattle.model.specs.Table.{shelfIn, recordsIn}
 use Rattle.laws.proofs.Sweep.{Exact}
 use Rattle.records.specs.Records.{recordIn, recordOf}
 use Rattle.records.specs.declared.Record.{Record}
-use Rattle.records.proofs.Records.{held-small}
+use Rattle.records.proofs.Records.{held-small, mask-none}
+use Rattle.records.proofs.Goes.{row-held}
 use Rattle.shelf.specs.Stored.{Stored, RecordsTold}
-use Rattle.shelf.proofs.Read.{cells-length, records-count, count-at}
+use Rattle.shelf.proofs.Read.{cells-length, records-count, count-at, row-at}
 use Rattle.pool.specs.Pool.{markAt, along}
 use Rattle.kept.specs.Kept.{filled, Coded, NamedIn, Kept}
 use Rattle.kept.specs.Ways.{segmentAt}
@@ -48,6 +49,14 @@ along-mark : (seg : Segment) → length seg ≤ 16 → (os : List Bool) → alon
 along-mark seg h os =
     along-fill markAt 16 (maskOf isHeld seg) 0 (map cellOf seg) os (rw (length-map seg cellOf) (mask-lt isHeld seg)) (omega (arith, length-map seg cellOf))
     ∙ along-picked markAt isHeld seg 0 os ∙ rw (← held-picked seg) (fold-mark (cellsOf seg) 0 os)
+
+-- no cell without a held position
+cells-none : (seg : Segment) → maskOf isHeld seg ≡ 0 → cellsOf seg ≡ []
+unfolding cellsOf
+cells-none [] e = refl
+cells-none (nullPosition ∷ seg) e = cells-none seg (mask-none isHeld nullPosition seg e .1)
+cells-none (held c n ∷ seg) e = absurd (false≢true (sym (mask-none isHeld (held c n) seg e .0)))
+cells-none (removed ∷ seg) e = cells-none seg (mask-none isHeld removed seg e .1)
 
 -- one record more
 marked-next : (segs : List Segment) (k : ℕ) (os : List Bool) → k < length segs
@@ -137,34 +146,45 @@ pub record NamedAt (n : ℕ) (r : Record) : Type 0 where
   pub small : r .held < 65536
   pub cells : (j : ℕ) → getD (r .cells) j 0 < n
 
-module _ (b : ℕ) (few : b ≤ 16) (words : List ℕ) (k : ℕ) (h : k < length words / recordWords b) (r : Record) (e : r ≡ recordIn b (take (recordWords b) (drop (k * recordWords b) words))) where
+module _ (b : ℕ) (words : List ℕ) (k : ℕ) (h : k < length words / recordWords b) where
   hk : k < length (recordsIn b words)
   hk = omega (arith, records-count b words)
 
-  seg-few : RecordsTold b words (recordsIn b words) → length (segmentAt b words k) ≤ 16
-  seg-few d = omega (arith, count-at b words (recordsIn b words) d k hk)
+  pub marking-next : (os₀ : List Bool) (n : ℕ) (os : List Bool) → Marking b words os₀ n os k
+      → (os′ : List Bool) → length os′ ≡ length os → os′ ≡ marked (cellsOf (segmentAt b words k)) os → Marking b words os₀ n os′ (k + 1)
+  marking-next os₀ n os m os′ l q = record {
+    inside = omega (arith, m .all);
+    all = m .all;
+    long = l ∙ m .long;
+    rest = rw q (marked-next (recordsIn b words) k os hk) ∙ m .rest;
+  }
 
-  pub marking-next : (os₀ : List Bool) (n : ℕ) (os : List Bool) → RecordsTold b words (recordsIn b words) → Marking b words os₀ n os k
-      → (os′ : List Bool) → length os′ ≡ length os → os′ ≡ along markAt (r .held) 0 (r .cells) os → Marking b words os₀ n os′ (k + 1)
-  unfolding recordOf
-  marking-next os₀ n os d m os′ l eo =
-      let is : r ≡ recordOf (segmentAt b words k) = record-at b few words d k hk r e in
-      let q : os′ ≡ marked (cellsOf (segmentAt b words k)) os = eo ∙ rw is (along-mark (segmentAt b words k) (seg-few d) os) in
-      record {
-        inside = omega (arith, m .all);
-        all = m .all;
-        long = l ∙ m .long;
-        rest = rw q (marked-next (recordsIn b words) k os hk) ∙ m .rest;
-      }
+  -- a record that holds no position names no cell
+  pub unmarked : RecordsTold b words (recordsIn b words) → getD words (k * recordWords b) 0 ≡ 0 → (os : List Bool) → os ≡ marked (cellsOf (segmentAt b words k)) os
+  unfolding marked
+  unmarked d z os =
+      let e : maskOf isHeld (segmentAt b words k) ≡ 0 =
+      sym (row-held words (k * recordWords b) b (segmentAt b words k) (count-at b words (recordsIn b words) d k hk) (row-at b words (recordsIn b words) d k hk)) ∙ z in
+      ap (λ (cs : List ℕ). marked cs os) (sym (cells-none (segmentAt b words k) e))
 
-  pub named-at : (n : ℕ) → NamedIn b words n → NamedAt n r
-  unfolding recordOf
-  named-at n d =
-      let is : r ≡ recordOf (segmentAt b words k) = record-at b few words (d .told) k hk r e in
-      record {
-        small = held-small r (loaded-formed b few words (d .told) k hk r e);
-        cells = λ j. rw (is, getD-fill 16 (map cellOf (segmentAt b words k)) j (omega (arith, length-map (segmentAt b words k) cellOf, seg-few (d .told)))) (d .inside k j hk);
-      }
+  module _ (few : b ≤ 16) (r : Record) (e : r ≡ recordIn b (take (recordWords b) (drop (k * recordWords b) words))) where
+    seg-few : RecordsTold b words (recordsIn b words) → length (segmentAt b words k) ≤ 16
+    seg-few d = omega (arith, count-at b words (recordsIn b words) d k hk)
+
+    pub marked-along : RecordsTold b words (recordsIn b words) → (os os′ : List Bool) → os′ ≡ along markAt (r .held) 0 (r .cells) os → os′ ≡ marked (cellsOf (segmentAt b words k)) os
+    unfolding recordOf
+    marked-along d os os′ eo =
+        let is : r ≡ recordOf (segmentAt b words k) = record-at b few words d k hk r e in
+        eo ∙ rw is (along-mark (segmentAt b words k) (seg-few d) os)
+
+    pub named-at : (n : ℕ) → NamedIn b words n → NamedAt n r
+    unfolding recordOf
+    named-at n d =
+        let is : r ≡ recordOf (segmentAt b words k) = record-at b few words (d .told) k hk r e in
+        record {
+          small = held-small r (loaded-formed b few words (d .told) k hk r e);
+          cells = λ j. rw (is, getD-fill 16 (map cellOf (segmentAt b words k)) j (omega (arith, length-map (segmentAt b words k) cellOf, seg-few (d .told)))) (d .inside k j hk);
+        }
 
 pub marking-all : (b : ℕ) (words : List ℕ) (os₀ : List Bool) (n : ℕ) (os : List Bool) (k : ℕ) → Marking b words os₀ n os k → n ≤ k → os ≡ marked (namedCells (recordsIn b words)) os₀
 unfolding namedCells joined marked

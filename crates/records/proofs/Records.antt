@@ -106,7 +106,7 @@ module _ (r : Record) (f : Formed r) where
 
 -- ---- going
 
-unused-bit : (p : Position) → goes (positionOf (cond (isHeld p) 1 0) 0 0 (countOf p)) ≡ goes p
+pub unused-bit : (p : Position) → goes (positionOf (cond (isHeld p) 1 0) 0 0 (countOf p)) ≡ goes p
 unfolding positionOf
 unused-bit nullPosition = refl
 unused-bit (held c zero) = refl

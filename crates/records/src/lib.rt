@@ -8,9 +8,10 @@ ghost use lib.ListN.{length, getD, set, take, drop};
 ghost use Rattle.lists.specs.Lists.{count, firstFrom};
 ghost use Rattle.lists.specs.Masks.{maskOf};
 ghost use Rattle.lists.specs.Rows.{fill};
+ghost use Rattle.lists.specs.Tells.{Tells};
 ghost use Rattle.model.specs.Measures.{recordWords};
-ghost use Rattle.model.specs.State.{nullPosition, removed};
-ghost use Rattle.model.specs.Records.{isHeld, freeSegment};
+ghost use Rattle.model.specs.State.{nullPosition, removed, Segment};
+ghost use Rattle.model.specs.Records.{isHeld, countOf, freeSegment};
 ghost use Rattle.model.specs.Table.{positionOf, recordToWords};
 ghost use Rattle.model.specs.Sweep.{goes, struck, moved};
 ghost use Rattle.records.specs.Records.{positions, recordOf, recordIn, Formed};
@@ -152,6 +153,36 @@ fn unused(held: u32, count: u32) -> u32
         return 1;
     }
     0
+}
+
+// Whether one of some positions goes, where `held` is their mask.
+fn any_unused(held: u32, counts: &[u32]) -> bool
+    ensures { λ r. ⌜ ((seg : Segment) → held ≡ maskOf isHeld seg → now (counts .entry) ≡ map countOf seg → Tells r (0 < count goes seg)) ⌝ }
+{
+    let mut left = held;
+    let mut i: usize = 0;
+    while i < counts.len() {
+        if unused(left, counts[i]) == 1 {
+            return true;
+        }
+        left = left / 2;
+        i = i + 1;
+    }
+    false
+}
+
+// Whether a position of the record in a row goes. The row is only read, since most records keep all of theirs.
+pub fn any_goes(words: &[u32], number: RecordNumber, n: usize) -> bool
+    requires { ⌜ (n ≤ 16) × (number .0 * recordWords n + recordWords n ≤ length (now words)) ⌝ }
+    ensures { λ r. ⌜ ((seg : Segment) → length seg ≡ n → take (recordWords n) (drop (number .0 * recordWords n) (now (words .entry))) ≡ recordToWords seg → Tells r (0 < count goes seg)) ⌝ }
+{
+    let at = number.word(n);
+    if words[at] == 0 {
+        return false;
+    }
+    let from = at + 3 + n;
+    let end = from + n;
+    any_unused(words[at], &words[from..end])
 }
 
 // The record of n positions in a row of the records' words.

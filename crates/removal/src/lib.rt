@@ -133,7 +133,8 @@ pub fn remove_from(
     compact_record(pool, words, occupied, number, old, going, m);
 }
 
-pub fn sweep_record(
+// A record of which some position may go.
+fn sweep_loaded(
     pool: &mut [u8],
     words: &mut [u32],
     occupied: &mut [bool],
@@ -149,4 +150,22 @@ pub fn sweep_record(
     let r = u32::count_ones(going);
     let s = old.size();
     remove_from(pool, words, occupied, number, old, going, r, s, m);
+}
+
+// Any record. One that keeps all positions is not loaded.
+pub fn sweep_record(
+    pool: &mut [u8],
+    words: &mut [u32],
+    occupied: &mut [bool],
+    number: RecordNumber,
+    m: Measures,
+)
+    requires { ⌜ Kept (measuresOf m) (now pool) (now words) (now occupied) ⌝ }
+    requires { ⌜ number .0 < length (recordsIn (m .blocks) (now words)) ⌝ }
+    ensures { λ _. ⌜ Coded (measuresOf m) (now (pool .exit)) (now (words .exit)) (now (occupied .exit)) (sweepRecord (measuresOf m) (shelfIn (measuresOf m) (now (pool .entry)) (now (words .entry))) (number .0)) ⌝ }
+{
+    if !records::any_goes(words, number, m.blocks) {
+        return;
+    }
+    sweep_loaded(pool, words, occupied, number, m);
 }

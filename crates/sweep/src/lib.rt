@@ -2,16 +2,18 @@
 ghost use mathlib.Core.Path.{_≡_};
 ghost use mathlib.Core.Bool.{false};
 ghost use mathlib.Core.List.{map};
-ghost use Prim.Native.Nat.{ℕ, _*_, _≤_, _<_};
+ghost use Prim.Native.Nat.{ℕ, _*_, _/_, _≤_, _<_};
 ghost use lib.ListN.{length, getD, replicate};
 ghost use Rattle.lists.specs.Marks.{marked};
 ghost use Rattle.numbers.specs.Measures.{measuresOf};
-ghost use Rattle.model.specs.Records.{namedCells};
+ghost use Rattle.model.specs.Measures.{recordWords};
+ghost use Rattle.model.specs.Records.{cellsOf, namedCells};
 ghost use Rattle.model.specs.Table.{wordToPointer, recordsIn, shelfIn};
 ghost use Rattle.model.specs.Sweep.{release, sweep};
 ghost use Rattle.shelf.specs.Stored.{Told, Stored};
 ghost use Rattle.shelf.specs.Fits.{Fits};
 ghost use Rattle.kept.specs.Kept.{Coded, Kept, NamedIn};
+ghost use Rattle.kept.specs.Ways.{segmentAt};
 use numbers::Measures;
 use numbers::RecordNumber;
 
@@ -28,6 +30,21 @@ pub fn sweep_marked(pool: &mut [u8], words: &mut [u32], occupied: &mut [bool], m
     }
 }
 
+// The cells that a record names are marked. A record that holds no position is not loaded.
+fn mark_record(words: &[u32], occupied: &mut [bool], number: RecordNumber, n: usize)
+    requires { ⌜ NamedIn n (now words) (length (now occupied)) ⌝ }
+    requires { ⌜ (length (now occupied) ≤ 32768) × (number .0 < length (now words) / recordWords n) ⌝ }
+    ensures { λ _. ⌜ now (occupied .exit) ≡ marked (cellsOf (segmentAt n (now (words .entry)) (number .0))) (now (occupied .entry)) ⌝ }
+{
+    let at = number.word(n);
+    if words[at] == 0 {
+        return;
+    }
+    let old = records::load(words, number, n);
+    let cells = old.cells;
+    pool::take_marked(occupied, old.held, cells);
+}
+
 // The cells that the records name are marked.
 pub fn mark_named(words: &[u32], occupied: &mut [bool], n: usize)
     requires { ⌜ NamedIn n (now words) (length (now occupied)) ⌝ }
@@ -37,9 +54,7 @@ pub fn mark_named(words: &[u32], occupied: &mut [bool], n: usize)
     let count = numbers::rows(words.len(), n);
     let mut k: usize = 0;
     while k < count {
-        let old = records::load(words, RecordNumber(k as u32), n);
-        let cells = old.cells;
-        pool::take_marked(occupied, old.held, cells);
+        mark_record(words, occupied, RecordNumber(k as u32), n);
         k = k + 1;
     }
 }

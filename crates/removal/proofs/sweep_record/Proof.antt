@@ -1,56 +1,54 @@
-use mathlib.Core.Path.{sym}
-use Prim.Native.Nat.{_≤_}
+use mathlib.Core.Path.{_≡_, sym, _∙_}
 use native.Mathlib.Omega.{arith}
-use Rattle.shelf.proofs.Read.{room-at}
-use Rattle.kept.specs.Kept.{Loaded}
-use Rattle.kept.proofs.Sweeps.{recoded, records-told, loaded-formed, loaded, going-ones, held-count, going-within, held-most, removed-is}
+use borrow.Author.Needs.{needs}
+use Rattle.lists.proofs.Checkers.{refutes}
+use Rattle.shelf.proofs.Read.{count-at, room-at, row-at}
+use Rattle.kept.specs.Ways.{goingAt, segmentAt}
+use Rattle.kept.proofs.Sweeps.{recoded, records-told, removed-is, removed-none}
 use Rattle.removal.proofs.sweep_record.Statement.{statement}
 use Rattle.removal.proofs.sweep_record.Tie as tie
 
-few : (c : tie.Start) → c .args .m .blocks ≤ 16
-few c = c .pre .0 .measured .mostBlocks
-
-load-requires : tie.Need-load-requires
-load-requires c κs = let a = c .before .before .before .before in (few a, room-at _ _ _ (records-told (a .pre .0)) _ (a .pre .1))
-
-going-requires : tie.Need-going-requires
-going-requires c κs = let a = c .before .before .before .before .before in loaded-formed _ (few a) _ (records-told (a .pre .0)) _ (a .pre .1) _ (c .load .ensures)
-
-size-requires : tie.Need-size-requires
-size-requires c κs = let a = c .before .before .before .before .before .before in loaded-formed _ (few a) _ (records-told (a .pre .0)) _ (a .pre .1) _ (c .before .load .ensures)
-
-remove-from-requires : tie.Need-remove-from-requires
-remove-from-requires c κs = let a = c .before .before .before .before .before .before .before .before .before .before in
-    let b = a .args .m .blocks in
-    let d = records-told (a .pre .0) in
-    let l : Loaded b (a .args .words .now) (a .args .number .0) (c .before .before .before .before .before .load .result) (c .before .before .before .before .going .result) = loaded _ (few a) _ d _ (a .pre .1) _ (c .before .before .before .before .before .load .ensures) _ (c .before .before .before .before .going .ensures) in
-    let g = going-ones _ _ _ _ _ l in
-    let h = held-count _ (few a) _ d _ (a .pre .1) _ _ _ l (c .before .before .before .size .ensures) in
-    let n = going-within b (a .args .words .now) (a .args .number .0) in
-    let m = held-most _ (few a) _ d _ (a .pre .1) in
-    (a .pre .0, (l, (g, h, omega (arith, g, h, n), omega (arith, h, m))))
+any-goes-requires : tie.Need-any-goes-requires
+any-goes-requires c κs = let a = c .before .before .before .before in (a .pre .0 .measured .mostBlocks, room-at _ _ _ (records-told (a .pre .0)) _ (a .pre .1))
 
 same-length : tie.Need-same-length
-same-length c = c .before .before .before .before .before .before .remove-from .kept .0
-
-same-length-2 : tie.Need-same-length-2
-same-length-2 c = c .before .before .before .before .before .before .remove-from .kept .1 .0
-
-same-length-3 : tie.Need-same-length-3
-same-length-3 c = c .before .before .before .before .before .before .remove-from .kept .1 .1 .0
+same-length c = search needs
 
 returns : tie.Need-returns
-returns c = recoded (sym (removed-is _ _ _ _)) (c .before .before .before .before .before .before .remove-from .ensures)
+returns c =
+    let a = c .before .before .before .before .before .before in
+    let b = a .args .m .blocks in
+    let ws = a .args .words .now in
+    let k = a .args .number .0 in
+    let d = records-told (a .pre .0) in
+    let x = refutes (c .before .any-goes .ensures (segmentAt b ws k) (count-at _ _ _ d k (a .pre .1)) (row-at _ _ _ d k (a .pre .1))) (c .if1 .taken) in
+    let z : goingAt b ws k ≡ 0 = omega (arith, x) in
+    recoded (sym (removed-is _ _ _ _) ∙ removed-none _ _ _ _ z) (a .pre .0 .coded)
+
+sweep-loaded-requires : tie.Need-sweep-loaded-requires
+sweep-loaded-requires c κs = search needs
+
+same-length-2 : tie.Need-same-length-2
+same-length-2 c = search needs
+
+same-length-3 : tie.Need-same-length-3
+same-length-3 c = search needs
+
+same-length-4 : tie.Need-same-length-4
+same-length-4 c = search needs
+
+returns-2 : tie.Need-returns-2
+returns-2 c = search needs
 
 pub sweep-record-spec : {M : Type 1} → statement M
 sweep-record-spec =
     tie.close
     (tie.spec
-    load-requires
-    going-requires
-    size-requires
-    remove-from-requires
+    any-goes-requires
     same-length
+    returns
+    sweep-loaded-requires
     same-length-2
     same-length-3
-    returns)
+    same-length-4
+    returns-2)
