@@ -2,6 +2,7 @@
 ghost use mathlib.Core.Path.{_≡_};
 ghost use Prim.Native.Nat.{_*_, _≤_, _<_};
 ghost use lib.ListN.{length};
+ghost use Rattle.lists.specs.Tells.{Tells};
 ghost use Rattle.numbers.specs.Measures.{measuresOf};
 ghost use Rattle.model.specs.Table.{recordsIn, shelfIn};
 ghost use Rattle.model.specs.Sweep.{sweepRecord};
@@ -102,6 +103,14 @@ pub fn compact_record(
     move_record(pool, words, occupied, number, old, going, start, m);
 }
 
+// Whether r of s positions are less than the rebuild percentage.
+fn under_percent(r: u32, s: u32, percent: u32) -> bool
+    requires { ⌜ (r ≤ 16) × (s ≤ 16) × (percent ≤ 100) ⌝ }
+    ensures { λ x. ⌜ Tells x (100 * r < percent * s) ⌝ }
+{
+    100 * r < percent * s
+}
+
 // r positions of the record go, and s are held.
 pub fn remove_from(
     pool: &mut [u8],
@@ -126,7 +135,7 @@ pub fn remove_from(
         free_record(pool, words, occupied, number, old, going, m);
         return;
     }
-    if 100 * r < m.percent * s {
+    if under_percent(r, s, m.percent) {
         strike_record(pool, words, occupied, number, old, going, m);
         return;
     }

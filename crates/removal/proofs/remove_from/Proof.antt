@@ -1,8 +1,7 @@
 use mathlib.Core.Path.{_≡_, ap, sym, _∙_}
-use Prim.Native.Nat.{ℕ, _*_, _≤_}
-use native.Mathlib.Nat.{mul-le-mul}
+use Prim.Native.Nat.{ℕ, _*_}
 use native.Mathlib.Omega.{arith}
-use borrow.Author.Needs.{needs}
+use Rattle.lists.proofs.Checkers.{denies}
 use Rattle.kept.specs.Ways.{heldAt}
 use Rattle.kept.proofs.Sweeps.{recoded, removed-none, removed-all, removed-few, removed-many}
 use Rattle.removal.proofs.remove_from.Statement.{statement}
@@ -27,13 +26,8 @@ returns-2 : tie.Need-returns-2
 returns-2 c = let v = c .before .before .before .before .before .before .before .before .before .before .before .before .before .before .before .pre .1 .1 in
     recoded (removed-all _ _ _ _ (λ e. c .before .before .before .before .before .before .before .before .before .before .before .if1 .left (v .0 ∙ e)) (sym (v .0) ∙ c .before .before .before .before .before .before .before .before .before .before .if2 .taken ∙ v .1)) (c .before .before .before .before .before .before .free-record .ensures)
 
-mul-if3 : tie.Need-mul-if3
-mul-if3 c = search needs
-
-mul-if3-2 : tie.Need-mul-if3-2
-mul-if3-2 c = let a = c .before .before .before .before .before .before in
-    let p : a .args .m .percent * a .args .s ≤ 1600 = mul-le-mul (a .pre .0 .measured .mostPercent) (a .pre .1 .1 .3) in
-    omega (arith, p)
+under-percent-requires : tie.Need-under-percent-requires
+under-percent-requires c κs = let a = c .before .before .before .before .before in (omega (arith, a .pre .1 .1 .2, a .pre .1 .1 .3), a .pre .1 .1 .3, a .pre .0 .measured .mostPercent)
 
 strike-record-requires : tie.Need-strike-record-requires
 strike-record-requires c κs = let a = c .before .before .before .before .before .before .before .before .before .before in (a .pre .0, a .pre .1 .0)
@@ -51,7 +45,7 @@ returns-3 : tie.Need-returns-3
 returns-3 c = let a = c .before .before .before .before .before .before .before .before .before .before .before .before .before .before .before .before .before in
     let v = a .pre .1 .1 in
     let p : a .args .m .percent * a .args .s ≡ a .args .m .percent * heldAt (a .args .m .blocks) (a .args .words .now) (a .args .number .0) = ap (λ (i : ℕ). a .args .m .percent * i) (v .1) in
-    recoded (removed-few _ _ _ _ (λ e. c .before .before .before .before .before .before .before .before .before .before .before .before .before .if1 .left (v .0 ∙ e)) (λ e. c .before .before .before .before .before .before .before .before .before .before .before .before .if2 .left (v .0 ∙ e ∙ sym (v .1))) (omega (arith, v .0, p, c .before .before .before .before .before .before .before .before .before .before .if3 .taken)))
+    recoded (removed-few _ _ _ _ (λ e. c .before .before .before .before .before .before .before .before .before .before .before .before .before .if1 .left (v .0 ∙ e)) (λ e. c .before .before .before .before .before .before .before .before .before .before .before .before .if2 .left (v .0 ∙ e ∙ sym (v .1))) (omega (arith, v .0, p, c .before .before .before .before .before .before .before .before .before .before .before .under-percent .ensures .holds (c .before .before .before .before .before .before .before .before .before .before .if3 .taken))))
     (c .before .before .before .before .before .before .strike-record .ensures)
 
 compact-record-requires : tie.Need-compact-record-requires
@@ -72,7 +66,7 @@ returns-4 : tie.Need-returns-4
 returns-4 c = let a = c .before .before .before .before .before .before .before .before .before .before .before .before .before .before .before .before .before in
     let v = a .pre .1 .1 in
     let p : a .args .m .percent * a .args .s ≡ a .args .m .percent * heldAt (a .args .m .blocks) (a .args .words .now) (a .args .number .0) = ap (λ (i : ℕ). a .args .m .percent * i) (v .1) in
-    recoded (removed-many _ _ _ _ (λ e. c .before .before .before .before .before .before .before .before .before .before .before .before .before .if1 .left (v .0 ∙ e)) (λ e. c .before .before .before .before .before .before .before .before .before .before .before .before .if2 .left (v .0 ∙ e ∙ sym (v .1))) (omega (arith, v .0, p, c .before .before .before .before .before .before .before .before .before .before .if3 .left)))
+    recoded (removed-many _ _ _ _ (λ e. c .before .before .before .before .before .before .before .before .before .before .before .before .before .if1 .left (v .0 ∙ e)) (λ e. c .before .before .before .before .before .before .before .before .before .before .before .before .if2 .left (v .0 ∙ e ∙ sym (v .1))) (omega (arith, v .0, p, denies (c .before .before .before .before .before .before .before .before .before .before .before .under-percent .ensures) (c .before .before .before .before .before .before .before .before .before .before .if3 .left))))
     (c .before .before .before .before .before .before .compact-record .ensures)
 
 pub remove-from-spec : {M : Type 1} → statement M
@@ -85,8 +79,7 @@ remove-from-spec =
     same-length-2
     same-length-3
     returns-2
-    mul-if3
-    mul-if3-2
+    under-percent-requires
     strike-record-requires
     same-length-4
     same-length-5
