@@ -3,7 +3,7 @@ use mathlib.Core.Path.{_≡_, refl, sym, ap, _∙_}
 use mathlib.Core.Bool.{Bool, true, false, cond, _||_}
 use mathlib.Core.List.{List}
 use Prim.Native.Nat.{ℕ, zero, suc, _*_, _≤_, _<_}
-use native.Mathlib.Nat.{mul-le-mul}
+use native.Mathlib.Nat.{mul-comm}
 use native.Mathlib.Omega.{arith}
 use lib.ListN.{length, getD}
 use lib.Dec.{eqb, leb, ltb}
@@ -19,10 +19,12 @@ use Rattle.tills.specs.Answers.{HeadOf}
 use Rattle.accept.specs.Accept.{mostBytes, Free, Accepted, refusedBackup, Judged, JudgedTill}
 
 -- with the measures as the code read them
-pub bytes-fit : (table : List ℕ) → Header table → (m : Measures) → m ≡ shapeOf table .measures → m .blockBytes * getD table 2 0 ≤ 524288
-bytes-fit table h m e =
-    let most : m .blockBytes ≤ 512 = rw e (h .measured .mostBytes) in
-    mul-le-mul most (h .blocks)
+pub bytes-few : (table : List ℕ) → Header table → (m : Measures) → m ≡ shapeOf table .measures → m .blockBytes ≤ 512
+bytes-few table h m e = rw e (h .measured .mostBytes)
+
+-- blocks by bytes or bytes by blocks
+pub bytes-most : (table : List ℕ) (m : Measures) → m ≡ shapeOf table .measures → (r : ℕ) → r ≡ getD table 2 0 * m .blockBytes → r ≡ mostBytes table
+bytes-most table m e r q = q ∙ mul-comm (getD table 2 0) (m .blockBytes) ∙ ap (λ (x : Measures). x .blockBytes * getD table 2 0) e
 
 module _ {pool table : List ℕ} (h : Sound pool table) (t : ℕ) where
   pub no-till : (image : List ℕ) → getD table 0 0 ≤ t → backupOf pool table t image ≡ refusedBackup 3 pool table

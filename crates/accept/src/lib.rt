@@ -4,14 +4,16 @@ ghost use Prim.Native.Nat.{ℕ, _<_};
 ghost use lib.ListN.{length, getD};
 ghost use Rattle.laws.specs.Stores.{Sound, Header};
 ghost use Rattle.accept.specs.Accept.{mostBytes, Judged, JudgedTill};
+use numbers::Block;
 
-// The longest image's bytes.
+// The longest image's bytes: where the block past its last one would begin.
 fn most_bytes(table: &[u32]) -> usize
     requires { ⌜ Header (now table) ⌝ }
     ensures { λ r. ⌜ r ≡ mostBytes (now (table .entry)) ⌝ }
 {
     let m = layout::measures_in(table);
-    m.bytes * table[2] as usize
+    let past = Block(table[2]);
+    past.byte(m.bytes)
 }
 
 // Refusals 11 and 12.
