@@ -20,8 +20,8 @@ impl Measures {
         ensures { λ r. ⌜ (measuresOf r ≡ baseMeasures) × Measured (measuresOf r) ⌝ }
     {
         Measures {
-            bytes: 64,
-            blocks: 8,
+            bytes: Block::BYTES,
+            blocks: Segment::BLOCKS,
             percent: 20,
         }
     }
@@ -55,10 +55,10 @@ impl Measures {
     fn is_base(self) -> bool
         ensures { λ r. ⌜ r ≡ isBase (measuresOf self) ⌝ }
     {
-        if self.bytes != 64 {
+        if self.bytes != Block::BYTES {
             return false;
         }
-        if self.blocks != 8 {
+        if self.blocks != Segment::BLOCKS {
             return false;
         }
         self.percent == 20
@@ -135,7 +135,7 @@ impl Pointer {
 }
 
 impl Block {
-    // Of the base measures, for code that knows no others.
+    // Of the base measures.
     pub const BYTES: usize = 64;
 
     // The most that can be.
@@ -152,10 +152,8 @@ impl Block {
 }
 
 impl Segment {
-    // Of the base measures, for code that knows no others.
+    // Of the base measures.
     pub const BLOCKS: usize = 8;
-
-    pub const BYTES: usize = 512;
 
     // The most that can be.
     pub const MOST_BLOCKS: usize = 16;

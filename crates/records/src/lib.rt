@@ -22,16 +22,13 @@ pub struct Record {
     pub held: u32,
     pub removed: u32,
     pub used: usize,
-    pub cells: [u32; 16],
-    pub counts: [u32; 16],
+    pub cells: [u32; Record::POSITIONS],
+    pub counts: [u32; Record::POSITIONS],
 }
 
 impl Record {
     // The most that can be.
     pub const POSITIONS: usize = 16;
-
-    // Its words in the table where the measures are the base's, for code that knows no others.
-    pub const WORDS: usize = 19;
 
     pub fn free(positions: usize) -> Record
         requires { ⌜ positions ≤ 16 ⌝ }
@@ -41,8 +38,8 @@ impl Record {
             held: 0,
             removed: 0,
             used: positions,
-            cells: [0; 16],
-            counts: [0; 16],
+            cells: [0; Record::POSITIONS],
+            counts: [0; Record::POSITIONS],
         }
     }
 
@@ -203,11 +200,11 @@ pub fn load(words: &[u32], number: RecordNumber, n: usize) -> Record
 }
 
 // n of the words, with zeros in the room that is left.
-fn sixteen(words: &[u32], at: usize, n: usize) -> [u32; 16]
+fn sixteen(words: &[u32], at: usize, n: usize) -> [u32; Record::POSITIONS]
     requires { ⌜ (n ≤ 16) × (at + n ≤ length (now words)) ⌝ }
     ensures { λ r. ⌜ r ≡ fill 16 (take n (drop at (now (words .entry)))) ⌝ }
 {
-    let mut a = [0u32; 16];
+    let mut a = [0u32; Record::POSITIONS];
     let mut i: usize = 0;
     while i < n {
         a[i] = words[at + i];

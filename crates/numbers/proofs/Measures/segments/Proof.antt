@@ -1,8 +1,6 @@
 use native.Mathlib.Omega.{arith}
-use mathlib.Core.Path.{_∙_, ap}
-use Prim.Native.Nat.{_+_, _-_, _/_, _≤_, ℕ}
-use Rattle.model.specs.Measures.{partsFor}
-use Rattle.numbers.proofs.Products.{segment-some}
+use Prim.Native.Nat.{_≤_}
+use Rattle.numbers.proofs.Products.{segment-some, segments-are}
 use borrow.Author.Needs.{needs}
 use Rattle.numbers.proofs.Measures.segments.Statement.{statement}
 use Rattle.numbers.proofs.Measures.segments.Tie as tie
@@ -25,8 +23,7 @@ parts-requires : tie.Need-parts-requires
 parts-requires c κs = omega (arith, some c)
 
 returns : tie.Need-returns
-unfolding partsFor
-returns c = c .parts .ensures ∙ ap (λ (w : ℕ). (c .before .before .args .length + (w - 1)) / w) (c .before .segment-bytes .ensures .0)
+returns c = segments-are (c .before .before .args .length) (c .before .segment-bytes .result) _ _ (c .before .segment-bytes .ensures .0) (c .parts .ensures)
 
 pub segments-spec : {M : Type 1} → statement M
 segments-spec =
