@@ -13,8 +13,10 @@ use lib.Dec.{eqb}
 use borrow.Author.Tests.{eq-eqb, le-ltb, lt-ltb, ne-eqb}
 use Rattle.lists.specs.Lists.{count, firstFrom, keep, sameNumbers}
 use Rattle.lists.specs.Over.{over}
+use Rattle.lists.specs.Rows.{fill}
 use Rattle.lists.proofs.Cuts.{part-word}
 use Rattle.lists.proofs.Each.{each-at}
+use Rattle.lists.proofs.Same.{same-eq}
 use Rattle.lists.proofs.Slices.{drop-end, drop-next}
 use Rattle.model.specs.Image.{blockFrom, blocksFrom, imageBlocks}
 use Rattle.model.specs.Measures.{Measures, partsFor, recordWords}
@@ -41,6 +43,19 @@ begins-in bytes n len pos h =
 -- a block's number is at most its first byte's
 pub next-at : (bytes n : ℕ) → 0 < bytes → n ≤ n * bytes
 next-at bytes n h = let a : n * 1 ≤ n * bytes = mul-le-mul-left n h in omega (arith, a)
+
+-- a block that begins within the image has the image's byte there first
+first-of : (bytes : ℕ) (image : List ℕ) (at : ℕ) → 0 < bytes → at < length image → getD (blockFrom bytes image at) 0 0 ≡ getD image at 0
+unfolding blockFrom
+first-of zero image at z h = absurd (omega arith)
+first-of (suc b) image at z h = rw (drop-next image at 0 h) (unfold fill in refl)
+
+pub first-apart : (bytes : ℕ) (image cell : List ℕ) (at : ℕ) → 0 < bytes → at < length image → (getD image at 0 ≡ getD cell 0 0 → ⊥) → false ≡ sameNumbers cell (blockFrom bytes image at)
+first-apart bytes image cell at z h d = go (sameNumbers cell (blockFrom bytes image at)) refl
+  where
+    go : (t : Bool) → sameNumbers cell (blockFrom bytes image at) ≡ t → false ≡ t
+    go true e = absurd (d (sym (ap (λ (l : List ℕ). getD l 0 0) (same-eq cell (blockFrom bytes image at) e) ∙ first-of bytes image at z h)))
+    go false e = refl
 
 module _ (bytes : ℕ) (f : Block → Bool) (image : List ℕ) (count : ℕ) where
   find-step : (at n : ℕ) → n < count → firstFrom f n (blocksFrom bytes image at (count - n)) ≡ cond (f (blockFrom bytes image at)) (some n) (firstFrom f (n + 1) (blocksFrom bytes image (at + bytes) (count - (n + 1))))

@@ -5,7 +5,7 @@ ghost use Prim.Native.Nat.{ℕ, _+_, _%_, _≤_, _<_};
 ghost use lib.ListN.{length, getD, take, drop};
 ghost use Rattle.lists.specs.Lists.{sameNumbers, firstFrom};
 ghost use Rattle.lists.specs.Over.{over};
-ghost use Rattle.model.specs.Image.{imageBlocks};
+ghost use Rattle.model.specs.Image.{blockFrom, imageBlocks};
 ghost use Rattle.model.specs.Turn.{turn, turning};
 ghost use Rattle.model.specs.Table.{shelfIn, pointerWord, wordToPointer};
 ghost use Rattle.numbers.specs.Measures.{measuresOf};
@@ -18,6 +18,17 @@ use numbers::RecordNumber;
 
 const NO_TARGET: u32 = 0xFFFF_FFFF;
 
+// Whether the image's block at a byte equals a cell. The first byte settles most.
+fn block_here(image: &[u8], at: usize, cell: &[u8], bytes: usize) -> bool
+    requires { ⌜ (at < length (now image)) × (at ≤ 65536) × (length (now cell) ≡ bytes) × (64 ≤ bytes) × (bytes ≤ 512) × (bytes % 64 ≡ 0) ⌝ }
+    ensures { λ r. ⌜ r ≡ sameNumbers (now (cell .entry)) (blockFrom bytes (now (image .entry)) at) ⌝ }
+{
+    if image[at] != cell[0] {
+        return false;
+    }
+    blocks::block_same(image, at, cell, bytes)
+}
+
 // The lowest block of the image that equals a cell.
 fn find_block(image: &[u8], cell: &[u8], bytes: usize) -> u32
     requires { ⌜ (length (now image) ≤ 65536) × (length (now cell) ≡ bytes) × (64 ≤ bytes) × (bytes ≤ 512) × (bytes % 64 ≡ 0) ⌝ }
@@ -27,7 +38,7 @@ fn find_block(image: &[u8], cell: &[u8], bytes: usize) -> u32
     let mut at: usize = 0;
     let mut n: usize = 0;
     while n < count {
-        if blocks::block_same(image, at, cell, bytes) {
+        if block_here(image, at, cell, bytes) {
             return n as u32;
         }
         at = at + bytes;

@@ -14,7 +14,7 @@ use Rattle.turn.proofs.find_block.Statement.{statement}
 use Rattle.turn.proofs.find_block.Tie as tie
 use Rattle.turn.proofs.find_block.Reads as reads
 use Rattle.turn.proofs.find_block.Lts as lts
-use Rattle.blocks.proofs.block_same.Reads as block-same-reads
+use Rattle.turn.proofs.block_here.Reads as block-here-reads
 use Rattle.numbers.proofs.parts_for.Reads as parts-for-reads
 
 abbrev Inv-loop : tie.InvT-loop
@@ -32,8 +32,13 @@ loop-holds : tie.Need-loop-holds Inv-loop μ-loop
 loop-holds c = (omega arith, c .parts-for .ensures, omega arith, find-start (c .before .before .before .args .bytes) (sameNumbers (now (c .before .before .before .args .cell))) (now (c .before .before .before .args .image)) _ (c .parts-for .ensures))
 
 -- src/lib.rt:30:12
-block-same-requires : tie.Need-block-same-requires Inv-loop μ-loop
-block-same-requires c κs = let p = c .before .before .before .before .before .pre in let l = c .before .loop in (omega (arith, p .0, l .inv .2, begins-in (c .before .before .before .before .before .args .bytes) (l .n) (length (now (c .before .before .before .before .before .args .image))) (omega (arith, p .2)) (omega (arith, l .inv .1, c .loop-test .taken))), p .2, p .3, p .4, p .1)
+block-here-requires : tie.Need-block-here-requires Inv-loop μ-loop
+block-here-requires c κs =
+    let a = c .before .before .before .before .before in
+    let p = a .pre in
+    let l = c .before .loop in
+    let b = begins-in (a .args .bytes) (l .n) (length (now (a .args .image))) (omega (arith, p .2)) (omega (arith, l .inv .1, c .loop-test .taken)) in
+    (omega (arith, l .inv .2, b), omega (arith, p .0, l .inv .2, b), p .1, p .2, p .3, p .4)
 
 -- src/lib.rt:31:20
 cast-result : tie.Need-cast-result Inv-loop μ-loop
@@ -41,7 +46,7 @@ cast-result c = let p = c .before .before .before .before .before .before .befor
 
 -- src/lib.rt:31:13
 returns : tie.Need-returns Inv-loop μ-loop
-returns c = let l = c .before .before .before .loop in let a = c .before .before .before .before .before .before .before .args in find-yes (a .bytes) (sameNumbers (now (a .cell))) (now (a .image)) _ (l .at) (l .n) (c .before .before .loop-test .taken) (sym (c .if1 .taken) ∙ c .before .block-same .ensures) ∙ ap targetWord (l .inv .3)
+returns c = let l = c .before .before .before .loop in let a = c .before .before .before .before .before .before .before .args in find-yes (a .bytes) (sameNumbers (now (a .cell))) (now (a .image)) _ (l .at) (l .n) (c .before .before .loop-test .taken) (sym (c .if1 .taken) ∙ c .before .block-here .ensures) ∙ ap targetWord (l .inv .3)
 
 -- src/lib.rt:33:14
 add-at : tie.Need-add-at Inv-loop μ-loop
@@ -57,7 +62,7 @@ loop-less c = search needs
 
 -- src/lib.rt:29:5
 loop-again : tie.Need-loop-again Inv-loop μ-loop
-loop-again c = let l = c .before .before .before .loop in let a = c .before .before .before .before .before .before .before .args in (omega arith, l .inv .1, omega (arith, l .inv .2, suc-mul (l .n) (a .bytes)), sym (find-no (a .bytes) (sameNumbers (now (a .cell))) (now (a .image)) _ (l .at) (l .n) (c .before .before .loop-test .taken) (sym (c .if1 .left) ∙ c .before .block-same .ensures)) ∙ l .inv .3)
+loop-again c = let l = c .before .before .before .loop in let a = c .before .before .before .before .before .before .before .args in (omega arith, l .inv .1, omega (arith, l .inv .2, suc-mul (l .n) (a .bytes)), sym (find-no (a .bytes) (sameNumbers (now (a .cell))) (now (a .image)) _ (l .at) (l .n) (c .before .before .loop-test .taken) (sym (c .if1 .left) ∙ c .before .block-here .ensures)) ∙ l .inv .3)
 
 -- src/lib.rt:22:1
 returns-2 : tie.Need-returns-2 Inv-loop μ-loop
@@ -71,7 +76,7 @@ find-block-spec =
     μ-loop
     parts-for-requires
     loop-holds
-    block-same-requires
+    block-here-requires
     cast-result
     returns
     add-at
