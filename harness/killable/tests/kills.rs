@@ -166,17 +166,26 @@ fn replaced_in_the_middle() {
     let disturbances = [
         ("cp other another; mv another s", "s: was replaced by another file while this run was at it"),
         ("rm s", "s: was removed while this run was at it"),
+        ("cp other s", "s: was changed by another program while this run was at it, and was left so"),
+        ("chmod 604 s", "s: was changed by another program"),
+        ("ln s more", "s: was changed by another program"),
     ];
     for (disturbance, words) in disturbances {
         // The draft is made in step 1; from step 2 on the store is open.
         for step in 2..=5 {
             let bench = SCENES[1].bench("replaced", step);
             bench.write("other", "somebody else's");
+            let before = bench.read("s");
             let mut command = bench.command("backup s 0 image");
             command.env("LURDEMPOS_RUN_AT", step.to_string()).env("LURDEMPOS_RUN", disturbance);
             common::Run::of(disturbance, command.output().unwrap()).fails(3, &[words, "What to do: see what is there"]);
             let found = std::fs::read(bench.path("s")).ok();
-            assert!(found.is_none() || found == Some(b"somebody else's".into()), "step {step} of {disturbance}");
+            let left = match disturbance {
+                "rm s" => None,
+                "chmod 604 s" | "ln s more" => Some(before),
+                _ => Some(b"somebody else's".to_vec()),
+            };
+            assert!(found == left, "step {step} of {disturbance}");
             assert!(bench.drafts().is_empty());
         }
     }

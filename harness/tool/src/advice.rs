@@ -106,7 +106,8 @@ impl<'a> Call<'a> {
         (here, format!("choose one that `lurdempos list {file} {till}` shows."))
     }
 
-    /// No record or no run of cells for a segment. In an empty store only the store's own measure can be the reason.
+    /// No record or no run of cells for a segment. If no cell is in use, though versions of zeros may be held or one may
+    /// just have made room, only the store's own measure can be the reason.
     fn no_room(&self, refusal: Refusal) -> (String, String) {
         let Capacities { records, cells, .. } = self.store.capacities();
         let (what, option, largest) = match refusal {
@@ -117,7 +118,7 @@ impl<'a> Call<'a> {
         };
         if self.store.tally().is_ok_and(|tally| tally.cells == 0) {
             let need = Need::of(self.image, self.store.capacities());
-            let here = format!("the store is empty, and its {what} are too few for this image alone");
+            let here = format!("even when the store is empty, this image alone takes more than its {what}");
             let advice = format!(
                 "make a store with at least `--records {} --cells {}`, which this image takes.",
                 need.records, need.cells

@@ -55,7 +55,7 @@ fn kind(takes: Takes) -> &'static str {
 /// Which word it is, and what can stand there.
 const TAIL: &str = r#"    if [[ $files == *" $before "* ]]; then
         compopt -o filenames 2> /dev/null
-        COMPREPLY=($(compgen -f -- "$word"))
+        mapfile -t COMPREPLY < <(compgen -f -- "$word")
         return
     fi
     [[ $values == *" $before "* ]] && return
@@ -67,8 +67,8 @@ const TAIL: &str = r#"    if [[ $files == *" $before "* ]]; then
         [[ ${COMP_WORDS[n]} == -?* || $values == *" ${COMP_WORDS[n-1]} "* ]] || ((place++))
     done
     case ${kinds[place]} in
-    file) compopt -o filenames 2> /dev/null; COMPREPLY=($(compgen -f -- "$word")) ;;
-    folder) compopt -o filenames 2> /dev/null; COMPREPLY=($(compgen -d -- "$word")) ;;
+    file) compopt -o filenames 2> /dev/null; mapfile -t COMPREPLY < <(compgen -f -- "$word") ;;
+    folder) compopt -o filenames 2> /dev/null; mapfile -t COMPREPLY < <(compgen -d -- "$word") ;;
     newest) COMPREPLY=($(compgen -W newest -- "$word")) ;;
     esac
 }

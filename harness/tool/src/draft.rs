@@ -16,7 +16,7 @@ use crate::reply::warn;
 use crate::steps::{phase, step};
 use crate::target::{refused_access, Target};
 use crate::{leftovers, locks, memory, Failure};
-use std::fs::{self, File, OpenOptions};
+use std::fs::{self, File, Metadata, OpenOptions};
 use std::io::{self, ErrorKind, Write};
 use std::os::unix::fs::{MetadataExt, OpenOptionsExt, PermissionsExt};
 use std::path::Path;
@@ -25,6 +25,10 @@ use std::path::Path;
 const ATTEMPTS: u32 = 100;
 /// How often one that this user may not open is: another user's run may just have made it, and will open it to others.
 const CLOSED_ATTEMPTS: u32 = 20;
+
+/// The permissions of a file that only its owner reads and writes, and those of a new file of the user's.
+pub const PRIVATE: u32 = 0o600;
+pub const USUAL: u32 = 0o666;
 
 pub struct Draft<'a> {
     target: &'a Target,
@@ -36,8 +40,8 @@ pub struct Draft<'a> {
 pub enum Over<'a> {
     /// Nothing: the file is new.
     Nothing,
-    /// The file that was opened, and no other that somebody has put there since.
-    Opened(&'a File),
+    /// The file that was opened, as it was then, and nothing that somebody has made of it or put there since.
+    Opened(&'a File, &'a Metadata),
     /// Whatever is there.
     Anything,
 }
@@ -54,12 +58,13 @@ enum Attempt<'a> {
 }
 
 impl<'a> Draft<'a> {
-    /// Makes and locks the draft, once no other run has one. While it lasts no other run replaces the target.
-    pub fn begin(target: &'a Target, patience: &Patience) -> Result<Draft<'a>, Failure> {
+    /// Makes and locks the draft, once no other run has one. While it lasts no other run replaces the target. A new file
+    /// gets these permissions from the first byte on, less those that the user takes from every new file.
+    pub fn begin(target: &'a Target, patience: &Patience, mode: u32) -> Result<Draft<'a>, Failure> {
         phase("wait for other runs");
         let (mut crossed, mut closed) = (0, 0);
         loop {
-            match Draft::attempt(target).map_err(|error| cannot_make(target, &error))? {
+            match Draft::attempt(target, mode).map_err(|error| cannot_make(target, &error))? {
                 Attempt::Made(draft) => return Ok(draft),
                 Attempt::Crossed if crossed < ATTEMPTS => crossed += 1,
                 Attempt::Crossed | Attempt::Held(_) if patience.pause() => {}
@@ -71,10 +76,10 @@ impl<'a> Draft<'a> {
         }
     }
 
-    fn attempt(target: &'a Target) -> io::Result<Attempt<'a>> {
+    fn attempt(target: &'a Target, mode: u32) -> io::Result<Attempt<'a>> {
         step()?;
         // Whoever may not read the old file may not read the new one either, from the first byte on.
-        let mode = if target.path.exists() { 0o600 } else { 0o666 };
+        let mode = if target.path.exists() { PRIVATE } else { mode & 0o777 };
         let new = || OpenOptions::new().write(true).create_new(true).mode(mode).open(&target.draft);
         match leftovers::make_draft(&target.draft, new) {
             Ok(file) => {
@@ -172,14 +177,31 @@ fn seen(target: &Target, over: Over) -> Result<(), Failure> {
     let found = fs::symlink_metadata(&target.path).ok();
     let words = match (over, found) {
         (Over::Nothing, Some(_)) => return Err(exists(&target.shown)),
-        (Over::Opened(_), None) => "was removed while this run was at it, and was not made again",
-        (Over::Opened(file), Some(found)) if !file.metadata().is_ok_and(|file| same(&file, &found)) => {
-            "was replaced by another file while this run was at it; that one was not altered"
+        (Over::Opened(..), None) => "was removed while this run was at it, and was not made again",
+        (Over::Opened(file, _), Some(found)) if !file.metadata().is_ok_and(|file| same(&file, &found)) => {
+            return Err(replaced(&target.shown));
+        }
+        (Over::Opened(_, old), Some(found)) if changed(old, &found) => {
+            "was changed by another program while this run was at it, and was left so"
         }
         _ => return Ok(()),
     };
-    let failure = Failure::file(format!("{}: {words}", shown(&target.shown)));
-    Err(failure.advising("see what is there now, then run it again."))
+    Err(look_again(&target.shown, words))
+}
+
+/// Whether a file has been written to since, or has got other rights or another name.
+fn changed(old: &Metadata, now: &Metadata) -> bool {
+    let state = |file: &Metadata| (file.len(), file.ctime(), file.ctime_nsec());
+    state(old) != state(now)
+}
+
+/// Somebody has put another file in the place of the one that was opened.
+pub fn replaced(path: &Path) -> Failure {
+    look_again(path, "was replaced by another file while this run was at it; that one was not altered")
+}
+
+fn look_again(path: &Path, words: &str) -> Failure {
+    Failure::file(format!("{}: {words}", shown(path))).advising("see what is there now, then run it again.")
 }
 
 /// A file is in the way of a new one.

@@ -38,13 +38,14 @@ pub fn name(path: &Path) -> String {
     shown(path)
 }
 
-/// Its length in words. Of one that is longer than any store takes only the beginning was read.
+/// Its length. Of one that is longer than any store takes only the beginning was read: then it is not known.
+pub fn whole_length(image: &[u8]) -> Option<usize> {
+    Some(image.len()).filter(|&length| length <= LONGEST_IMAGE as usize)
+}
+
+/// The same in words.
 pub fn length(image: &[u8]) -> String {
-    let most = LONGEST_IMAGE as usize;
-    if image.len() > most {
-        return format!("more than {most} bytes");
-    }
-    bytes(image.len())
+    whole_length(image).map_or_else(|| format!("more than {LONGEST_IMAGE} bytes"), bytes)
 }
 
 /// A version with its bytes, for programs.

@@ -28,11 +28,21 @@ pub fn busy(path: &Path, held: Option<&File>, patience: &Patience) -> Failure {
     ))
 }
 
+/// How often the system's list of locks is read. While others come and go a reading of it can miss one that stays.
+const READINGS: usize = 20;
+
 /// The process that holds a lock on this file, if the system tells.
 fn holder(file: &File) -> Option<u32> {
     let file = file.metadata().ok()?;
-    let locks = fs::read_to_string("/proc/locks").ok()?;
-    let holders = locks.lines().filter_map(|line| holder_in(line, &file));
+    holder_told(&file, || fs::read_to_string("/proc/locks").ok())
+}
+
+fn holder_told(file: &Metadata, mut read: impl FnMut() -> Option<String>) -> Option<u32> {
+    (0..READINGS).find_map(|_| holder_among(&read()?, file))
+}
+
+fn holder_among(locks: &str, file: &Metadata) -> Option<u32> {
+    let holders = locks.lines().filter_map(|line| holder_in(line, file));
     // Some file systems go by another device number here than elsewhere.
     let (_, process) = holders.max_by_key(|(same_device, _)| *same_device)?;
     Some(process)
@@ -55,4 +65,23 @@ fn device_name(device: u64) -> String {
     let major = device >> 8 & 0xfff | device >> 32 & !0xfff;
     let minor = device & 0xff | device >> 12 & !0xff;
     format!("{major:02x}:{minor:02x}")
+}
+
+#[cfg(test)]
+mod tests {
+    use super::{device_name, holder_told};
+    use std::fs;
+    use std::os::unix::fs::MetadataExt;
+
+    #[test]
+    fn a_lock_that_a_reading_misses() {
+        let file = fs::metadata(env!("CARGO_MANIFEST_DIR")).unwrap();
+        let lock = |id: u32, device: &str| format!("1: FLOCK  ADVISORY  WRITE {id} {device}:{} 0 EOF\n", file.ino());
+        let (own, other) = (lock(4711, &device_name(file.dev())), lock(4712, "ff:ff"));
+        let waiting = "1: -> FLOCK  ADVISORY  WRITE 7 08:01:9 0 EOF\n1: POSIX  ADVISORY  WRITE 8 08:01:9 0 EOF\n";
+        let mut readings = [String::new(), waiting.into(), format!("{other}{own}{waiting}")].into_iter();
+        assert_eq!(holder_told(&file, || readings.next()), Some(4711));
+        assert_eq!(holder_told(&file, || Some(other.clone())), Some(4712));
+        assert_eq!(holder_told(&file, || None), None);
+    }
 }

@@ -9,12 +9,15 @@ use std::sync::atomic::{AtomicBool, AtomicPtr, Ordering};
 /// The system's allocator, for a program's `#[global_allocator]`.
 pub struct Careful;
 
-/// Given back when there is no more, so that there is a little for the last things to be done.
-const RESERVE: Layout = Layout::new::<[u8; 65_536]>();
+/// Given back when there is no more, so that there is a little for the last things to be done. So much is a mapping of
+/// its own, and goes back to the system: a thread that could get no heap of its own can use it too.
+const RESERVE: Layout = Layout::new::<[u8; 524_288]>();
 static RESERVED: AtomicPtr<u8> = AtomicPtr::new(null_mut());
 
 /// Whether the file has been replaced already.
 static CHANGED: AtomicBool = AtomicBool::new(false);
+/// Whether files are only replaced in a play.
+static PLAYED: AtomicBool = AtomicBool::new(false);
 
 /// To be called once, at the start.
 pub fn reserve() {
@@ -25,6 +28,11 @@ pub fn reserve() {
 /// From now on the change is made.
 pub fn changed() {
     CHANGED.store(true, Ordering::Relaxed);
+}
+
+/// From now on no change counts: what the run makes, it removes again.
+pub fn played() {
+    PLAYED.store(true, Ordering::Relaxed);
 }
 
 // SAFETY: all is the system's allocator's, but that memory which cannot be had ends the process.
@@ -65,7 +73,7 @@ fn end() -> ! {
         unsafe { System.dealloc(reserved, RESERVE) };
         leftovers::remove_what_one_can();
     }
-    let (words, status) = match CHANGED.load(Ordering::Relaxed) {
+    let (words, status) = match CHANGED.load(Ordering::Relaxed) && !PLAYED.load(Ordering::Relaxed) {
         true => ("lurdempos: the change is made, but there was not enough memory for the reply\n", 0),
         false => ("lurdempos: there is not enough memory; nothing was altered\n", 3),
     };

@@ -9,7 +9,7 @@ pub fn found(bytes: &[u8]) -> Option<(Parts, Capacities)> {
 }
 
 /// The parts as the head tells them, and the capacities in the table's header, if they fit each other.
-pub fn told(bytes: &[u8]) -> Option<(Parts, Capacities)> {
+fn told(bytes: &[u8]) -> Option<(Parts, Capacities)> {
     let parts = Parts::told(bytes).ok()?;
     let capacities = header(bytes, parts)?;
     fit(parts, capacities).then_some((parts, capacities))

@@ -1,7 +1,7 @@
 //! What is written beside the store: restored images and pictures.
 
 use crate::attributes::Attributes;
-use crate::draft::{Draft, Over};
+use crate::draft::{Draft, Over, USUAL};
 use crate::files::same;
 use crate::form;
 use crate::names::shown;
@@ -40,7 +40,7 @@ impl Output<'_> {
 
     fn replace(&self, bytes: &[u8], old: Option<&Metadata>) -> Result<(), Failure> {
         let target = Target::new_or_existing(self.path)?;
-        let draft = Draft::begin(&target, &self.patience)?;
+        let draft = Draft::begin(&target, &self.patience, self.mode.unwrap_or(USUAL))?;
         match (old, self.mode) {
             (Some(metadata), _) => {
                 let file = File::open(&target.path).ok();

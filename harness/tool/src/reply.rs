@@ -81,7 +81,8 @@ pub fn print(reply: Reply) -> Result<u8, Failure> {
     let written = match &reply.kind {
         Kind::Data(stream, bytes) => stream.put(bytes),
         Kind::Done | Kind::Text if quiet => Ok(()),
-        _ => write(text.as_bytes()),
+        Kind::Done | Kind::Text => write(text.as_bytes()),
+        Kind::Document => Stream::OUT.put(text.as_bytes()),
     };
     match (written, reply.kind) {
         (Ok(()), _) => Ok(reply.status),

@@ -3,7 +3,7 @@
 //! of the table and cells, lies in a piece whose checksum holds.
 
 use crate::form::{number, Parts};
-use crate::table::{Layout, Pointer, Position, MASK_WORDS, SLOT_WORDS};
+use crate::table::{Layout, Pointer, Position, HEADER_WORDS, MASK_WORDS, SLOT_WORDS};
 use crate::{outline, ranges};
 use lurdempos::{Capacities, LAST_NUMBER};
 use std::ops::Range;
@@ -219,11 +219,11 @@ impl<'a> Wreck<'a> {
             && self.word(slot + 1) == Some(length as u32)
     }
 
-    /// Whether the header's piece is good; or the head is, and the header fits the lengths that it tells.
+    /// Whether the header can be relied on, and is what was found. That it fits the lengths is not enough: another one
+    /// can fit them too.
     fn capacities_hold(&self) -> bool {
         let read = outline::header(self.bytes, self.parts) == Some(self.layout.capacities);
-        let fits = || self.is_good(&Parts::HEAD) && outline::told(self.bytes).is_some();
-        read && ((0..8).all(|at| self.word_is_good(at)) || fits())
+        read && (0..HEADER_WORDS).all(|at| self.word_is_good(at))
     }
 
     fn word_at(&self, at: usize) -> Range<usize> {

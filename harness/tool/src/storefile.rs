@@ -1,7 +1,7 @@
 //! A store in its file: read, or read, changed and replaced.
 
 use crate::attributes::Attributes;
-use crate::draft::{exists, Draft, Over};
+use crate::draft::{exists, replaced, Draft, Over, PRIVATE, USUAL};
 use crate::files::means;
 use crate::form::{self, decode, encode, Content, Misfit};
 use crate::names::{quoted, shown};
@@ -10,22 +10,30 @@ use crate::steps::phase;
 use crate::target::{cannot_read, refused_access, regular, Target};
 use crate::{advice, locks, Failure};
 use lurdempos::Store;
-use std::fs::{File, Metadata, OpenOptions};
+use std::fs::{self, File, Metadata, OpenOptions};
 use std::os::unix::fs::{FileExt, MetadataExt};
 use std::path::Path;
 
 /// A store that has been read, with what its file tells besides.
 pub struct Opened {
     pub store: Store,
+    pub file: File,
     pub metadata: Metadata,
     pub has_sums: bool,
+}
+
+impl Opened {
+    /// What its file has besides its bytes.
+    pub fn attributes(&self) -> Attributes<'_> {
+        Attributes { metadata: &self.metadata, file: Some(&self.file) }
+    }
 }
 
 /// Reads a store. No lock is needed: a store's file is never written in place, so whoever has opened it reads the old
 /// store or the new one.
 pub fn open(path: &Path) -> Result<Opened, Failure> {
     let (file, metadata) = open_file(path)?;
-    sound_store(path, &file, metadata)
+    sound_store(path, file, metadata)
 }
 
 /// The store alone.
@@ -53,19 +61,21 @@ pub struct Change<'a> {
     draft: Draft<'a>,
     // Locked too.
     file: File,
+    /// As the file was when it was read.
+    metadata: Metadata,
 }
 
 impl<'a> Change<'a> {
     /// Locks and reads a store.
     pub fn begin(target: &'a Target, patience: &Patience) -> Result<Change<'a>, Failure> {
-        let draft = Draft::begin(target, patience)?;
+        let draft = Draft::begin(target, patience, PRIVATE)?;
         let (file, metadata) = lock(target, &draft, patience)?;
         if metadata.nlink() > 1 {
             return Err(several_names(&target.shown, metadata.nlink()));
         }
-        let store = sound_store(&target.shown, &file, metadata)?.store;
+        let Opened { store, file, metadata, .. } = sound_store(&target.shown, file, metadata)?;
         phase("make the call");
-        Ok(Change { store, draft, file })
+        Ok(Change { store, draft, file, metadata })
     }
 
     /// Puts the changed store in the old one's place.
@@ -73,7 +83,7 @@ impl<'a> Change<'a> {
         let (pool, table) = self.store.into_parts();
         phase("put the file together");
         let bytes = encode(pool, &table);
-        self.draft.replace(&bytes, Over::Opened(&self.file))
+        self.draft.replace(&bytes, Over::Opened(&self.file, &self.metadata))
     }
 }
 
@@ -86,15 +96,21 @@ fn lock(target: &Target, draft: &Draft, patience: &Patience) -> Result<(File, Me
     loop {
         // For writing too, though nothing is written here: so a file that is write-protected is left alone.
         let file = OpenOptions::new().read(true).write(true).open(&target.path).map_err(failed)?;
-        let metadata = file.metadata().map_err(failed)?;
-        draft.take_after(Attributes { metadata: &metadata, file: Some(&file) })?;
+        draft.take_after(Attributes { metadata: &file.metadata().map_err(failed)?, file: Some(&file) })?;
         while !locks::lock(&file).map_err(failed)? {
             if !patience.pause() {
                 return Err(locks::busy(&target.shown, Some(&file), patience));
             }
         }
+        let metadata = file.metadata().map_err(failed)?;
         if means(&target.path, &file).map_err(failed)? {
+            // Somebody may have given it other rights while this run has waited.
+            draft.take_after(Attributes { metadata: &metadata, file: Some(&file) })?;
             return Ok((file, metadata));
+        }
+        // Another file has its name now; if that is a link, it is not for this run to say where it will lead.
+        if !patience.pause() || fs::symlink_metadata(&target.path).is_ok_and(|found| found.is_symlink()) {
+            return Err(replaced(&target.shown));
         }
     }
 }
@@ -108,11 +124,14 @@ fn several_names(path: &Path, names: u64) -> Failure {
     ))
 }
 
-/// Writes a store to a file that is not there yet.
-pub fn create(path: &Path, store: Store, patience: &Patience) -> Result<(), Failure> {
+/// Writes a store to a file that is not there yet; one that is made from another has its rights.
+pub fn create(path: &Path, store: Store, patience: &Patience, like: Option<Attributes>) -> Result<(), Failure> {
     refuse_existing(path)?;
     let target = Target::new_or_existing(path)?;
-    let draft = Draft::begin(&target, patience)?;
+    let draft = Draft::begin(&target, patience, if like.is_some() { PRIVATE } else { USUAL })?;
+    if let Some(old) = like {
+        draft.take_after(old)?;
+    }
     let (pool, table) = store.into_parts();
     draft.replace(&encode(pool, &table), Over::Nothing)
 }
@@ -125,14 +144,14 @@ pub fn refuse_existing(path: &Path) -> Result<(), Failure> {
     }
 }
 
-fn sound_store(path: &Path, file: &File, metadata: Metadata) -> Result<Opened, Failure> {
+fn sound_store(path: &Path, file: File, metadata: Metadata) -> Result<Opened, Failure> {
     phase("read the file");
-    let bytes = contents(path, file, &metadata)?;
+    let bytes = contents(path, &file, &metadata)?;
     phase("test the checksums");
     let Content { parts, pool, table } = decode(bytes).map_err(|misfit| not_a_store(path, &misfit))?;
     phase("check that the store is sound");
     let store = Store::from_parts(pool, table).map_err(|refusal| advice::unsound(refusal, path))?;
-    Ok(Opened { store, metadata, has_sums: parts.has_sums() })
+    Ok(Opened { store, file, metadata, has_sums: parts.has_sums() })
 }
 
 fn not_a_store(path: &Path, misfit: &Misfit) -> Failure {

@@ -19,6 +19,7 @@ const LINKS: usize = 40;
 pub struct Stream(RawFd);
 
 impl Stream {
+    const IN: Stream = Stream(0);
     pub const OUT: Stream = Stream(1);
     const ERROR: Stream = Stream(2);
 
@@ -27,11 +28,12 @@ impl Stream {
         if path == Path::new("-") {
             return Some(Stream::OUT);
         }
-        let descriptors = fs::canonicalize("/dev/fd").ok()?;
+        // A thread has a folder of its own for them.
+        let descriptors = ["/dev/fd", "/proc/thread-self/fd"].map(|folder| fs::canonicalize(folder).ok());
         let mut path = path.to_owned();
         for _ in 0..LINKS {
             let folder = fs::canonicalize(folder_of(&path)).ok()?;
-            if folder == descriptors {
+            if descriptors.iter().flatten().any(|descriptors| *descriptors == folder) {
                 return path.file_name()?.to_str()?.parse().ok().filter(|&number| number >= 0).map(Stream);
             }
             path = folder.join(fs::read_link(&path).ok()?);
@@ -40,10 +42,17 @@ impl Stream {
     }
 
     pub fn put(self, bytes: &[u8]) -> io::Result<()> {
-        if self == Stream::OUT && CLOSED.load(Ordering::Relaxed) {
+        if !self.was_given() {
             return Err(io::Error::other("it is closed"));
         }
         self.open()?.write_all(bytes)
+    }
+
+    /// Whether the run was started with it. A descriptor of the run's own has the flag that closes it when another program
+    /// is started, and one that was given has not.
+    fn was_given(self) -> bool {
+        let closed = STANDARD.iter().zip(&CLOSED).any(|(one, closed)| *one == self && closed.load(Ordering::Relaxed));
+        !closed && flags(self.0) & CLOSE_ON_EXEC == 0
     }
 
     /// Whether what is written here would go into this file.
@@ -88,9 +97,11 @@ pub fn error_is_muted() -> bool {
     MUTED.load(Ordering::Relaxed)
 }
 
-/// Whether standard output was closed when the process began. Rust's library puts /dev/null there before `main`, where
-/// an image would be lost unseen; so one has to look earlier.
-static CLOSED: AtomicBool = AtomicBool::new(false);
+const STANDARD: [Stream; 3] = [Stream::IN, Stream::OUT, Stream::ERROR];
+
+/// Which of these were closed when the process began. Rust's library puts /dev/null there before `main`, where an image
+/// would be lost unseen; so one has to look earlier.
+static CLOSED: [AtomicBool; 3] = [const { AtomicBool::new(false) }; 3];
 
 #[used]
 #[cfg_attr(target_os = "linux", link_section = ".init_array")]
@@ -98,11 +109,20 @@ static CLOSED: AtomicBool = AtomicBool::new(false);
 static LOOK: extern "C" fn() = look;
 
 extern "C" fn look() {
+    for (stream, closed) in STANDARD.iter().zip(&CLOSED) {
+        closed.store(flags(stream.0) == NOT_OPEN, Ordering::Relaxed);
+    }
+}
+
+const NOT_OPEN: c_int = -1;
+const CLOSE_ON_EXEC: c_int = 1;
+
+/// A descriptor's flags.
+fn flags(descriptor: RawFd) -> c_int {
     const F_GETFD: c_int = 1;
     extern "C" {
         fn fcntl(descriptor: c_int, command: c_int, ...) -> c_int;
     }
     // SAFETY: this asks for a descriptor's flags and touches no memory.
-    let flags = unsafe { fcntl(Stream::OUT.0, F_GETFD) };
-    CLOSED.store(flags == -1, Ordering::Relaxed);
+    unsafe { fcntl(descriptor, F_GETFD) }
 }

@@ -3,7 +3,8 @@
 
 use lurdempos::{Capacities, Store};
 
-const HEADER_WORDS: usize = 8;
+/// Words before the tills.
+pub const HEADER_WORDS: usize = 8;
 const TILL_WORDS: usize = 4;
 /// Words of a slot before its pointers.
 pub const SLOT_WORDS: usize = 3;

@@ -93,32 +93,46 @@ fn signals_remove_the_demos_folder() {
     }
 }
 
+/// Runs with so much memory at most, with a folder of its own for temporary files.
+fn with_memory(bench: &Bench, kib: u32, line: &str) -> (Option<i32>, String) {
+    let mut command = std::process::Command::new("sh");
+    command.args(["-c", &format!("ulimit -v {kib}; exec {} {line}", common::TOOL)]);
+    let output = command.current_dir(bench.path("")).env("TMPDIR", bench.path("tmp")).output().unwrap();
+    (output.status.code(), String::from_utf8_lossy(&output.stderr).into_owned())
+}
+
 /// Too little memory, from hardly any to almost enough: the run ends with status 3, and leaves no draft.
 #[test]
 fn no_memory() {
     let bench = Bench::new("no-memory");
     bench.run("init s").accepted();
     bench.write("image", vec![9; 33_268]);
-    let before = bench.read("s");
-    let mut met = [0, 0];
-    for kib in (4_000..60_000).step_by(1_000) {
-        let mut command = std::process::Command::new("sh");
-        command.args(["-c", &format!("ulimit -v {kib}; exec {} backup s 3 image", common::TOOL)]);
-        let output = command.current_dir(bench.path("")).output().unwrap();
-        let (status, words) = (output.status.code(), String::from_utf8_lossy(&output.stderr).into_owned());
-        assert!(bench.drafts().is_empty(), "{kib} KiB: {:?}", bench.names());
-        if status == Some(0) {
-            bench.write("s", &before);
-            met[1] += 1;
-            continue;
-        }
-        assert!(bench.read("s") == before, "{kib} KiB");
-        // With hardly any the program cannot be loaded, or Rust's own start fails; the tool has not begun then.
-        let begun = words.starts_with("lurdempos: ") && !words.contains("shared libraries");
-        assert!(status == Some(3) || !begun, "{kib} KiB: {status:?} {words}");
-        met[0] += usize::from(words == "lurdempos: there is not enough memory; nothing was altered\n");
+    std::fs::create_dir(bench.path("tmp")).unwrap();
+    for till in 0..6 {
+        bench.run(&format!("backup s {till} image")).accepted();
     }
-    assert!(met[0] > 3 && met[1] > 3, "{met:?}");
+    let before = bench.read("s");
+    for line in ["backup s 3 image", "export-all s out", "salvage s out", "grow s out", "demo"] {
+        let mut met = [0, 0];
+        for kib in (4_000..60_000).step_by(2_000) {
+            let (status, words) = with_memory(&bench, kib, line);
+            let left = (bench.drafts(), std::fs::read_dir(bench.path("tmp")).unwrap().count());
+            assert!(left == (Vec::new(), 0), "{line} with {kib} KiB: {left:?}");
+            if status == Some(0) {
+                assert_eq!(words, "", "{line} with {kib} KiB");
+                bench.write("s", &before);
+                bench.shell("rm -rf out").accepted();
+                met[1] += 1;
+                continue;
+            }
+            assert!(bench.read("s") == before && bench.names() == ["image", "s", "tmp"], "{line} with {kib} KiB");
+            // With hardly any the program cannot be loaded, or Rust's own start fails; the tool has not begun then.
+            let begun = words.starts_with("lurdempos: ") && !words.contains("shared libraries");
+            assert!(status == Some(3) || !begun, "{line} with {kib} KiB: {status:?} {words}");
+            met[0] += usize::from(words == "lurdempos: there is not enough memory; nothing was altered\n");
+        }
+        assert!(met[0] > 0 && met[1] > 3, "{line}: {met:?}");
+    }
 }
 
 /// Killed from outside, at any time.

@@ -3,6 +3,7 @@
 mod common;
 use common::{draft_of, letters, Bench};
 use std::fs::{self, File};
+use std::os::unix::fs::PermissionsExt;
 use std::thread;
 use std::time::{Duration, Instant};
 
@@ -170,24 +171,73 @@ fn replaced_while_it_runs() {
     println!("{refused} of 20 were refused");
 }
 
-/// Tills that close at the same time: all are kept, five times 16 with patience and 16 without asking for any.
+/// A link that comes to the store's place while a backup waits is left, and the backup ends.
+#[test]
+fn a_link_comes_to_its_place() {
+    let bench = Bench::with_store("link-comes");
+    bench.write("image", letters("C"));
+    let (store, before) = (File::open(bench.path("s")).unwrap(), bench.read("s"));
+    store.lock().unwrap();
+    let mut child = bench.spawn("backup s 0 image --wait 2");
+    while bench.drafts().is_empty() && child.try_wait().unwrap().is_none() {}
+    thread::sleep(Duration::from_millis(100));
+    fs::rename(bench.path("s"), bench.path("moved")).unwrap();
+    std::os::unix::fs::symlink("moved", bench.path("s")).unwrap();
+    store.unlock().unwrap();
+    let begin = Instant::now();
+    while child.try_wait().unwrap().is_none() && begin.elapsed() < Duration::from_secs(20) {
+        thread::sleep(Duration::from_millis(10));
+    }
+    let _ = child.kill();
+    let run = common::Run::of("backup", child.wait_with_output().unwrap());
+    run.fails(3, &["s: was replaced by another file while this run was at it", "What to do: see what is there now"]);
+    assert_eq!((bench.read("moved"), bench.names()), (before, vec!["image".to_string(), "moved".into(), "s".into()]));
+    assert!(fs::symlink_metadata(bench.path("s")).unwrap().is_symlink());
+    bench.run("backup s 0 image").accepted();
+}
+
+/// Rights that somebody takes away while a backup waits do not come back with it.
+#[test]
+fn rights_that_change_while_it_waits() {
+    let bench = Bench::with_store("rights");
+    bench.write("image", letters("C"));
+    let store = File::open(bench.path("s")).unwrap();
+    store.lock().unwrap();
+    let mut child = bench.spawn("backup s 0 image");
+    while bench.drafts().is_empty() && child.try_wait().unwrap().is_none() {}
+    thread::sleep(Duration::from_millis(100));
+    fs::set_permissions(bench.path("s"), fs::Permissions::from_mode(0o600)).unwrap();
+    store.unlock().unwrap();
+    common::Run::of("backup", child.wait_with_output().unwrap()).accepted();
+    assert_eq!(bench.mode("s"), 0o600);
+}
+
+/// So many backups at the same time, of 16 tills in turn: all are kept.
+fn closing_at_once(bench: &Bench, runs: usize, wait: &str) {
+    bench.run("init s").accepted();
+    let children: Vec<_> = (0..runs)
+        .map(|n| {
+            bench.write(&format!("image{n}"), format!("closing {n} ").repeat(300));
+            bench.spawn(&format!("backup s {} image{n} {wait}", n % 16))
+        })
+        .collect();
+    for child in children {
+        common::Run::of("backup", child.wait_with_output().unwrap()).accepted();
+    }
+    bench.run("tally s").accepted().says(&format!("versions  {runs:>7} held"));
+    assert!(bench.drafts().is_empty());
+}
+
+/// Tills that close at the same time, each with its own plain backup and no option.
 #[test]
 fn tills_closing_at_once() {
-    let bench = Bench::new("at-once");
-    bench.run("init s").accepted();
-    for (runs, wait) in [(80, "--wait 60"), (16, "")] {
-        let children: Vec<_> = (0..runs)
-            .map(|n| {
-                bench.write(&format!("image{n}"), format!("closing {n} ").repeat(300));
-                bench.spawn(&format!("backup s {} image{n} {wait}", n % 16))
-            })
-            .collect();
-        for child in children {
-            common::Run::of("backup", child.wait_with_output().unwrap()).accepted();
-        }
-    }
-    bench.run("tally s").accepted().says("versions       96 held");
-    assert!(bench.drafts().is_empty());
+    closing_at_once(&Bench::new("at-once"), 16, "");
+}
+
+/// Five times as many, with patience.
+#[test]
+fn many_tills_closing_at_once() {
+    closing_at_once(&Bench::new("many-at-once"), 80, "--wait 60");
 }
 
 /// Many at once that do not wait: each backup is kept or told, and none of those that are kept is lost.

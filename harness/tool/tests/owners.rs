@@ -126,6 +126,8 @@ fn a_shared_store_keeps_its_group() {
     assert_eq!(shop.state("s"), (BOB, SHOP, 0o660));
     shop.run(ALICE, "restore s 0 2 out").accepted();
     assert_eq!(shop.state("out"), (ALICE, ALICE, 0o660));
+    shop.run(ALICE, "grow s larger").accepted();
+    assert_eq!(shop.state("larger"), (ALICE, SHOP, 0o660));
 }
 
 #[test]
@@ -135,6 +137,7 @@ fn a_group_that_cannot_be_kept() {
     let before = fs::read(shop.path("s")).unwrap();
     let run = shop.run(ALICE, "backup s 0 image");
     run.fails(3, &["s: could not be written, and was not altered: its group 62002 cannot be kept", "What to do: "]);
+    shop.run(ALICE, "grow s larger").fails(3, &["larger: could not be written", "its group 62002 cannot be kept"]);
     assert_eq!((shop.state("s"), fs::read(shop.path("s")).unwrap()), ((BOB, OTHERS, 0o666), before));
     assert_eq!(shop.names(), ["image", "s", "tool"]);
 }

@@ -188,6 +188,13 @@ fn completions_for_bash() {
     assert_eq!(offered(&bench, &["lurdempos", "map", "s", "--output", "ot"]), ["other"]);
     assert_eq!(offered(&bench, &["lurdempos", "export-all", "s", ""]), ["folder"]);
     assert!(offered(&bench, &["lurdempos", "tally", "--"]).contains(&"--json".to_string()));
+    // A name stays one name.
+    bench.write("my shop * .lur", "");
+    bench.write("my *", "");
+    std::fs::create_dir(bench.path("my folder")).unwrap();
+    assert_eq!(offered(&bench, &["lurdempos", "check", "my"]), ["my *", "my folder", "my shop * .lur"]);
+    assert_eq!(offered(&bench, &["lurdempos", "map", "s", "--output", "my s"]), ["my shop * .lur"]);
+    assert_eq!(offered(&bench, &["lurdempos", "salvage", "s", "my"]), ["my folder"]);
 }
 
 /// Test hooks are in the test build alone.

@@ -159,8 +159,15 @@ fn no_room_in_an_empty_store() {
     // Two segments; a block of zeros takes nothing, and the second comes again.
     bench.write("image", letters("ABCDEFG.HIJKLMNO"));
     let advice = "`--records 2 --cells 15`, which this image takes";
-    refused(&bench, "backup cells 0 image", 16, &["the store is empty, and its 9 cells are too few", advice]);
-    refused(&bench, "backup records 0 image", 14, &["the store is empty, and its 1 segment record", advice]);
+    let alone = "even when the store is empty, this image alone takes more than its";
+    refused(&bench, "backup cells 0 image", 16, &[&format!("{alone} 9 cells."), advice]);
+    refused(&bench, "backup records 0 image", 14, &[&format!("{alone} 1 segment record."), advice]);
+    // The same if it is not empty: a version of zeros takes no cell, and one that would make room is still held.
+    bench.fed("backup cells 0 -", &letters("..")).accepted();
+    refused(&bench, "backup cells 0 image", 16, &[&format!("{alone} 9 cells."), advice]);
+    assert_eq!(bench.run("init one --tills 1 --versions 1 --blocks 16 --records 8 --cells 9").status, Some(0));
+    bench.fed("backup one 0 -", &letters("A")).accepted();
+    refused(&bench, "backup one 0 image --rotate", 16, &[&format!("{alone} 9 cells."), advice]);
     bench.run("init enough --tills 1 --blocks 16 --records 2 --cells 15");
     bench.run("backup enough 0 image").accepted();
 }

@@ -1,14 +1,14 @@
 //! What can still be traced in damaged files.
 
 mod common;
-use common::{file_of, form_1_of, kept_file, letters, Bench, Random};
+use common::{file_of, form_1_of, kept_file, letters, salvage_at_random, salvaged, Bench, Held};
 use lurdempos::{Capacities, Store};
 
 const TEXTS: [(u32, &str); 5] =
     [(0, "ABCDEFGH"), (1, "ABCDEFGHXY"), (0, "ABCDEFGZ"), (1, "AB.DEFGHXY"), (1, "QRSTUVWX.YZ")];
 
-/// Till, version and image of each version held.
-fn held() -> Vec<(u32, u32, Vec<u8>)> {
+/// Each version held.
+fn held() -> Vec<Held> {
     let mut last = [0; 2];
     let mut held = Vec::new();
     for (till, text) in TEXTS {
@@ -24,24 +24,6 @@ fn store() -> Store {
         store.backup(till, &letters(text)).unwrap();
     }
     store
-}
-
-/// What a salvage writes: the right images under plain names, and how many have another name.
-fn salvaged(bench: &Bench, folder: &str) -> (usize, usize) {
-    let (mut certain, mut others) = (0, 0);
-    for entry in std::fs::read_dir(bench.path(folder)).unwrap() {
-        let name = entry.unwrap().file_name().into_string().unwrap();
-        let right = held().into_iter().find(|(till, version, _)| name == format!("till-{till}-version-{version}.img"));
-        match right {
-            Some((.., image)) => {
-                assert!(bench.read(&format!("{folder}/{name}")) == image, "{name} is called certain, and is not");
-                certain += 1;
-            }
-            None if name == "report.txt" => {}
-            None => others += 1,
-        }
-    }
-    (certain, others)
 }
 
 #[test]
@@ -60,7 +42,7 @@ fn a_flipped_bit_in_unused_space() {
     let run = bench.run("salvage s out");
     run.accepted().says("the proof does not cover this").says("5 versions: 5 certain\n");
     run.says("till-1-version-3.img: 704 bytes, certain\n").says("the checksum of bytes 12832 to 13343 does not hold");
-    assert_eq!(salvaged(&bench, "out"), (5, 0));
+    assert_eq!(salvaged(&bench, "out", &held()), (5, 0));
     assert_eq!(bench.read("out/report.txt"), run.bytes);
     let run = bench.run("salvage old out-old");
     assert_eq!((run.status, run.err.as_str()), (Some(5), ""));
@@ -77,7 +59,7 @@ fn a_sound_store_too() {
     let store = store();
     bench.write("s", file_of(store.pool(), store.table()));
     bench.run("salvage s out").accepted().says("s: every checksum holds\n").says("5 versions: 5 certain\n");
-    assert_eq!(salvaged(&bench, "out"), (5, 0));
+    assert_eq!(salvaged(&bench, "out", &held()), (5, 0));
     bench.run("salvage s out").fails(3, &["out: exists already"]);
     bench.shell("head -c 19000000 /dev/zero >> s").accepted();
     bench.run("check s").fails(3, &["too long for a store"]);
@@ -102,7 +84,7 @@ fn doubt_is_where_the_damage_is() {
     assert_eq!(run.status, Some(5));
     run.says("till-1-version-3.doubtful.img: 704 bytes, doubtful; bytes 0 to ");
     assert!(bench.read("out/till-1-version-3.doubtful.img")[1..] == letters("QRSTUVWX.YZ")[1..]);
-    assert_eq!(salvaged(&bench, "out").0 + salvaged(&bench, "out").1, 5);
+    assert_eq!(salvaged(&bench, "out", &held()).0 + salvaged(&bench, "out", &held()).1, 5);
 }
 
 /// A pointer, a mask or a number that leads nowhere: what can be traced is there, the rest is told and is zeros.
@@ -125,50 +107,44 @@ fn what_leads_nowhere_is_told() {
 /// Damage of every kind: the tool ends in order, never alters the file, and never calls certain what is not.
 #[test]
 fn random_damage() {
-    let bench = Bench::new("salvage-random");
-    let store = store();
-    let good = file_of(store.pool(), store.table());
-    let mut random = Random(3);
+    let (bench, store) = (Bench::new("salvage-random"), store());
     let mut met = [0; 3];
-    for n in 0..150 {
-        let mut bytes = good.clone();
-        match random.below(6) {
-            0 => bytes.truncate(random.below(good.len())),
-            1 => bytes.extend([7; 9]),
-            2 => {
-                let (from, length) = (random.below(good.len()), 1 + random.below(700));
-                bytes.iter_mut().skip(from).take(length).for_each(|byte| *byte = random.next() as u8);
-            }
-            // The head and the table's header, which tell the capacities.
-            3 => {
-                let at = [random.below(32), 32 + store.pool().len() + random.below(32)][random.below(2)];
-                bytes[at] ^= 1 << random.below(8);
-            }
-            _ => (0..1 + random.below(4)).for_each(|_| {
-                let at = random.below(good.len());
-                bytes[at] ^= 1 << random.below(8);
-            }),
-        }
-        bench.write("s", &bytes);
-        let run = bench.run(&format!("salvage s out{n}"));
-        assert!(matches!(run.status, Some(0 | 3 | 5)), "{run:?}");
-        assert!(bench.read("s") == bytes);
-        if run.status != Some(3) {
-            let (certain, others) = salvaged(&bench, &format!("out{n}"));
-            let lost = run.out.contains("may be lost") || run.out.contains("no checksums");
-            assert!((run.status == Some(0)) == (others == 0 && !lost), "{run:?}");
-            // What is neither there nor told to be in doubt was not there.
-            assert!(lost || certain + others == 5, "{run:?}");
-            met[0] += certain;
-            met[1] += others;
-        } else {
+    salvage_at_random(&bench, &file_of(store.pool(), store.table()), 3, 150, |run, folder| {
+        if run.status == Some(3) {
             assert_eq!(bench.names(), ["s"], "{run:?}");
             met[2] += 1;
+            return;
         }
-        let _ = std::fs::remove_dir_all(bench.path(&format!("out{n}")));
-    }
+        let (certain, others) = salvaged(&bench, folder, &held());
+        let lost = run.out.contains("may be lost") || run.out.contains("no checksums");
+        assert!((run.status == Some(0)) == (others == 0 && !lost), "{run:?}");
+        // What is neither there nor told to be in doubt was not there.
+        assert!(lost || certain + others == 5, "{run:?}");
+        met[0] += certain;
+        met[1] += others;
+    });
     println!("{} images certain, {} not, {} files without a trace", met[0], met[1], met[2]);
     assert!(met[0] > 100 && met[1] > 30, "{met:?}");
+}
+
+/// A damaged header that fits the lengths is not the right one for that: nothing is certain then.
+#[test]
+fn a_header_that_fits_too() {
+    let bench = Bench::new("salvage-header");
+    let store = store();
+    let good = file_of(store.pool(), store.table());
+    let header = 32 + store.pool().len();
+    // 8 versions and 8 records take as many words as 4 versions and 16 records. Four bits have flipped.
+    for (versions, records) in [(4, 16), (8, 8)] {
+        let mut bytes = good.clone();
+        bytes[header + 4] = versions;
+        bytes[header + 12] = records;
+        bench.write("s", &bytes);
+        let run = bench.run(&format!("salvage s out{versions}"));
+        assert_eq!(run.status, Some(if bytes == good { 0 } else { 5 }), "{run:?}");
+        let (certain, _) = salvaged(&bench, &format!("out{versions}"), &held());
+        assert_eq!(certain, if bytes == good { 5 } else { 0 }, "{run:?}");
+    }
 }
 
 /// Versions of which nothing is left are not passed over in silence.
@@ -201,6 +177,6 @@ fn damaged_capacities_are_worked_out() {
         bench.write("s", &bytes);
         let run = bench.run(&format!("salvage s out{at}"));
         run.says("5 versions: ");
-        assert_eq!(salvaged(&bench, &format!("out{at}")), if at < 32 { (5, 0) } else { (0, 5) }, "byte {at}");
+        assert_eq!(salvaged(&bench, &format!("out{at}"), &held()), if at < 32 { (5, 0) } else { (0, 5) }, "byte {at}");
     }
 }

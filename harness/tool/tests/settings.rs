@@ -1,7 +1,7 @@
 //! Stores with other block sizes, segments and rebuild percentages than the page's: all commands go by the store's own.
 
 mod common;
-use common::{file_of, form_1_of, kept_file, Bench, Random};
+use common::{file_of, form_1_of, kept_file, salvage_at_random, salvaged, Bench, Held};
 use lurdempos::{Capacities, Store, BLOCK_BYTES, SEGMENT_BLOCKS};
 
 /// Bytes of a block, blocks of a segment, rebuild percentage: the largest with the least, the least with the largest.
@@ -34,8 +34,8 @@ const TEXTS: [(u32, &str); 7] = [
     (0, "BxDEFGHAAB"),
 ];
 
-/// Till, version and image of each version held.
-fn held(settings: [u32; 3]) -> Vec<(u32, u32, Vec<u8>)> {
+/// Each version held.
+fn held(settings: [u32; 3]) -> Vec<Held> {
     let mut last = [0; 2];
     let number = |(till, text): (u32, &str)| {
         last[till as usize] += 1;
@@ -64,7 +64,7 @@ fn bench_with_store(name: &str, settings: [u32; 3]) -> Bench {
     bench
 }
 
-fn restored(bench: &Bench, file: &str, held: &[(u32, u32, Vec<u8>)]) {
+fn restored(bench: &Bench, file: &str, held: &[Held]) {
     for (till, version, image) in held {
         let run = bench.run(&format!("restore {file} {till} {version} -"));
         assert!(run.accepted().bytes == *image, "{file}: version {version} of till {till}");
@@ -135,29 +135,12 @@ fn lists_and_maps_are_the_librarys() {
     }
 }
 
-/// What a salvage calls certain is right. Answers how many are certain, and how many are not.
-fn salvaged(bench: &Bench, folder: &str, settings: [u32; 3]) -> (usize, usize) {
-    let (mut certain, mut others) = (0, 0);
-    for entry in std::fs::read_dir(bench.path(folder)).unwrap() {
-        let name = entry.unwrap().file_name().into_string().unwrap();
-        let is = |(till, version, _): &(u32, u32, Vec<u8>)| name == format!("till-{till}-version-{version}.img");
-        match held(settings).into_iter().find(is) {
-            Some((.., image)) => {
-                assert!(bench.read(&format!("{folder}/{name}")) == image, "{name} is called certain, and is not");
-                certain += 1;
-            }
-            None => others += usize::from(name != "report.txt"),
-        }
-    }
-    (certain, others)
-}
-
 #[test]
 fn an_undamaged_file_is_salvaged() {
     for settings in SETTINGS {
         let bench = bench_with_store("whole", settings);
         bench.run("salvage s out").accepted().says("s: every checksum holds\n").says("7 versions: 7 certain\n");
-        assert_eq!(salvaged(&bench, "out", settings), (7, 0));
+        assert_eq!(salvaged(&bench, "out", &held(settings)), (7, 0));
         let store = store(settings);
         bench.write("old", form_1_of(store.pool(), store.table()));
         bench.run("salvage old out-old").says("7 versions: 7 unchecked\n");
@@ -182,7 +165,7 @@ fn a_damaged_file_is_salvaged() {
         let run = bench.run("salvage s out");
         assert_eq!(run.status, Some(5));
         run.says(&format!("till-1-version-2.doubtful.img: {} bytes, doubtful; ", 32 * block - 5));
-        let (certain, others) = salvaged(&bench, "out", settings);
+        let (certain, others) = salvaged(&bench, "out", &held(settings));
         assert!(certain > 0 && certain + others == 7, "{run:?}");
 
         let mut bytes = good.clone();
@@ -192,7 +175,7 @@ fn a_damaged_file_is_salvaged() {
         let run = bench.run("salvage s lost");
         let missing = format!("bytes {block} to {} could not be traced and are zeros", 2 * block - 1);
         run.says("till-1-version-2.incomplete.img: ").says(&missing);
-        assert_eq!(salvaged(&bench, "lost", settings).1 + salvaged(&bench, "lost", settings).0, 7);
+        assert_eq!(salvaged(&bench, "lost", &held(settings)).1 + salvaged(&bench, "lost", &held(settings)).0, 7);
     }
 }
 
@@ -210,7 +193,7 @@ fn damaged_settings_are_worked_out() {
             bytes[at] ^= 4;
             bench.write("s", &bytes);
             bench.run(&format!("salvage s out{at}")).says("7 versions: ");
-            let (certain, others) = salvaged(&bench, &format!("out{at}"), settings);
+            let (certain, others) = salvaged(&bench, &format!("out{at}"), &held(settings));
             assert_eq!(certain + others, 7, "byte {at}");
             assert!(at >= 32 || others == 0, "byte {at}");
         }
@@ -220,32 +203,13 @@ fn damaged_settings_are_worked_out() {
 #[test]
 fn random_damage() {
     for settings in SETTINGS {
-        let bench = Bench::new(&format!("settings-random-{}", settings[0]));
-        let store = store(settings);
-        let good = file_of(store.pool(), store.table());
-        let mut random = Random(6);
+        let (bench, store) = (Bench::new(&format!("settings-random-{}", settings[0])), store(settings));
         let mut met = 0;
-        for n in 0..40 {
-            let mut bytes = good.clone();
-            match random.below(3) {
-                0 => bytes.truncate(random.below(good.len())),
-                1 => {
-                    let (from, length) = (random.below(good.len()), 1 + random.below(700));
-                    bytes.iter_mut().skip(from).take(length).for_each(|byte| *byte = random.next() as u8);
-                }
-                _ => (0..1 + random.below(4)).for_each(|_| {
-                    let at = random.below(good.len());
-                    bytes[at] ^= 1 << random.below(8);
-                }),
-            }
-            bench.write("s", &bytes);
-            let run = bench.run(&format!("salvage s out{n}"));
-            assert!(matches!(run.status, Some(0 | 3 | 5)), "{run:?}");
-            assert!(bench.read("s") == bytes);
+        salvage_at_random(&bench, &file_of(store.pool(), store.table()), 6, 40, |run, folder| {
             if run.status != Some(3) {
-                met += salvaged(&bench, &format!("out{n}"), settings).0;
+                met += salvaged(&bench, folder, &held(settings)).0;
             }
-        }
+        });
         assert!(met > 20, "{met}");
     }
 }

@@ -3,6 +3,7 @@
 mod common;
 use common::{file_of, letters, Bench};
 use lurdempos::{Capacities, Store};
+use std::os::unix::fs::PermissionsExt;
 
 /// A store whose till 0 holds four versions, as many as it can.
 fn full(name: &str) -> Bench {
@@ -83,6 +84,11 @@ fn exact_lengths_and_unchanged_images() {
         .fails(3, &["image: has 128 bytes, --bytes asks for 129; it was not kept"]);
     bench.fed("backup s 0 - --bytes 1", b"").fails(3, &["standard input: has 0 bytes, --bytes asks for 1"]);
     bench.fed("backup s 0 - --bytes 2", b"1").fails(3, &["has 1 byte, "]);
+    bench
+        .fed("backup s 0 - --bytes 65536", &[1; 70_000])
+        .fails(3, &["has more than 65536 bytes, --bytes asks for 65536"]);
+    // An image that no store takes may have the length that was asked for.
+    bench.fed("backup s 0 - --bytes 70000", &[1; 70_000]).fails(1, &["refused, 4"]);
     assert_eq!(bench.read("s"), before);
     bench.run("backup s 0 image --bytes=128").accepted();
     let before = bench.read("s");
@@ -130,6 +136,8 @@ fn comparisons() {
     other.says("version 1 with 512 bytes and standard input with 448 bytes differ, first at byte 448");
     assert_eq!(bench.run("verify s 0 2 v1").status, Some(5));
     bench.fed("verify s 0 1 -", &[65; 70_000]).says("more than 65536 bytes");
+    bench.fed("verify s 0 1 - --json", &[65; 65_536]).says("\"image_bytes\": 65536,");
+    bench.fed("verify s 0 1 - --json", &[65; 65_537]).says("\"image_bytes\": null,");
     bench.run("verify s 0 7 v1").fails(1, &["refused, 15"]);
     bench.run("verify s 0 1 none").fails(3, &["none: cannot be read"]);
 
@@ -194,6 +202,12 @@ fn growing() {
     bench.run("grow s wide --tills 16 --versions 64 --image-bytes 65536 --records 100 --cells 2000").accepted();
     bench.run("check wide").accepted().says("16 tills x 64 versions of up to 65536 bytes, 100 records, 2000 cells");
     bench.run("grow s larger").fails(3, &["larger: exists already"]);
+    // The new store is for the same eyes.
+    for mode in [0o600, 0o640, 0o664] {
+        std::fs::set_permissions(bench.path("s"), std::fs::Permissions::from_mode(mode)).unwrap();
+        bench.shell(&format!("umask 022; lurdempos grow s mode{mode}")).accepted();
+        assert_eq!(bench.mode(&format!("mode{mode}")), mode);
+    }
     bench.run("grow s less --records 7").fails(2, &["NEW would have 7 records, OLD has 8"]);
     bench.run("grow s more --cells 40000").fails(1, &["refused, 1", "--cells 40000, but 1 to 32768"]);
     assert_eq!((bench.read("s"), bench.drafts().len()), (before, 0));

@@ -111,11 +111,34 @@ fn descriptors_by_their_names() {
     assert_eq!(run.accepted().out, "");
     assert!(bench.read("log") == [b"before\n", &image[..], &image[..]].concat());
     bench.shell("lurdempos restore s 0 1 /dev/fd/9 9>&-").fails(3, &["descriptor 9 could not be written"]);
+    bench.write("log", "before\n");
+    bench.shell("lurdempos restore s 0 1 /proc/thread-self/fd/1 >> log").accepted();
+    assert!(bench.read("log") == [b"before\n", &image[..]].concat());
+    for name in ["/dev/fd/3", "/dev/stderr"] {
+        let run = bench.shell(&format!("lurdempos map s --output {name} --json 3> /dev/null"));
+        run.fails(2, &["--json answers in the place of a picture that goes to a stream", "Usage: lurdempos map"]);
+    }
     let picture = bench.run("map s").accepted().bytes.clone();
     bench.write("log", "before\n");
     bench.shell("lurdempos map s --output /dev/stdout >> log").accepted();
     assert!(bench.read("log") == [b"before\n", &picture[..]].concat());
     assert_eq!(bench.names(), ["link", "log", "s"]);
+}
+
+/// Descriptors that the tool has for itself, or that were closed when it began, are not for images.
+#[test]
+fn descriptors_that_were_not_given() {
+    let bench = Bench::with_store("not-given");
+    // Written to where signals are noted this would end the run by signal 15.
+    bench.fed("backup s 0 -", &[15; 64]).accepted();
+    for number in 3..10 {
+        let words = format!("descriptor {number} could not be written: it is closed");
+        bench.run(&format!("restore s 0 1 /dev/fd/{number}")).fails(3, &[&words]);
+        bench.run(&format!("map s --output /dev/fd/{number}")).fails(3, &[&words]);
+    }
+    bench.shell("lurdempos restore s 0 1 /dev/fd/0 <&-").fails(3, &["descriptor 0 could not be written: it is closed"]);
+    assert_eq!(bench.shell("lurdempos restore s 0 1 /dev/stderr 2>&-").status, Some(3));
+    assert_eq!(bench.names(), ["s"]);
 }
 
 /// An image that nobody gets is an error, and so is one that would go into the store.
@@ -124,6 +147,9 @@ fn closed_or_the_store_itself() {
     let (bench, _) = with_version("closed-output");
     for name in ["-", "/dev/stdout", "/dev/fd/1"] {
         bench.shell(&format!("lurdempos restore s 0 1 {name} >&-")).fails(3, &["standard output could not be written"]);
+    }
+    for line in ["map s", "map s --output /dev/stdout", "map s --json", "--manual", "--completions", "--help"] {
+        bench.shell(&format!("lurdempos {line} >&-")).fails(3, &["standard output could not be written: it is closed"]);
     }
     bench.write("image", "x");
     let before = bench.read("s");

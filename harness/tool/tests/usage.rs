@@ -174,6 +174,10 @@ fn names_in_messages() {
     missing.fails(3, &[r"\x1b]0;title\x07: cannot be read"]);
     let unknown = said(&["\u{1b}c"]);
     unknown.fails(2, &[r"there is no command `\x1bc`"]);
+    let turned = said(&["check", "\u{202e}rul.pohs"]);
+    turned.fails(3, &[r"\xe2\x80\xaerul.pohs: cannot be read"]);
+    std::fs::copy(bench.path("s"), bench.path("back\\n\n")).unwrap();
+    said(&["retire", "back\\n\n", "0", "2"]).fails(1, &[r"`lurdempos retire $'back\\n\x0a' 0 1`"]);
     for run in [refused, checked, missing, unknown] {
         assert!(!run.err.contains('\u{1b}') && !run.out.contains('\u{1b}'), "{run:?}");
     }

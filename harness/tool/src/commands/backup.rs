@@ -11,7 +11,7 @@ use crate::syntax::{Argument, Command, Opt, Takes, DRY_RUN, FILE, TILL, WAIT};
 use crate::target::Target;
 use crate::words::bytes;
 use crate::{image, Failure};
-use lurdempos::{Refusal, Store};
+use lurdempos::{Refusal, Store, LONGEST_IMAGE};
 use std::path::Path;
 
 pub static COMMAND: Command = Command {
@@ -132,7 +132,8 @@ impl Asked<'_> {
 fn refuse_length(arguments: &Arguments, image: &[u8]) -> Result<(), Failure> {
     let path = arguments.path(2)?;
     match arguments.option_number("--bytes")? {
-        Some(asked) if asked as usize != image.len() => {
+        // Of an image that no store takes hardly more was read than a store takes; the store refuses it.
+        Some(asked) if asked.min(LONGEST_IMAGE + 1) as usize != image.len() => {
             let (path, length) = (image::name(path), image::length(image));
             let failure = Failure::file(format!("{path}: has {length}, --bytes asks for {asked}; it was not kept"));
             Err(failure.advising("see that the image came over whole, and is this till's."))

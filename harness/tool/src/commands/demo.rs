@@ -7,7 +7,7 @@ use crate::json::Json;
 use crate::reply::Reply;
 use crate::syntax::Command;
 use crate::words::grouped;
-use crate::{leftovers, storefile, table, Failure};
+use crate::{leftovers, memory, storefile, table, Failure};
 use lurdempos::BASE;
 use std::ffi::OsString;
 use std::fs;
@@ -29,6 +29,7 @@ const STORE: &str = "bakery.lur";
 const DAYS: [&str; 6] = ["Monday", "Tuesday", "Wednesday", "Thursday", "Friday", "Saturday"];
 
 fn run(_: &Arguments) -> Result<Reply, Failure> {
+    memory::played();
     let _folder = Folder::enter()?;
     let tills = ["counter", "cafe", "van"].map(|name| (name, Till::new(name)));
     let mut play = Play { text: String::new(), tills, days: Vec::new() };

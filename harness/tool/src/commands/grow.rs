@@ -21,8 +21,9 @@ pub static COMMAND: Command = Command {
     about: "carry a store into a new, larger one",
     help: "
 Every version of OLD is backed up into NEW under its own number, the oldest first, and compared at the end.
-OLD is not altered; NEW must not exist yet. A capacity or setting that no option gives is OLD's; without any
-option the records and the cells are doubled, as far as a store can have them.
+OLD is not altered; NEW must not exist yet, and gets the group and permissions of OLD. A capacity or setting
+that no option gives is OLD's; without any option the records and the cells are doubled, as far as a store
+can have them.
 ",
     run,
 };
@@ -30,21 +31,22 @@ option the records and the cells are doubled, as far as a store can have them.
 fn run(arguments: &Arguments) -> Result<Reply, Failure> {
     let (old_path, new_path) = (arguments.store()?, arguments.place(1)?);
     let patience = Patience::asked(arguments)?;
-    let old = storefile::read(old_path)?;
+    let opened = storefile::open(old_path)?;
+    let old = &opened.store;
     storefile::refuse_existing(new_path)?;
     let capacities = larger(arguments, old.capacities())?;
     let mut new = empty_store(arguments, capacities)?;
-    let order = order(&old);
+    let order = order(old);
     for &(till, version) in &order {
         new = numbered(new_path, new, till, version)?;
-        let (_, image) = Call::of_till(old_path, &old, till).image_of(Named::Number(version))?;
+        let (_, image) = Call::of_till(old_path, old, till).image_of(Named::Number(version))?;
         if let Err(refusal) = new.backup(till, &image) {
             return Err(Call { file: old_path, store: &new, till, version, image: &image }.refused(refusal));
         }
     }
-    new = last_numbers(new_path, &old, new)?;
-    compared(&old, &new, &order)?;
-    storefile::create(new_path, new, &patience)?;
+    new = last_numbers(new_path, old, new)?;
+    compared(old, &new, &order)?;
+    storefile::create(new_path, new, &patience, Some(opened.attributes()))?;
     let versions = counted(order.len() as u64, "version");
     let text = format!("{}: {versions} of {}, {}\n", shown(new_path), shown(old_path), described(capacities));
     let fields = Json::object([

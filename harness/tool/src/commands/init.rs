@@ -35,7 +35,7 @@ fn run(arguments: &Arguments) -> Result<Reply, Failure> {
     let patience = Patience::asked(arguments)?;
     let capacities = asked(arguments, DEFAULTS)?;
     let store = capacities::empty_store(arguments, capacities)?;
-    storefile::create(file, store, &patience)?;
+    storefile::create(file, store, &patience, None)?;
     warn_if_small(file, capacities);
     let fields = Json::object([("file", file.into()), ("capacities", capacities::fields(capacities))]);
     Ok(Reply::done(format!("{}: an empty store, {}\n", shown(file), described(capacities)), fields))

@@ -34,6 +34,11 @@ fn run(arguments: &Arguments) -> Result<Reply, Failure> {
         return Err(arguments.wrong("option --output needs a file"));
     }
     let stream = to.map_or(Some(Stream::OUT), Stream::named);
+    if arguments.has("--json") && stream.is_some_and(|stream| stream != Stream::OUT) {
+        return Err(
+            arguments.wrong("--json answers in the place of a picture that goes to a stream; name a file for it")
+        );
+    }
     if let Some(to) = to {
         output::apart(file, to)?;
     }

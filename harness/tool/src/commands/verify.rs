@@ -42,7 +42,7 @@ fn run(arguments: &Arguments) -> Result<Reply, Failure> {
         ("till", till.into()),
         ("version", version.into()),
         ("bytes", kept.len().into()),
-        ("image_bytes", given.len().into()),
+        ("image_bytes", image::whole_length(&given).map_or(Json::Null, Json::from)),
         ("same", first.is_none().into()),
         ("first_difference", first.map_or(Json::Null, Json::from)),
     ]);

@@ -191,6 +191,70 @@ pub fn kept_file(name: &str) -> Vec<u8> {
     fs::read(Path::new(env!("CARGO_MANIFEST_DIR")).join("tests/files").join(name)).unwrap()
 }
 
+/// A version that a store holds: its till, its number and its image.
+pub type Held = (u32, u32, Vec<u8>);
+
+/// What a salvage has written to a folder: how many images it calls certain, which have to be right, and how many not.
+pub fn salvaged(bench: &Bench, folder: &str, held: &[Held]) -> (usize, usize) {
+    let (mut certain, mut others) = (0, 0);
+    for entry in fs::read_dir(bench.path(folder)).unwrap() {
+        let name = entry.unwrap().file_name().into_string().unwrap();
+        // Those that are not certain have a word for it in their name.
+        match name.split('.').count() {
+            _ if name == "report.txt" => {}
+            2 => {
+                let right = held.iter().find(|(till, version, _)| name == format!("till-{till}-version-{version}.img"));
+                let image = right.map(|(.., image)| image);
+                let found = bench.read(&format!("{folder}/{name}"));
+                assert!(image == Some(&found), "{name} is called certain, and is not");
+                certain += 1;
+            }
+            _ => others += 1,
+        }
+    }
+    (certain, others)
+}
+
+/// Damages a store's file in one way after the other and salvages it: the run ends in order, and never alters the file.
+/// `look` gets each run and the folder that it was to make.
+pub fn salvage_at_random(bench: &Bench, good: &[u8], seed: u64, rounds: usize, mut look: impl FnMut(&Run, &str)) {
+    let mut random = Random(seed);
+    for n in 0..rounds {
+        let bytes = damaged(good, &mut random);
+        bench.write("s", &bytes);
+        let folder = format!("out{n}");
+        let run = bench.run(&format!("salvage s {folder}"));
+        assert!(matches!(run.status, Some(0 | 3 | 5)), "{run:?}");
+        assert!(bench.read("s") == bytes);
+        look(&run, &folder);
+        let _ = fs::remove_dir_all(bench.path(&folder));
+    }
+}
+
+/// A file cut, lengthened, overwritten in one part, or with a few flipped bits.
+fn damaged(good: &[u8], random: &mut Random) -> Vec<u8> {
+    let table_at = 32 + u64::from_le_bytes(good[16..24].try_into().unwrap()) as usize;
+    let mut bytes = good.to_vec();
+    match random.below(6) {
+        0 => bytes.truncate(random.below(good.len())),
+        1 => bytes.extend([7; 9]),
+        2 => {
+            let (from, length) = (random.below(good.len()), 1 + random.below(700));
+            bytes.iter_mut().skip(from).take(length).for_each(|byte| *byte = random.next() as u8);
+        }
+        // The head and the table's header, which tell the capacities.
+        3 => {
+            let at = [random.below(32), table_at + random.below(32)][random.below(2)];
+            bytes[at] ^= 1 << random.below(8);
+        }
+        _ => (0..1 + random.below(4)).for_each(|_| {
+            let at = random.below(good.len());
+            bytes[at] ^= 1 << random.below(8);
+        }),
+    }
+    bytes
+}
+
 /// Pseudo-random numbers from a seed, the same on every machine.
 pub struct Random(pub u64);
 
