@@ -14,12 +14,15 @@ use crate::names::{quoted, shown};
 use crate::patience::Patience;
 use crate::reply::warn;
 use crate::steps::{phase, step};
-use crate::target::{refused_access, Target};
+use crate::target::{cannot_make_in, refused_access, Target};
 use crate::{leftovers, locks, memory, Failure};
 use std::fs::{self, File, Metadata, OpenOptions};
 use std::io::{self, ErrorKind, Write};
 use std::os::unix::fs::{MetadataExt, OpenOptionsExt, PermissionsExt};
 use std::path::Path;
+
+/// The permission of a folder that keeps users from replacing files of others.
+const STICKY: u32 = 0o1000;
 
 /// How often a draft that other runs make and remove in the same instant is tried for.
 const ATTEMPTS: u32 = 100;
@@ -150,7 +153,7 @@ impl<'a> Draft<'a> {
             }
             fs::rename(&self.target.draft, &self.target.path)
         });
-        renamed.map_err(|error| cannot_write(self.target, &error))?;
+        renamed.map_err(|error| cannot_rename(self.target, &error))?;
         memory::changed();
         self.settled = true;
         Ok(())
@@ -250,11 +253,21 @@ fn cannot_make(target: &Target, error: &io::Error) -> Failure {
              if none of that user's runs is still at work, let that user or root remove it: `rm {draft}`.",
             found.uid()
         )),
-        Err(_) => failure.advising(format!(
-            "the folder {} may not be written by this user; ask its owner for that.",
-            quoted(&target.folder)
-        )),
+        Err(_) => cannot_make_in(&target.folder, failure),
     }
+}
+
+/// The draft could not take the file's place. In a folder with the sticky bit it can only be replaced by some.
+fn cannot_rename(target: &Target, error: &io::Error) -> Failure {
+    let failure = cannot_write(target, error);
+    let sticky = fs::metadata(&target.folder).is_ok_and(|folder| folder.mode() & STICKY != 0);
+    if error.kind() != ErrorKind::PermissionDenied || !sticky {
+        return failure;
+    }
+    failure.advising(format!(
+        "the folder {} has the sticky bit, so that only the owner of a file can replace it; let its owner do this.",
+        quoted(&target.folder)
+    ))
 }
 
 fn cannot_write(target: &Target, error: &io::Error) -> Failure {

@@ -5,7 +5,7 @@ use crate::names::{quoted, shown};
 use crate::reply::warn;
 use crate::steps::step;
 use crate::storefile::refuse_existing;
-use crate::target::{draft_name, refused_access};
+use crate::target::{cannot_make_in, draft_name, refused_access};
 use crate::{leftovers, memory, Failure};
 use std::fs::{self, DirBuilder, File, OpenOptions};
 use std::io::{self, ErrorKind, Write};
@@ -39,6 +39,7 @@ impl<'a> NewFolder<'a> {
         match made {
             Ok(()) => Ok(NewFolder { path, parent, draft, mode: mode & 0o777, settled: false }),
             Err(error) if error.kind() == ErrorKind::AlreadyExists => Err(in_the_way(path, &draft)),
+            Err(error) if error.kind() == ErrorKind::PermissionDenied => Err(cannot_make_in(&parent, failed(error))),
             Err(error) => Err(failed(error)),
         }
     }

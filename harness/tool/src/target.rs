@@ -117,6 +117,12 @@ pub fn refused_access(path: &Path, what: &str, error: &io::Error) -> Failure {
     }
 }
 
+/// Nothing can be made in this folder by this user.
+pub fn cannot_make_in(folder: &Path, failure: Failure) -> Failure {
+    let folder = quoted(folder);
+    failure.advising(format!("the folder {folder} may not be written by this user; ask its owner for that."))
+}
+
 /// The first folder on the way to a file in which this user may not look for anything.
 fn closed_folder(path: &Path) -> Option<&Path> {
     let mut folders: Vec<&Path> = path.ancestors().skip(1).filter(|folder| *folder != Path::new("")).collect();

@@ -159,24 +159,26 @@ fn a_draft_of_another_user_is_named() {
     assert_eq!(shop.names(), ["image", "s", "tool"]);
 }
 
-/// A draft has the store's group and mode from its beginning, so that one that is left hinders nobody of the group.
+/// A draft has the store's group and mode before there is a byte in it, so that one that is left hinders nobody of the
+/// group.
 #[test]
 fn the_draft_of_a_killed_run_hinders_nobody() {
     let Some(shop) = Shop::new("killed") else { return };
-    let store = fs::File::open(shop.path("s")).unwrap();
-    store.lock().unwrap();
-    let mut child = shop.command(ALICE, "backup s 0 image --wait 60").spawn().unwrap();
-    let draft = shop.path(&draft_of("s"));
-    let begin = std::time::Instant::now();
-    while !fs::metadata(&draft).is_ok_and(|draft| (draft.gid(), draft.mode() & 0o777) == (SHOP, 0o660)) {
-        assert!(begin.elapsed().as_secs() < 20, "{:?}", shop.names());
-    }
-    child.kill().unwrap();
-    child.wait().unwrap();
-    store.unlock().unwrap();
-    assert!(draft.exists());
-    shop.run(BOB, "backup s 0 image").accepted();
-    assert_eq!(shop.names(), ["image", "s", "tool"]);
+    shop.run(0, "init large").accepted();
+    shop.give("large", BOB, SHOP, 0o660);
+    let drafts = || shop.names().into_iter().filter(|name| name.starts_with("large.")).collect::<Vec<String>>();
+    let begun = |name: &String| fs::metadata(shop.path(name)).is_ok_and(|draft| draft.len() > 0);
+    // A run may come to its end before it is seen to write.
+    let killed = (0..50).any(|_| {
+        let mut child = shop.command(ALICE, "backup large 0 image").stdout(Stdio::null()).spawn().unwrap();
+        while !drafts().iter().any(begun) && child.try_wait().unwrap().is_none() {}
+        let _ = child.kill();
+        child.wait().unwrap();
+        !drafts().is_empty()
+    });
+    assert!(killed, "no run left a draft");
+    shop.run(BOB, "backup large 0 image").accepted();
+    assert_eq!(shop.names(), ["image", "large", "s", "tool"]);
 }
 
 /// Users of one group at the same time: all of their backups are kept.
@@ -211,10 +213,17 @@ fn folders_without_access_are_named() {
     shop.give("", 0, SHOP, 0o550);
     let folder = fs::canonicalize(shop.path("")).unwrap();
     let words = format!("the folder {} may not be written by this user", folder.display());
-    for line in ["backup s 0 image", "init new", "restore s 0 1 new"] {
+    for line in ["backup s 0 image", "init new", "restore s 0 1 new", "export-all s new", "salvage s new", "grow s new"]
+    {
         shop.run(ALICE, line).fails(3, &["Permission denied", &words]);
     }
     shop.run(ALICE, "list s").accepted();
+    // In a folder with the sticky bit nobody replaces what another user has.
+    shop.give("", 0, SHOP, 0o1770);
+    let words = format!("the folder {} has the sticky bit", folder.display());
+    shop.run(BOB, "backup s 0 image").fails(3, &["s: could not be written, and was not altered", &words]);
+    shop.run(ALICE, "backup s 0 image").accepted();
+    assert_eq!(shop.names(), ["closed", "image", "s", "tool"]);
 }
 
 /// What a user may not write is not replaced in a folder that the user may write.
