@@ -1,7 +1,7 @@
 //! What can still be traced in damaged files.
 
 mod common;
-use common::{file_of, form_1_of, kept_file, letters, salvage_at_random, salvaged, Bench, Held};
+use common::{file_of, form_1_of, kept_file, letters, salvage_at_random, salvage_heads, salvaged, Bench, Held};
 use lurdempos::{Capacities, Store};
 
 const TEXTS: [(u32, &str); 5] =
@@ -167,16 +167,9 @@ fn lost_versions_are_told() {
 /// One flipped bit in the head or in the table's header: the lengths tell what it was.
 #[test]
 fn damaged_capacities_are_worked_out() {
-    let bench = Bench::new("salvage-head");
-    let store = store();
-    let good = file_of(store.pool(), store.table());
-    let header = 32 + store.pool().len();
-    for at in (0..32).chain(header..header + 32) {
-        let mut bytes = good.clone();
-        bytes[at] ^= 4;
-        bench.write("s", &bytes);
-        let run = bench.run(&format!("salvage s out{at}"));
+    let (bench, store) = (Bench::new("salvage-head"), store());
+    salvage_heads(&bench, &file_of(store.pool(), store.table()), |run, folder, at| {
         run.says("5 versions: ");
-        assert_eq!(salvaged(&bench, &format!("out{at}"), &held()), if at < 32 { (5, 0) } else { (0, 5) }, "byte {at}");
-    }
+        assert_eq!(salvaged(&bench, folder, &held()), if at < 32 { (5, 0) } else { (0, 5) }, "byte {at}");
+    });
 }

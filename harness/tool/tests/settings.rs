@@ -1,7 +1,7 @@
 //! Stores with other block sizes, segments and rebuild percentages than the page's: all commands go by the store's own.
 
 mod common;
-use common::{file_of, form_1_of, kept_file, salvage_at_random, salvaged, Bench, Held};
+use common::{file_of, form_1_of, kept_file, salvage_at_random, salvage_heads, salvaged, Bench, Held};
 use lurdempos::{Capacities, Store, BLOCK_BYTES, SEGMENT_BLOCKS};
 
 /// Bytes of a block, blocks of a segment, rebuild percentage: the largest with the least, the least with the largest.
@@ -184,19 +184,13 @@ fn a_damaged_file_is_salvaged() {
 #[test]
 fn damaged_settings_are_worked_out() {
     for settings in SETTINGS {
-        let bench = Bench::new(&format!("settings-head-{}", settings[0]));
-        let store = store(settings);
-        let good = file_of(store.pool(), store.table());
-        let header = 32 + store.pool().len();
-        for at in (0..32).chain(header..header + 32) {
-            let mut bytes = good.clone();
-            bytes[at] ^= 4;
-            bench.write("s", &bytes);
-            bench.run(&format!("salvage s out{at}")).says("7 versions: ");
-            let (certain, others) = salvaged(&bench, &format!("out{at}"), &held(settings));
+        let (bench, store) = (Bench::new(&format!("settings-head-{}", settings[0])), store(settings));
+        salvage_heads(&bench, &file_of(store.pool(), store.table()), |run, folder, at| {
+            run.says("7 versions: ");
+            let (certain, others) = salvaged(&bench, folder, &held(settings));
             assert_eq!(certain + others, 7, "byte {at}");
             assert!(at >= 32 || others == 0, "byte {at}");
-        }
+        });
     }
 }
 

@@ -132,7 +132,7 @@ fn descriptors_that_were_not_given() {
     // Written to where signals are noted this would end the run by signal 15.
     bench.fed("backup s 0 -", &[15; 64]).accepted();
     for number in 3..10 {
-        let words = format!("descriptor {number} could not be written: it is closed");
+        let words = format!("descriptor {number} could not be written");
         bench.run(&format!("restore s 0 1 /dev/fd/{number}")).fails(3, &[&words]);
         bench.run(&format!("map s --output /dev/fd/{number}")).fails(3, &[&words]);
     }

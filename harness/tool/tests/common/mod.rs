@@ -231,9 +231,25 @@ pub fn salvage_at_random(bench: &Bench, good: &[u8], seed: u64, rounds: usize, m
     }
 }
 
+/// Salvages a store's file with one flipped bit in each byte of the head and of the table's header. `look` gets each run,
+/// the folder that it has made, and the byte.
+pub fn salvage_heads(bench: &Bench, good: &[u8], mut look: impl FnMut(&Run, &str, usize)) {
+    for at in (0..32).chain(table_at(good)..table_at(good) + 32) {
+        let mut bytes = good.to_vec();
+        bytes[at] ^= 4;
+        bench.write("s", &bytes);
+        let folder = format!("out{at}");
+        look(&bench.run(&format!("salvage s {folder}")), &folder, at);
+    }
+}
+
+/// Where the table begins in a store's file, as its head tells.
+fn table_at(file: &[u8]) -> usize {
+    32 + u64::from_le_bytes(file[16..24].try_into().unwrap()) as usize
+}
+
 /// A file cut, lengthened, overwritten in one part, or with a few flipped bits.
 fn damaged(good: &[u8], random: &mut Random) -> Vec<u8> {
-    let table_at = 32 + u64::from_le_bytes(good[16..24].try_into().unwrap()) as usize;
     let mut bytes = good.to_vec();
     match random.below(6) {
         0 => bytes.truncate(random.below(good.len())),
@@ -244,7 +260,7 @@ fn damaged(good: &[u8], random: &mut Random) -> Vec<u8> {
         }
         // The head and the table's header, which tell the capacities.
         3 => {
-            let at = [random.below(32), table_at + random.below(32)][random.below(2)];
+            let at = [random.below(32), table_at(good) + random.below(32)][random.below(2)];
             bytes[at] ^= 1 << random.below(8);
         }
         _ => (0..1 + random.below(4)).for_each(|_| {
