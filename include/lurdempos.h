@@ -10,7 +10,8 @@
  * overlap. A call needs less than 512 KiB of stack.
  *
  * Every answer begins with a refusal. 0 is an accepted call. A refused call
- * answers 0 in every other field and alters no buffer.
+ * answers 0 in every other field and alters no buffer; a refused turn record
+ * comes back as it was.
  *
  *    1  a capacity outside its range (lurdempos_table_length has the ranges)
  *    2  lay out: pool or table of another length than needed
@@ -24,6 +25,8 @@
  *   14  a segment to be placed finds no free record
  *   15  that version is not held
  *   16  a segment to be placed finds no run
+ *   27  a till count outside 1 to 16, a mark at or above it, or a last till at
+ *       or above it
  *
  * Link with target/staticlib/liblurdempos.a, which `rt staticlib lurdempos`
  * proves and builds.
@@ -31,6 +34,7 @@
 #ifndef LURDEMPOS_H
 #define LURDEMPOS_H
 
+#include <stdbool.h>
 #include <stddef.h>
 #include <stdint.h>
 
@@ -51,6 +55,7 @@ extern "C" {
 #define LURDEMPOS_NO_FREE_RECORD 14
 #define LURDEMPOS_NOT_HELD 15
 #define LURDEMPOS_NO_RUN 16
+#define LURDEMPOS_NO_TURN 27
 
 /* The words that a table of these capacities has. */
 struct lurdempos_table_length_answer {
@@ -97,6 +102,27 @@ struct lurdempos_tally_answer {
     uint32_t cells;
     uint32_t records;
     uint32_t counts;
+};
+
+/* A turn record: the tills present, 1 to 16; the mask of those waiting, bit t
+ * for till t; the till served last. */
+struct lurdempos_turn_record {
+    uint32_t tills;
+    uint32_t waiting;
+    uint32_t last;
+};
+
+/* Whether a till is served, and which; 0 if none is. */
+struct lurdempos_turn_answer {
+    uint32_t refusal;
+    bool served;
+    uint32_t till;
+};
+
+/* The answer of a turn, and the record after it. */
+struct lurdempos_turn_result {
+    struct lurdempos_turn_answer answer;
+    struct lurdempos_turn_record turn;
 };
 
 /* Table length, from the eight capacities that a store keeps for good:
@@ -158,6 +184,15 @@ struct lurdempos_listing_answer lurdempos_listing(
 struct lurdempos_tally_answer lurdempos_tally(
     const uint8_t *pool, size_t pool_bytes, const uint32_t *table,
     size_t table_words);
+
+/* A turn of tills that wait for one line; it has nothing to do with a store.
+ * Serves the first waiting till after the last one, round the circle, if one
+ * waits: it becomes the last and loses its mark. Otherwise the record stays.
+ * Between two turns marks of tills present may be set and taken away; if till
+ * count and last till stay as the turn before left them, a till that keeps
+ * waiting is served within as many turns as there are tills.
+ * Refusals: 27. */
+struct lurdempos_turn_result lurdempos_turn(struct lurdempos_turn_record turn);
 
 #ifdef __cplusplus
 }

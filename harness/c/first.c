@@ -1,6 +1,6 @@
 /*
- * A first image kept and restored, from C (and, since it compiles as both,
- * from C++). Prints what the calls answer; ends with status 1 at the first
+ * A first image kept and restored, and two turns on the line, from C (and,
+ * since it compiles as both, from C++). Prints what the calls answer; ends with status 1 at the first
  * answer that is not as expected.
  */
 #include "lurdempos.h"
@@ -34,6 +34,27 @@ static struct lurdempos_table_length_answer length_with(uint32_t block_bytes)
                                   REBUILD_PERCENT);
 }
 
+/* Tills 0 and 2 of three wait, and 0 was served last: 2 comes first. A mark of
+ * a till 3 is refused. */
+static int turns(void)
+{
+    struct lurdempos_turn_record record = {3, 5, 0};
+    struct lurdempos_turn_result result = lurdempos_turn(record);
+
+    if (!expect("turn", result.answer.refusal, LURDEMPOS_ACCEPTED)
+        || !result.answer.served || result.answer.till != 2
+        || result.turn.tills != 3 || result.turn.waiting != 1
+        || result.turn.last != 2)
+        return 0;
+    result.turn.waiting = 9;
+    result = lurdempos_turn(result.turn);
+    return expect("turn, a mark of a till that is not there",
+                  result.answer.refusal, LURDEMPOS_NO_TURN)
+        && !result.answer.served && result.answer.till == 0
+        && result.turn.tills == 3 && result.turn.waiting == 9
+        && result.turn.last == 2;
+}
+
 int main(void)
 {
     uint8_t image[500], output[512];
@@ -47,6 +68,8 @@ int main(void)
     struct lurdempos_retire_answer retired;
     size_t words = needed.words;
 
+    if (!turns())
+        return 1;
     memset(image, 'a', sizeof image);
     memset(output, 0xee, sizeof output);
     if (!expect("table length", needed.refusal, LURDEMPOS_ACCEPTED)

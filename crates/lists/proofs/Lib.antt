@@ -27,3 +27,5 @@ pub mod Puts
 pub mod Written
 pub mod Maps
 pub mod Apart
+pub mod Search
+pub mod Bits

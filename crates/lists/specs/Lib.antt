@@ -8,3 +8,4 @@ pub mod Upto
 pub mod Walk
 pub mod Marks
 pub mod Tells
+pub mod Search

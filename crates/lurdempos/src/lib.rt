@@ -7,8 +7,11 @@ ghost use Rattle.tills.specs.Answers.{listingAnswer};
 ghost use Rattle.restore.specs.Answers.{restoreAnswer};
 ghost use Rattle.retire.specs.Answers.{retireAnswer};
 ghost use Rattle.tally.specs.Answers.{tallyAnswer};
+ghost use Rattle.dispatcher.specs.Turns.{turnOf};
 ghost use Rattle.lurdempos.specs.Boundary.{theEight};
 use backup::BackedUp;
+use dispatcher::Stepped;
+use dispatcher::Turn;
 use layout::Capacities;
 use layout::TableLength;
 use numbers::Measures;
@@ -132,4 +135,17 @@ pub extern "C" fn lurdempos_tally(pool: &[u8], table: &[u32]) -> Tally
     ensures { λ r. ⌜ tallyAnswer r ≡ tallyOf (now (pool .entry)) (now (table .entry)) ⌝ }
 {
     store::tally(pool, table)
+}
+
+// The record comes and goes by value; between, it is kept here and lent to the dispatcher for the turn.
+#[no_mangle]
+pub extern "C" fn lurdempos_turn(turn: Turn) -> Stepped
+    ensures { λ r. ⌜ r ≡ turnOf turn ⌝ }
+{
+    let mut kept = turn;
+    let answer = dispatcher::take_turn(&mut kept);
+    Stepped {
+        answer: answer,
+        turn: kept,
+    }
 }

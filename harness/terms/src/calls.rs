@@ -1,4 +1,4 @@
-//! The seven calls with answers as bare numbers, so that one test can be put to the proved store and to the twin.
+//! The calls with answers as bare numbers, so that one test can be put to the proved store and to the twin.
 
 use crate::{Capacities, Listing, Refusal, Restored, Tally};
 
@@ -12,6 +12,9 @@ pub trait Calls {
     fn retire(&self, pool: &mut [u8], table: &mut [u32], till: u32, version: u32) -> [u32; 2];
     fn listing(&self, pool: &[u8], table: &[u32], till: u32) -> [u32; 4];
     fn tally(&self, pool: &[u8], table: &[u32]) -> [u32; 4];
+    /// A turn of a record of tills, marks of those waiting and last till, which stands apart from any store. Answers the
+    /// refusal, 1 if a till is served, that till, and the record after it.
+    fn turn(&self, record: [u32; 3]) -> [u32; 6];
 }
 
 /// An accepted answer as bare numbers.

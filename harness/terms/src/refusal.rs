@@ -18,10 +18,11 @@ pub enum Refusal {
     NoRecord = 14,
     NotHeld = 15,
     NoRun = 16,
+    NoTurn = 27,
 }
 
 impl Refusal {
-    pub const ALL: [Refusal; 12] = [
+    pub const ALL: [Refusal; 13] = [
         Refusal::Capacity,
         Refusal::Lengths,
         Refusal::NoSuchTill,
@@ -34,6 +35,7 @@ impl Refusal {
         Refusal::NoRecord,
         Refusal::NotHeld,
         Refusal::NoRun,
+        Refusal::NoTurn,
     ];
 
     /// The page's number.
@@ -61,6 +63,7 @@ impl Refusal {
             Refusal::NoRecord => "a segment to be placed in step 1 finds no free record",
             Refusal::NotHeld => "that version is not held",
             Refusal::NoRun => "a segment to be placed finds no run",
+            Refusal::NoTurn => "a till count outside 1 to 16, a mark at or above it, or a last till at or above it",
         }
     }
 }
@@ -82,7 +85,7 @@ mod tests {
         for refusal in Refusal::ALL {
             assert_eq!(Refusal::from_number(refusal.number()), Some(refusal));
         }
-        for number in [0, 6, 7, 8, 9, 17, u32::MAX] {
+        for number in [0, 6, 7, 8, 9, 17, 26, 28, u32::MAX] {
             assert_eq!(Refusal::from_number(number), None);
         }
     }

@@ -51,7 +51,7 @@ impl<'a> Call<'a> {
             Refusal::NotHeld => self.not_held(),
             Refusal::NoRecord | Refusal::NoRun => self.no_room(refusal),
             Refusal::Unsound => return unsound(refusal, self.file),
-            Refusal::Capacity | Refusal::Lengths | Refusal::ShortOutput => unforeseen(),
+            Refusal::Capacity | Refusal::Lengths | Refusal::ShortOutput | Refusal::NoTurn => unforeseen(),
         };
         Failure::refused(refusal, here, advice)
     }

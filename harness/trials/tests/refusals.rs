@@ -145,11 +145,20 @@ fn others(store: &dyn Calls) -> Vec<(u32, u32)> {
     cases
 }
 
+/// Turn 27: the till count, a mark, the last till.
+fn turns(store: &dyn Calls) -> Vec<(u32, u32)> {
+    let refused = [[0, 0, 0], [17, 0, 0], [u32::MAX, 0, 0], [3, 8, 0], [3, 1 << 31, 0], [3, 0, 3], [3, 0, u32::MAX]];
+    let accepted = [[1, 0, 0], [16, 0xffff, 15], [3, 7, 2], [3, 0, 2]];
+    let cases = refused.map(|record| (record, 27)).into_iter().chain(accepted.map(|record| (record, 0)));
+    cases.map(|(record, expected)| (store.turn(record)[0], expected)).collect()
+}
+
 #[test]
 fn every_number() {
     let mut met = numbers(capacities);
     met.extend(numbers(backups));
     met.extend(numbers(others));
+    met.extend(numbers(turns));
     let all: BTreeSet<u32> = Refusal::ALL.iter().map(|refusal| refusal.number()).chain([0]).collect();
     assert_eq!(met, all);
 }

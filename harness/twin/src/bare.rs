@@ -37,4 +37,15 @@ impl Calls for Twin {
     fn tally(&self, pool: &[u8], table: &[u32]) -> [u32; 4] {
         numbers(crate::tally(pool, table))
     }
+
+    fn turn(&self, mut record: [u32; 3]) -> [u32; 6] {
+        let [tills, waiting, last] = &mut record;
+        let [refusal, served, till] = match crate::take_turn(*tills, waiting, last) {
+            Ok(Some(till)) => [0, 1, till],
+            Ok(None) => [0; 3],
+            Err(refusal) => [refusal.number(), 0, 0],
+        };
+        let [tills, waiting, last] = record;
+        [refusal, served, till, tills, waiting, last]
+    }
 }

@@ -3,6 +3,7 @@
 
 mod bare;
 mod layout;
+mod line;
 mod place;
 mod rows;
 mod runs;
@@ -13,6 +14,7 @@ mod turn;
 
 pub use bare::Twin;
 use layout::{Layout, Place, Pointer, Record, HEADER, SLOT_HEAD, TILL_HEAD};
+pub use line::take_turn;
 use rows::Rows;
 use terms::{Capacities, Listing, Refusal, Restored, Tally, LAST_NUMBER};
 

@@ -72,4 +72,10 @@ impl Calls for Proved {
         let answer = unsafe { raw::lurdempos_tally(pool.as_ptr(), pool.len(), table.as_ptr(), table.len()) };
         [answer.refusal, answer.cells, answer.records, answer.counts]
     }
+
+    fn turn(&self, [tills, waiting, last]: [u32; 3]) -> [u32; 6] {
+        // SAFETY: no memory is lent.
+        let raw::TurnResult { answer, turn } = unsafe { raw::lurdempos_turn(raw::TurnRecord { tills, waiting, last }) };
+        [answer.refusal, answer.served as u32, answer.till, turn.tills, turn.waiting, turn.last]
+    }
 }

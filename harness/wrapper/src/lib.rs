@@ -1,9 +1,10 @@
 //! The proved till version store for Rust: [`Store`] owns its two buffers; [`Proved`] makes the calls on buffers that the
-//! caller lends. `raw` has the archive's own functions.
+//! caller lends; [`Turn`] is a dispatcher's turn record. `raw` has the archive's own functions.
 
 mod lent;
 pub mod raw;
 mod store;
+mod turn;
 
 pub use lent::Proved;
 pub use store::{table_length, Store};
@@ -11,3 +12,4 @@ pub use terms::{
     Calls, Capacities, Listing, Refusal, Restored, Tally, BASE, BLOCK, BLOCK_BYTES, LAST_NUMBER, LONGEST_IMAGE,
     SEGMENT, SEGMENT_BLOCKS,
 };
+pub use turn::Turn;

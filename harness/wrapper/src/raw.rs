@@ -60,6 +60,32 @@ pub struct TallyAnswer {
     pub counts: u32,
 }
 
+/// A turn record.
+#[repr(C)]
+#[derive(Clone, Copy, Debug, PartialEq, Eq)]
+pub struct TurnRecord {
+    pub tills: u32,
+    pub waiting: u32,
+    pub last: u32,
+}
+
+/// Of a turn.
+#[repr(C)]
+#[derive(Clone, Copy, Debug, PartialEq, Eq)]
+pub struct TurnAnswer {
+    pub refusal: u32,
+    pub served: bool,
+    pub till: u32,
+}
+
+/// The answer of a turn, and the record after it.
+#[repr(C)]
+#[derive(Clone, Copy, Debug, PartialEq, Eq)]
+pub struct TurnResult {
+    pub answer: TurnAnswer,
+    pub turn: TurnRecord,
+}
+
 extern "C" {
     pub fn lurdempos_table_length(
         tills: u32,
@@ -126,4 +152,6 @@ extern "C" {
     ) -> ListingAnswer;
 
     pub fn lurdempos_tally(pool: *const u8, pool_len: usize, table: *const u32, table_len: usize) -> TallyAnswer;
+
+    pub fn lurdempos_turn(turn: TurnRecord) -> TurnResult;
 }

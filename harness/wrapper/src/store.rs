@@ -89,7 +89,7 @@ impl Store {
 }
 
 /// The refusal of this number, or none for 0.
-fn accepted(number: u32) -> Result<(), Refusal> {
+pub(crate) fn accepted(number: u32) -> Result<(), Refusal> {
     match number {
         0 => Ok(()),
         _ => Err(Refusal::from_number(number).expect("the page has this number")),
