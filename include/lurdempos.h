@@ -21,12 +21,13 @@
  *   10  pool and table are not a sound store
  *   11  the till holds its full number of versions
  *   12  its last given number is 65,535
- *   13  retire of a held version that is not its till's oldest
  *   14  a segment to be placed finds no free record
  *   15  that version is not held
  *   16  a segment to be placed finds no run
  *   27  a till count outside 1 to 16, a mark at or above it, or a last till at
  *       or above it
+ *
+ * 13 is no longer answered: any held version can be retired.
  *
  * Link with target/staticlib/liblurdempos.a, which `rt staticlib lurdempos`
  * proves and builds.
@@ -51,7 +52,6 @@ extern "C" {
 #define LURDEMPOS_NOT_SOUND 10
 #define LURDEMPOS_TILL_FULL 11
 #define LURDEMPOS_NUMBERS_USED_UP 12
-#define LURDEMPOS_NOT_OLDEST 13
 #define LURDEMPOS_NO_FREE_RECORD 14
 #define LURDEMPOS_NOT_HELD 15
 #define LURDEMPOS_NO_RUN 16
@@ -168,9 +168,9 @@ struct lurdempos_restore_answer lurdempos_restore(
     size_t table_words, uint32_t till, uint32_t version, uint8_t *output,
     size_t output_bytes);
 
-/* Takes the till's oldest held version away. A till's only version may go;
- * numbers go on.
- * Refusals: 10, 3, 15, 13. */
+/* Takes a held version away, whichever it is. The others keep their numbers,
+ * so that those held may have gaps; numbers go on.
+ * Refusals: 10, 3, 15. */
 struct lurdempos_retire_answer lurdempos_retire(
     uint8_t *pool, size_t pool_bytes, uint32_t *table, size_t table_words,
     uint32_t till, uint32_t version);

@@ -106,6 +106,17 @@ int main(void)
     retired = lurdempos_retire(pool, sizeof pool, table, words, 1, 2);
     if (!expect("retire of 2", retired.refusal, LURDEMPOS_NOT_HELD))
         return 1;
+    backup = lurdempos_backup(pool, sizeof pool, table, words, 1, image, 400);
+    if (!expect("backup", backup.refusal, LURDEMPOS_ACCEPTED) || backup.version != 2)
+        return 1;
+    retired = lurdempos_retire(pool, sizeof pool, table, words, 1, 2);
+    if (!expect("retire of 2, the newest", retired.refusal, LURDEMPOS_ACCEPTED)
+        || retired.length != 400)
+        return 1;
+    listing = lurdempos_listing(pool, sizeof pool, table, words, 1);
+    if (!expect("listing", listing.refusal, LURDEMPOS_ACCEPTED)
+        || listing.oldest != 1 || listing.newest != 1 || listing.last != 2)
+        return 1;
     pool[0] ^= 1;
     table[0] = 17;
     tally = lurdempos_tally(pool, sizeof pool, table, words);

@@ -1,20 +1,20 @@
 -- A till's words say what the checks ask if and only if they are those of the till that they are read as, and it is sound.
-use mathlib.Core.Path.{_≡_, refl, sym, ap, ap₂, _∙_}
+use mathlib.Core.Path.{_≡_, refl, sym, ap, _∙_}
 use mathlib.Core.Bool.{Bool, true, false}
 use mathlib.Core.List.{List, [], _∷_, map}
 use Prim.Native.Nat.{ℕ, zero, suc, _+_, _-_, _*_, _/_, _≤_, _<_, min}
-use native.Mathlib.Nat.{not-suc-le-zero, le-of-suc-le-suc, zero-mul, suc-mul, sub-zero, suc-sub-suc, add-zero, mul-le-mul, mul-le-mul-right, min-eq-left, min-le-right}
-use native.Mathlib.Numerals.{one-add}
+use native.Mathlib.Nat.{not-suc-le-zero, le-of-suc-le-suc, zero-mul, suc-mul, sub-zero, suc-sub-suc, mul-le-mul, mul-le-mul-right, min-eq-left, min-le-right}
 use native.Mathlib.Omega.{arith}
-use borrow.Author.Tests.{eqb-true, eqb-false, eq-eqb, leb-true, le-leb}
+use borrow.Author.Tests.{eqb-true, eqb-false, leb-true, le-leb}
 use lib.Dec.{eqb}
 use lib.ListN.{length, getD, take, drop, length-drop, length-map}
-use lib.Seq.{drop-drop, getD-take, length-take-le}
-use Rattle.lists.specs.Lists.{counted, every, allZero, sameNumbers}
+use lib.Seq.{drop-drop, length-take-le}
+use Rattle.lists.specs.Lists.{every, rises, allZero}
 use Rattle.lists.specs.Rows.{rows, parts, fill}
 use Rattle.lists.specs.Each.{Each}
-use Rattle.lists.proofs.Tests.{cond-true, clause, all-true}
-use Rattle.lists.proofs.Each.{each-map, each-all}
+use Rattle.lists.proofs.Tests.{clause, all-true}
+use Rattle.lists.proofs.Each.{each-all, each-weaken, each-map}
+use Rattle.lists.proofs.Rises.{rises-within}
 use Rattle.lists.proofs.Same.{zeros-eq}
 use Rattle.lists.proofs.Rows.{length-rows, wide-all}
 use Rattle.lists.proofs.Cuts.{length-parts, rows-parts}
@@ -28,35 +28,32 @@ use Rattle.laws.proofs.RoundTrip.{length-version}
 use Rattle.audit_words.proofs.Pointers.{read-direct, read-indirect, read-other}
 use Rattle.audit_pointers.proofs.Slots.{pointers-count}
 use Rattle.audit_counts.proofs.Pointers.{SmallVersion, SmallTill}
-use Rattle.audit_tills.specs.Says.{SlotSays, TillSays}
+use Rattle.audit_tills.specs.Says.{numbersIn, SlotSays, TillSays}
 use Rattle.lists.proofs.Filled.{fill-back, back-fill, fill-front, rows-fixed}
 use Rattle.audit.proofs.Slots.{form-same, form-length, length-at, same-form}
 
 -- ---- slots, one after the other
 
-module _ (w : ℕ) (S : ℕ → ℕ → List ℕ → Type 0) where
-  abbrev All : ℕ → ℕ → List ℕ → Type 0
-  All n first xs = (i : ℕ) → i < n → S (n - i) (first + i) (drop (i * w) xs)
+module _ (w : ℕ) (S : ℕ → List ℕ → Type 0) where
+  abbrev All : ℕ → List ℕ → Type 0
+  All n xs = (i : ℕ) → i < n → S (n - i) (drop (i * w) xs)
 
-  all-head : (n first : ℕ) (xs : List ℕ) → All (suc n) first xs → S (suc n) first xs
-  all-head n first xs f =
-      let g : S (suc n - 0) (first + 0) (drop (0 * w) xs) = f 0 (omega arith) in
-      rw (sub-zero (suc n), add-zero first, zero-mul w) at g
+  all-head : (n : ℕ) (xs : List ℕ) → All (suc n) xs → S (suc n) xs
+  all-head n xs f =
+      let g : S (suc n - 0) (drop (0 * w) xs) = f 0 (omega arith) in
+      rw (sub-zero (suc n), zero-mul w) at g
 
   next : (i : ℕ) (xs : List ℕ) → drop (suc i * w) xs ≡ drop (i * w) (drop w xs)
   next i xs = ap (λ (m : ℕ). drop m xs) (let e : suc i * w ≡ w + i * w = omega (arith, suc-mul i w) in e) ∙ sym (drop-drop (i * w) w xs)
 
-  all-tail : (n first : ℕ) (xs : List ℕ) → All (suc n) first xs → All n (suc first) (drop w xs)
-  all-tail n first xs f i h =
-      let g : S (suc n - suc i) (first + suc i) (drop (suc i * w) xs) = f (suc i) (omega arith) in
-      let e : first + suc i ≡ suc first + i = omega arith in
-      rw (suc-sub-suc n i, e, next i xs) at g
+  all-tail : (n : ℕ) (xs : List ℕ) → All (suc n) xs → All n (drop w xs)
+  all-tail n xs f i h =
+      let g : S (suc n - suc i) (drop (suc i * w) xs) = f (suc i) (omega arith) in
+      rw (suc-sub-suc n i, next i xs) at g
 
-  all-cons : (n first : ℕ) (xs : List ℕ) → S (suc n) first xs → All n (suc first) (drop w xs) → All (suc n) first xs
-  all-cons n first xs s f zero h = rw (sub-zero (suc n), add-zero first, zero-mul w) s
-  all-cons n first xs s f (suc i) h =
-      let e : first + suc i ≡ suc first + i = omega arith in
-      rw (suc-sub-suc n i, e, next i xs) (f i (le-of-suc-le-suc h))
+  all-cons : (n : ℕ) (xs : List ℕ) → S (suc n) xs → All n (drop w xs) → All (suc n) xs
+  all-cons n xs s f zero h = rw (sub-zero (suc n), zero-mul w) s
+  all-cons n xs s f (suc i) h = rw (suc-sub-suc n i, next i xs) (f i (le-of-suc-le-suc h))
 
 -- ---- the versions of a till's slots
 
@@ -78,64 +75,62 @@ pub versions-long : (bytes b n : ℕ) (xs : List ℕ) → length (versionsIn byt
 unfolding versionsIn
 versions-long bytes b n xs = length-map (parts (3 + b) n xs) (versionIn bytes) ∙ length-parts (3 + b) n xs
 
+-- their numbers, as the words have them
+numbers-are : (bytes b n : ℕ) (xs : List ℕ) → map (λ (v : Version). v .number) (versionsIn bytes b n xs) ≡ numbersIn b n xs
+unfolding versionsIn versionIn numbersIn parts
+numbers-are bytes b zero xs = refl
+numbers-are bytes b (suc n) xs = ap (λ (ms : List ℕ). getD (take (3 + b) xs) 0 0 ∷ ms) (numbers-are bytes b n (drop (3 + b) xs))
+
 module _ (bytes : ℕ) (some : 0 < bytes) (shelf : Shelf) (b : ℕ) where
-  record Traced (n first : ℕ) (xs : List ℕ) : Type 0 where
+  record Traced (n : ℕ) (xs : List ℕ) : Type 0 where
     traceable : areTraceable bytes b shelf (versionsIn bytes b n xs) ≡ true
-    numbers : sameNumbers (map (λ (v : Version). v .number) (versionsIn bytes b n xs)) (counted (λ m. m) first n) ≡ true
     words : Each (λ r. versionToWords b (versionIn bytes r) ≡ r) (parts (3 + b) n xs)
 
   first-fits : (n : ℕ) (xs : List ℕ) → suc n * (3 + b) ≤ length xs → (length (take (3 + b) xs) ≡ 3 + b) × (n * (3 + b) ≤ length (drop (3 + b) xs))
   first-fits n xs h = (length-take-le (3 + b) xs (omega (arith, h, suc-mul n (3 + b))), omega (arith, h, suc-mul n (3 + b), length-drop (3 + b) xs))
 
-  word-is : (xs : List ℕ) → versionIn bytes (take (3 + b) xs) .number ≡ getD xs 0 0
-  unfolding versionIn
-  word-is xs = getD-take (3 + b) xs 0 0 (omega arith)
-
-  traced : (n first : ℕ) (xs : List ℕ) → n * (3 + b) ≤ length xs → All (3 + b) (SlotSays bytes shelf b) n first xs → Traced n first xs
-  unfolding areTraceable sameNumbers counted versionsIn parts
-  traced zero first xs h f = record { traceable = refl; numbers = refl; words = tt }
-  traced (suc n) first xs h f =
-      let s : SlotSays bytes shelf b (suc n) first xs = all-head (3 + b) (SlotSays bytes shelf b) n first xs f in
+  traced : (n : ℕ) (xs : List ℕ) → n * (3 + b) ≤ length xs → All (3 + b) (SlotSays bytes shelf b) n xs → Traced n xs
+  unfolding areTraceable versionsIn parts
+  traced zero xs h f = record { traceable = refl; words = tt }
+  traced (suc n) xs h f =
+      let s : SlotSays bytes shelf b (suc n) xs = all-head (3 + b) (SlotSays bytes shelf b) n xs f in
       let fit = first-fits n xs h in
       let e : suc n - 1 ≡ n = omega arith in
-      let r = traced n (suc first) (drop (3 + b) xs) (fit .1) (all-tail (3 + b) (SlotSays bytes shelf b) n first xs f) in
+      let r = traced n (drop (3 + b) xs) (fit .1) (all-tail (3 + b) (SlotSays bytes shelf b) n xs f) in
       record {
         traceable = all-true _ (form-length bytes some b (take (3 + b) xs) (fit .0) (s .form), (rw e at (s .leading), (rw e at (s .ends), (r .traceable, tt))));
-        numbers = rw (eq-eqb _ _ (word-is xs ∙ s .numbered)) (r .numbers);
         words = (form-same bytes some b (take (3 + b) xs) (fit .0) (s .form), r .words);
       }
 
-  untraced : (n first : ℕ) (xs : List ℕ) → n * (3 + b) ≤ length xs → Traced n first xs → All (3 + b) (SlotSays bytes shelf b) n first xs
-  unfolding areTraceable sameNumbers counted versionsIn parts
-  untraced zero first xs h t = λ i g. absurd (not-suc-le-zero g)
-  untraced (suc n) first xs h t =
+  untraced : (n : ℕ) (xs : List ℕ) → n * (3 + b) ≤ length xs → Traced n xs → All (3 + b) (SlotSays bytes shelf b) n xs
+  unfolding areTraceable versionsIn parts
+  untraced zero xs h t = λ i g. absurd (not-suc-le-zero g)
+  untraced (suc n) xs h t =
       let fit = first-fits n xs h in
       let e : suc n - 1 ≡ n = omega arith in
-      let m = cond-true _ _ (t .numbers) in
       let l = length-at bytes some b (take (3 + b) xs) (fit .0) (clause _ 0 (t .traceable)) in
-      all-cons (3 + b) (SlotSays bytes shelf b) n first xs
+      all-cons (3 + b) (SlotSays bytes shelf b) n xs
       (record {
-        numbered = sym (word-is xs) ∙ eqb-true _ _ (m .0);
         form = same-form bytes some b (take (3 + b) xs) (fit .0) (t .words .0) (l .1) (l .0);
         leading = rw e (clause _ 1 (t .traceable));
         ends = rw e (clause _ 2 (t .traceable));
       })
-      (untraced n (suc first) (drop (3 + b) xs) (fit .1) (record { traceable = clause _ 3 (t .traceable); numbers = m .1; words = t .words .1 }))
+      (untraced n (drop (3 + b) xs) (fit .1) (record { traceable = clause _ 3 (t .traceable); words = t .words .1 }))
 
-  smalls : bytes ≤ 512 → b ≤ 1024 → (n first : ℕ) (xs : List ℕ) → n * (3 + b) ≤ length xs → first + n ≤ kindUnit → All (3 + b) (SlotSays bytes shelf b) n first xs
+  smalls : bytes ≤ 512 → b ≤ 1024 → (n : ℕ) (xs : List ℕ) → n * (3 + b) ≤ length xs → Each (λ (m : ℕ). m ≤ 65535) (numbersIn b n xs) → All (3 + b) (SlotSays bytes shelf b) n xs
       → Each (SmallVersion b) (versionsIn bytes b n xs)
-  unfolding versionsIn parts
-  smalls hy hb zero first xs h k f = tt
-  smalls hy hb (suc n) first xs h k f =
-      let s : SlotSays bytes shelf b (suc n) first xs = all-head (3 + b) (SlotSays bytes shelf b) n first xs f in
+  unfolding versionsIn numbersIn parts
+  smalls hy hb zero xs h k f = tt
+  smalls hy hb (suc n) xs h k f =
+      let s : SlotSays bytes shelf b (suc n) xs = all-head (3 + b) (SlotSays bytes shelf b) n xs f in
       let fit = first-fits n xs h in (
         record {
-          number = omega (arith, word-is xs, s .numbered, k);
+          number = unfold versionIn in omega (arith, k .0);
           bytes = let most : bytes * b ≤ 524288 = mul-le-mul hy hb in unfold versionIn in omega (arith, s .form .most, most);
           few = rw (pointers-count bytes (take (3 + b) xs) b (fit .0)) (min-le-right (partsFor bytes (getD (take (3 + b) xs) 1 0)) b);
           pointers = fits-words bytes (take (3 + b) xs);
         },
-        smalls hy hb n (suc first) (drop (3 + b) xs) (fit .1) (omega (arith, k)) (all-tail (3 + b) (SlotSays bytes shelf b) n first xs f),
+        smalls hy hb n (drop (3 + b) xs) (fit .1) (k .1) (all-tail (3 + b) (SlotSays bytes shelf b) n xs f),
       )
 
 -- ---- a till's words
@@ -183,8 +178,8 @@ module _ (s : Shape) (some : 0 < s .measures .blockBytes) (shelf : Shelf) (row :
 
   -- the slots in use, and the others
   module _ (t : TillSays bytes shelf v b row) where
-    trace : Traced bytes some shelf b held (1 + last - held) (drop 4 row)
-    trace = traced bytes some shelf b held (1 + last - held) (drop 4 row) (slots-fit (t .few)) (t .slots)
+    trace : Traced bytes some shelf b held (drop 4 row)
+    trace = traced bytes some shelf b held (drop 4 row) (slots-fit (t .few)) (t .slots)
 
     rest-zero : allZero (drop (held * (3 + b)) (drop 4 row)) ≡ true
     rest-zero = ap allZero (drop-drop (held * (3 + b)) 4 row) ∙ t .rest
@@ -207,9 +202,6 @@ module _ (s : Shape) (some : 0 < s .measures .blockBytes) (shelf : Shelf) (row :
         ∙ ap (λ (r : List ℕ). last ∷ held ∷ getD r 0 0 ∷ getD r 1 0 ∷ drop 4 row) (sym two-zeros)
         ∙ sym apart
 
-    first-is : 1 + last - held ≡ suc last - length vs
-    first-is = ap₂ _-_ (one-add last) (sym (versions-long bytes b held (drop 4 row)))
-
     fine : isTill s shelf (tillIn bytes v b row) ≡ true
     unfolding isTill isNumbered
     fine =
@@ -218,13 +210,7 @@ module _ (s : Shape) (some : 0 < s .measures .blockBytes) (shelf : Shelf) (row :
         ∙ all-true _ (
           all-true _ (
             le-leb (length vs) v (rw n (t .few)),
-            (
-              le-leb (length vs) last (rw n (t .upto)),
-              (
-                le-leb last 65535 (t .most),
-                (ap₂ (λ (a m : ℕ). sameNumbers (map (λ (v : Version). v .number) vs) (counted (λ m. m) a m)) (sym first-is) n ∙ trace .numbers, tt),
-              ),
-            ),
+            (le-leb last 65535 (t .most), (ap (rises 0 last) (numbers-are bytes b held (drop 4 row)) ∙ t .rising, tt)),
           ),
           (trace .traceable, tt),
         )
@@ -268,31 +254,28 @@ module _ (s : Shape) (some : 0 < s .measures .blockBytes) (shelf : Shelf) (row :
     unfolding isTill
     numbered = clause _ 0 sound-is
 
-    trace-at : Traced bytes some shelf b held (1 + last - held) (drop 4 row)
-    unfolding isTill isNumbered versionsIn
+    trace-at : Traced bytes some shelf b held (drop 4 row)
+    unfolding isTill versionsIn
     trace-at = record {
       traceable = clause _ 1 sound-is;
-      numbers =
-          ap₂ (λ (a m : ℕ). sameNumbers (map (λ (v : Version). v .number) vs) (counted (λ m. m) a m)) (ap₂ _-_ (one-add last) (sym (versions-long bytes b held (drop 4 row)))) (sym (versions-long bytes b held (drop 4 row)))
-          ∙ clause _ 3 numbered;
       words = rows-fixed (versionToWords b) (versionIn bytes) (3 + b) held (drop 4 row) (each-all _ (λ r. length-version b (versionIn bytes r)) (parts (3 + b) held (drop 4 row))) (slots-fit few) front;
     }
 
-    upto : held ≤ last
-    unfolding isNumbered
-    upto = rw (versions-long bytes b held (drop 4 row)) at (leb-true (length vs) last (clause _ 1 numbered))
-
     most : last ≤ 65535
     unfolding isNumbered
-    most = leb-true last 65535 (clause _ 2 numbered)
+    most = leb-true last 65535 (clause _ 1 numbered)
+
+    rising : rises 0 last (numbersIn b held (drop 4 row)) ≡ true
+    unfolding isNumbered
+    rising = ap (rises 0 last) (sym (numbers-are bytes b held (drop 4 row))) ∙ clause _ 2 numbered
 
     pub fine-till : TillSays bytes shelf v b row
     fine-till = record {
       few = few;
-      upto = upto;
       most = most;
+      rising = rising;
       zeros = zeros-at;
-      slots = untraced bytes some shelf b held (1 + last - held) (drop 4 row) (slots-fit few) trace-at;
+      slots = untraced bytes some shelf b held (drop 4 row) (slots-fit few) trace-at;
       rest =
           ap allZero (sym (drop-drop (held * (3 + b)) 4 row))
           ∙ back-fill (v * (3 + b)) (held * (3 + b)) (drop 4 row) (ap (fill (v * (3 + b))) (sym front) ∙ filled-at);
@@ -305,9 +288,14 @@ module _ (s : Shape) (some : 0 < s .measures .blockBytes) (shelf : Shelf) (row :
         last = omega (arith, t .most);
         held = omega (arith, versions-long bytes b held (drop 4 row), t .few, hv);
         few = few-rows;
-        versions = smalls bytes some shelf b hy hb held (1 + last - held) (drop 4 row) (slots-fit (t .few)) (omega (arith, t .most, t .upto)) (t .slots);
+        versions = smalls bytes some shelf b hy hb held (drop 4 row) (slots-fit (t .few)) small-numbers (t .slots);
       })
     where
+      small-numbers : Each (λ (m : ℕ). m ≤ 65535) (numbersIn b held (drop 4 row))
+      small-numbers =
+          each-weaken (λ (m : ℕ). (0 < m) × (m ≤ last)) (λ m. m ≤ 65535) (λ m h. omega (arith, h .1, t .most)) (numbersIn b held (drop 4 row))
+          (rises-within 0 last (numbersIn b held (drop 4 row)) (t .rising))
+
       few-rows : length (rows (versionToWords b) vs) ≤ v * slotWords b
       few-rows =
           let n : length (rows (versionToWords b) vs) ≡ length vs * (3 + b) = length-rows (versionToWords b) (3 + b) vs (wide-all (versionToWords b) (3 + b) (length-version b) vs) in

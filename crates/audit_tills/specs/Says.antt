@@ -2,15 +2,20 @@
 use Prim.Native.Nat.{ℕ, _+_, _*_, _-_, _≤_, _<_}
 use mathlib.Core.Bool.{true}
 use mathlib.Core.Path.{_≡_}
-use mathlib.Core.List.{List}
+use mathlib.Core.List.{List, map}
 use lib.ListN.{getD, take, drop}
-use Rattle.lists.specs.Lists.{every, allZero}
+use Rattle.lists.specs.Lists.{every, rises, allZero}
+use Rattle.lists.specs.Rows.{parts}
 use Rattle.lists.specs.Each.{Each}
 use Rattle.model.specs.State.{Shelf}
 use Rattle.model.specs.Table.{versionIn, versionsIn}
 use Rattle.model.specs.Sound.{leads, nextPointers, endsZero}
-use Rattle.model.specs.Measures.{partsFor}
+use Rattle.model.specs.Measures.{partsFor, slotWords}
 use Rattle.audit_words.specs.Words.{PointerSays, SlotForm}
+
+-- the numbers of the first `n` slots, for images of up to `b` blocks
+unfoldable pub numbersIn : ℕ → ℕ → List ℕ → List ℕ
+numbersIn b n slots = map (λ (row : List ℕ). getD row 0 0) (parts (slotWords b) n slots)
 
 -- a slot's pointer words, for blocks of so many bytes
 abbrev pub pointerWords : ℕ → List ℕ → List ℕ
@@ -21,9 +26,8 @@ pub record SlotPoints (bytes : ℕ) (shelf : Shelf) (b count : ℕ) (slots : Lis
   pub say : Each PointerSays (pointerWords bytes (take (3 + b) slots))
   pub lead : every (leads shelf (nextPointers (versionsIn bytes b (count - 1) (drop (3 + b) slots)))) (versionIn bytes (take (3 + b) slots) .pointers) ≡ true
 
--- the first of `count` slots, of which the others are newer: its number and its words, its pointers lead, and its last block ends in zeros
-pub record SlotSays (bytes : ℕ) (shelf : Shelf) (b count number : ℕ) (slots : List ℕ) : Type 0 where
-  pub numbered : getD slots 0 0 ≡ number
+-- the first of `count` slots, of which the others are newer: its words, its pointers lead, and its last block ends in zeros
+pub record SlotSays (bytes : ℕ) (shelf : Shelf) (b count : ℕ) (slots : List ℕ) : Type 0 where
   pub form : SlotForm bytes b (take (3 + b) slots)
   pub leading : every (leads shelf (nextPointers (versionsIn bytes b (count - 1) (drop (3 + b) slots)))) (versionIn bytes (take (3 + b) slots) .pointers) ≡ true
   pub ends : endsZero bytes shelf (versionIn bytes (take (3 + b) slots)) (versionsIn bytes b (count - 1) (drop (3 + b) slots)) ≡ true
@@ -31,8 +35,8 @@ pub record SlotSays (bytes : ℕ) (shelf : Shelf) (b count number : ℕ) (slots 
 -- a till's words, for `v` versions of `b` blocks
 pub record TillSays (bytes : ℕ) (shelf : Shelf) (v b : ℕ) (row : List ℕ) : Type 0 where
   pub few : getD row 1 0 ≤ v
-  pub upto : getD row 1 0 ≤ getD row 0 0
   pub most : getD row 0 0 ≤ 65535
+  pub rising : rises 0 (getD row 0 0) (numbersIn b (getD row 1 0) (drop 4 row)) ≡ true
   pub zeros : allZero (take 2 (drop 2 row)) ≡ true
-  pub slots : (i : ℕ) → i < getD row 1 0 → SlotSays bytes shelf b (getD row 1 0 - i) (1 + getD row 0 0 - getD row 1 0 + i) (drop (i * (3 + b)) (drop 4 row))
+  pub slots : (i : ℕ) → i < getD row 1 0 → SlotSays bytes shelf b (getD row 1 0 - i) (drop (i * (3 + b)) (drop 4 row))
   pub rest : allZero (drop (4 + getD row 1 0 * (3 + b)) row) ≡ true

@@ -1,8 +1,9 @@
-// Tills: their versions' words, pointers and ends. The direct pointers are counted on the way.
+// Tills: their versions' numbers, words, pointers and ends. The direct pointers are counted on the way.
 ghost use mathlib.Core.Bool.{true, false};
 ghost use mathlib.Core.Path.{_≡_};
 ghost use Prim.Native.Nat.{ℕ, _+_, _*_, _-_, _^_, _≤_, _<_};
 ghost use lib.ListN.{length, getD, take, drop};
+ghost use Rattle.lists.specs.Lists.{rises};
 ghost use Rattle.lists.specs.Tells.{Tells};
 ghost use Rattle.model.specs.Measures.{tillWords};
 ghost use Rattle.model.specs.State.{Shelf};
@@ -10,8 +11,29 @@ ghost use Rattle.model.specs.Table.{recordsIn, shelfIn};
 ghost use Rattle.laws.specs.Ranges.{Measured};
 ghost use Rattle.numbers.specs.Measures.{measuresOf};
 ghost use Rattle.audit_counts.specs.Counters.{tallied};
-ghost use Rattle.audit_tills.specs.Says.{pointerWords, SlotPoints, SlotSays, TillSays};
+ghost use Rattle.audit_tills.specs.Says.{numbersIn, pointerWords, SlotPoints, SlotSays, TillSays};
 use numbers::Measures;
+
+// Whether the numbers of some slots rise: the first is at least 1, each other above the one before it, and none above the last given.
+fn numbers_rise(slots: &[u32], blocks: usize, count: usize, last: u32) -> bool
+    requires { ⌜ (blocks ≤ 1024) × (count ≤ 64) × (last ≤ 65535) × (count * (3 + blocks) ≤ length (now slots)) ⌝ }
+    ensures { λ r. ⌜ r ≡ rises 0 last (numbersIn blocks count (now (slots .entry))) ⌝ }
+{
+    let mut least: u32 = 1;
+    let mut i: usize = 0;
+    while i < count {
+        let number = slots[i * (3 + blocks)];
+        if number < least {
+            return false;
+        }
+        if last < number {
+            return false;
+        }
+        least = number + 1;
+        i += 1;
+    }
+    true
+}
 
 // Whether the pointer words of the first of some slots are good, of which the others are newer; whatever the cells. They are counted.
 fn slot_points(
@@ -48,24 +70,20 @@ fn slot_points(
     )
 }
 
-// Whether the first of some slots says a version of this number.
+// Whether the first of some slots, whose number is in range, says a version.
 fn slot_says(
     pool: &[u8],
     records: &[u32],
     slots: &[u32],
     blocks: usize,
     count: usize,
-    number: usize,
     counts: &mut [u32],
     m: Measures,
 ) -> bool
-    requires { ⌜ Measured (measuresOf m) × (0 < count) × (blocks ≤ 1024) × (count ≤ 64) × (count * (3 + blocks) ≤ length (now slots)) × (number ≤ 131072) × ((k : ℕ) → getD (now counts) k 0 + blocks < 2 ^ 32) ⌝ }
-    ensures { λ r. ⌜ Tells r (SlotSays (m .bytes) (shelfIn (measuresOf m) (now (pool .entry)) (now (records .entry))) blocks count number (now (slots .entry))) × (r ≡ true → now (counts .exit) ≡ tallied (take (3 + blocks) (now (slots .entry))) (now (counts .entry))) ⌝ }
+    requires { ⌜ Measured (measuresOf m) × (0 < count) × (blocks ≤ 1024) × (count ≤ 64) × (count * (3 + blocks) ≤ length (now slots)) × (getD (now slots) 0 0 ≤ 65535) × ((k : ℕ) → getD (now counts) k 0 + blocks < 2 ^ 32) ⌝ }
+    ensures { λ r. ⌜ Tells r (SlotSays (m .bytes) (shelfIn (measuresOf m) (now (pool .entry)) (now (records .entry))) blocks count (now (slots .entry))) × (r ≡ true → now (counts .exit) ≡ tallied (take (3 + blocks) (now (slots .entry))) (now (counts .entry))) ⌝ }
 {
     let width = 3 + blocks;
-    if slots[0] as usize != number {
-        return false;
-    }
     if !audit_words::slot_frame(&slots[0..width], blocks, m.bytes) {
         return false;
     }
@@ -75,33 +93,23 @@ fn slot_says(
     audit_tails::tail_zero(pool, records, slots, blocks, count, m)
 }
 
-// Whether all slots do, numbered on from the first.
+// Whether all slots do.
 fn slots_say(
     pool: &[u8],
     records: &[u32],
     slots: &[u32],
     blocks: usize,
     count: usize,
-    first: usize,
     counts: &mut [u32],
     m: Measures,
 ) -> bool
-    requires { ⌜ Measured (measuresOf m) × (first ≤ 65536) × (blocks ≤ 1024) × (count ≤ 64) × (count * (3 + blocks) ≤ length (now slots)) × ((k : ℕ) → getD (now counts) k 0 + count * (3 + blocks) < 2 ^ 32) ⌝ }
-    ensures { λ r. ⌜ Tells r ((i : ℕ) → i < count → SlotSays (m .bytes) (shelfIn (measuresOf m) (now (pool .entry)) (now (records .entry))) blocks (count - i) (first + i) (drop (i * (3 + blocks)) (now (slots .entry)))) × (r ≡ true → now (counts .exit) ≡ tallied (take (count * (3 + blocks)) (now (slots .entry))) (now (counts .entry))) ⌝ }
+    requires { ⌜ Measured (measuresOf m) × (blocks ≤ 1024) × (count ≤ 64) × (count * (3 + blocks) ≤ length (now slots)) × ((i : ℕ) → i < count → getD (now slots) (i * (3 + blocks)) 0 ≤ 65535) × ((k : ℕ) → getD (now counts) k 0 + count * (3 + blocks) < 2 ^ 32) ⌝ }
+    ensures { λ r. ⌜ Tells r ((i : ℕ) → i < count → SlotSays (m .bytes) (shelfIn (measuresOf m) (now (pool .entry)) (now (records .entry))) blocks (count - i) (drop (i * (3 + blocks)) (now (slots .entry)))) × (r ≡ true → now (counts .exit) ≡ tallied (take (count * (3 + blocks)) (now (slots .entry))) (now (counts .entry))) ⌝ }
 {
     let mut i: usize = 0;
     while i < count {
         let at = i * (3 + blocks);
-        if !slot_says(
-            pool,
-            records,
-            &slots[at..],
-            blocks,
-            count - i,
-            first + i,
-            counts,
-            m,
-        ) {
+        if !slot_says(pool, records, &slots[at..], blocks, count - i, counts, m) {
             return false;
         }
         i += 1;
@@ -122,12 +130,9 @@ fn till_says(
     requires { ⌜ Measured (measuresOf m) × (versions ≤ 64) × (blocks ≤ 1024) × (length (now till) ≡ tillWords versions blocks) × ((k : ℕ) → getD (now counts) k 0 + length (now till) < 2 ^ 32) ⌝ }
     ensures { λ r. ⌜ Tells r (TillSays (m .bytes) (shelfIn (measuresOf m) (now (pool .entry)) (now (records .entry))) versions blocks (now (till .entry))) × (r ≡ true → now (counts .exit) ≡ tallied (now (till .entry)) (now (counts .entry))) ⌝ }
 {
-    let last = till[0] as usize;
+    let last = till[0];
     let count = till[1] as usize;
     if versions < count {
-        return false;
-    }
-    if last < count {
         return false;
     }
     if 65535 < last {
@@ -136,16 +141,10 @@ fn till_says(
     if !audit_words::zeros(&till[2..4]) {
         return false;
     }
-    if !slots_say(
-        pool,
-        records,
-        &till[4..],
-        blocks,
-        count,
-        1 + last - count,
-        counts,
-        m,
-    ) {
+    if !numbers_rise(&till[4..], blocks, count, last) {
+        return false;
+    }
+    if !slots_say(pool, records, &till[4..], blocks, count, counts, m) {
         return false;
     }
     let end = 4 + count * (3 + blocks);

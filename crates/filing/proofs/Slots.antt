@@ -16,39 +16,17 @@ use Rattle.model.specs.Measures.{partsFor}
 use Rattle.model.specs.State.{Pointer, Version, Till}
 use Rattle.model.specs.Table.{pointerWord, versionToWords, tillToWords}
 use Rattle.model.specs.Calls.{newestPointers, withNewestPointers, tillWith}
+use Rattle.laws.proofs.Newest.{newest-last, with-last}
 use Rattle.laws.proofs.RoundTrip.{length-version, length-till, held-word, last-word}
+use Rattle.slots.specs.Slots.{repointed}
+use Rattle.slots.proofs.Slots.{Ends, ends, front, front-length, rows-length, slot-head}
 use Rattle.laws.proofs.Measures.{parts-enough}
 use Rattle.filing.specs.Filing.{newestAt, Room, FewBlocks, Whole, Held, turnedTill, addedTill, SameHead, SlotLeft}
 
 -- ---- the versions before the newest, and the newest
 
-pub record Ends (vs : List Version) : Type 0 where
-  pub before : List Version
-  pub newest : Version
-  pub is : vs ≡ before ++ (newest ∷ [])
-
-ends-more : (v : Version) (vs : List Version) → Ends vs → Ends (v ∷ vs)
-ends-more v vs e = record { before = v ∷ e .before; newest = e .newest; is = ap (λ (l : List Version). v ∷ l) (e .is) }
-
-pub ends : (vs : List Version) → 0 < length vs → Ends vs
-ends [] h = absurd (not-suc-le-zero h)
-ends (v ∷ []) h = record { before = []; newest = v; is = refl }
-ends (v ∷ w ∷ vs) h = ends-more v (w ∷ vs) (ends (w ∷ vs) (omega arith))
-
-pub newest-is : (us : List Version) (u : Version) → newestPointers (us ++ (u ∷ [])) ≡ u .pointers
-unfolding newestPointers
-newest-is [] u = refl
-newest-is (x ∷ []) u = refl
-newest-is (x ∷ y ∷ us) u = newest-is (y ∷ us) u
-
-abbrev repointed : Version → List Pointer → Version
-repointed u ps = record { number = u .number; length = u .length; pointers = ps }
-
 pub turned-is : (us : List Version) (u : Version) (ps : List Pointer) → withNewestPointers (us ++ (u ∷ [])) ps ≡ us ++ (repointed u ps ∷ [])
-unfolding withNewestPointers
-turned-is [] u ps = refl
-turned-is (x ∷ []) u ps = refl
-turned-is (x ∷ y ∷ us) u ps = ap (λ (l : List Version). x ∷ l) (turned-is (y ∷ us) u ps)
+turned-is us u ps = sym (append-nil (withNewestPointers (us ++ (u ∷ [])) ps)) ∙ with-last us u ps []
 
 length-one : (us : List Version) (u : Version) → length (us ++ (u ∷ [])) ≡ suc (length us)
 length-one us u = omega (arith, length-append us (u ∷ []))
@@ -59,20 +37,9 @@ newest-each P (x ∷ us) u e = newest-each P us u (e .1)
 
 -- ---- the till's words
 
--- the head, and the slots of the versions
-unfoldable pub front : ℕ → ℕ → ℕ → List Version → List ℕ
-front b last held us = last ∷ held ∷ 0 ∷ 0 ∷ rows (versionToWords b) us
-
-front-length : (b last held : ℕ) (us : List Version) → length (front b last held us) ≡ 4 + length us * (3 + b)
-unfolding front
-front-length b last held us = omega (arith, length-rows (versionToWords b) (3 + b) us (wide-all (versionToWords b) (3 + b) (length-version b) us))
-
 -- the slots that are left behind n
 unfoldable pub left : ℕ → ℕ → ℕ → List ℕ
 left v b n = fill (v * (3 + b) - n * (3 + b)) []
-
-rows-length : (b : ℕ) (us : List Version) → length (rows (versionToWords b) us) ≡ length us * (3 + b)
-rows-length b us = length-rows (versionToWords b) (3 + b) us (wide-all (versionToWords b) (3 + b) (length-version b) us)
 
 pub till-open : (v b last : ℕ) (us : List Version) → length us ≤ v
     → tillToWords v b (record { last = last; versions = us }) ≡ front b last (length us) us ++ left v b (length us)
@@ -110,14 +77,6 @@ till-slot v b last us h =
     ∙ ap (λ (l : List ℕ). front b last (length us) us ++ l)
     (fill-add (3 + b) (v * (3 + b) - suc (length us) * (3 + b)) []
     ∙ ap (λ (l : List ℕ). fill (3 + b) [] ++ fill (v * (3 + b) - suc (length us) * (3 + b)) l) (drop-nil (3 + b)))
-
--- ---- pointers in a slot
-
--- the head of a slot goes to the words before
-slot-head : (b : ℕ) (p : List ℕ) (u : Version) (z : List ℕ)
-    → p ++ (versionToWords b u ++ z) ≡ (p ++ (u .number ∷ u .length ∷ 0 ∷ [])) ++ (fill b (map pointerWord (u .pointers)) ++ z)
-unfolding versionToWords
-slot-head b p u z = sym (append-assoc p (u .number ∷ u .length ∷ 0 ∷ []) (fill b (map pointerWord (u .pointers)) ++ z))
 
 -- ---- numbers
 
@@ -190,7 +149,7 @@ module _ (v b : ℕ) (t : Till) (till : List ℕ) (most : length (t .versions) �
       ∙ ap (λ (x : List ℕ). take n (x ++ left v b (suc (length us)))) (fill-split b ws (omega (arith, l, f .most)))
       ∙ ap (take n) (append-assoc ws (fill (b - length ws) []) (left v b (suc (length us))))
       ∙ take-at ws (fill (b - length ws) [] ++ left v b (suc (length us))) n m
-      ∙ ap (map pointerWord) (sym (newest-is us u) ∙ ap newestPointers (sym is))
+      ∙ ap (map pointerWord) (sym (newest-last us u) ∙ ap newestPointers (sym is))
 
   turned : (ps : List Pointer) (pws ys : List ℕ) → pws ≡ map pointerWord ps → length pws ≤ b → length ps ≡ length (newestPointers (t .versions))
       → ys ≡ pws ++ drop (length pws) (take b (drop (newestAt b till + 3) till))
@@ -199,7 +158,7 @@ module _ (v b : ℕ) (t : Till) (till : List ℕ) (most : length (t .versions) �
       let a : ℕ = newestAt b till + 3 in
       let ws : List ℕ = map pointerWord (u .pointers) in
       let z : List ℕ = left v b (suc (length us)) in
-      let same : length ws ≡ length pws = length-map (u .pointers) pointerWord ∙ ap length (sym (newest-is us u) ∙ ap newestPointers (sym is)) ∙ sym lo ∙ sym (length-map ps pointerWord) ∙ ap length (sym ep) in
+      let same : length ws ≡ length pws = length-map (u .pointers) pointerWord ∙ ap length (sym (newest-last us u) ∙ ap newestPointers (sym is)) ∙ sym lo ∙ sym (length-map ps pointerWord) ∙ ap length (sym ep) in
       let mid : take b (drop a till) ≡ fill b ws = mid-is head (fill b ws) z till a b pointed head-length (length-fill b ws) in
       let y : ys ≡ fill b pws = ey ∙ ap (λ (x : List ℕ). pws ++ drop (length pws) x) mid ∙ over-fill b ws pws same lp in
       ap (λ (x : List ℕ). take a till ++ (x ++ drop b (drop a till))) (y ∙ ap (fill b) ep)

@@ -12,15 +12,16 @@ use borrow.Author.Tests.{le-ltb, lt-ltb, leb-true, leb-false}
 use Rattle.lists.proofs.Tests.{by-test}
 use Rattle.model.specs.Measures.{Shape}
 use Rattle.model.specs.State.{State}
-use Rattle.model.specs.Calls.{backupOf, restoreOf, restoreRefusal, retireOf, listingOf, listingRefusal, RestoreAnswer, ListingAnswer, retire, backup}
+use Rattle.model.specs.Trace.{longestChain}
+use Rattle.model.specs.Calls.{tillOf, heldFrom, backupOf, restoreOf, restoreRefusal, retireOf, listingOf, listingRefusal, RestoreAnswer, ListingAnswer, retire, backup}
 use Rattle.history.specs.Calls.{Call, callBackup, callRestore, callRetire, callListing, Buffers, Answer, laidOut, backedUp, restored, retired, listed, tallied, answerOf, refusalIn}
 use Rattle.history.specs.Keeper.{Kept, KeptTill, Keeper, noTill, keptTill, filed, fed, keptFrom, oldestKept, newestKept}
-use Rattle.history.specs.Kinds.{longestKept}
-use Rattle.history.specs.View.{VersionView, TillView, viewAt, isOnTill, tillNamed, shownFrom, oldestShown, newestShown, restoreShown, retireShown, answerShown}
+use Rattle.history.specs.View.{VersionView, TillView, viewOf, viewAt, isOnTill, tillNamed, chainShown, shownFrom, oldestShown, newestShown, restoreShown, retireShown, answerShown}
 use Rattle.history.specs.Demand.{Restores, Answers}
 use Rattle.history.proofs.Local.{Roomy, HasRoom, answer-in}
-use Rattle.history.proofs.Chains.{longest-most}
-use Rattle.history.proofs.Kept.{Agree, agree-from, agree-oldest, agree-newest, agree-chain}
+use Rattle.history.proofs.Shown.{from-same, chain-is}
+use Rattle.history.proofs.Chains.{chain-most}
+use Rattle.history.proofs.Kept.{Agree, agree-from, agree-oldest, agree-newest, agree-length}
 use Rattle.history.proofs.Fed.{Stands}
 use Rattle.history.proofs.Steps.{Left, answer-same}
 
@@ -49,27 +50,16 @@ numberIn (retired n l) = l
 numberIn (listed a) = 0
 numberIn (tallied a) = 0
 
-shown-first : (v : ℕ) (w : VersionView) (ws : List VersionView) → eqb (w .number) v ≡ true → shownFrom v (w ∷ ws) ≡ w ∷ ws
-unfolding shownFrom
-shown-first v w ws e = ap (λ (t : Bool). cond t (w ∷ ws) (shownFrom v ws)) e
-
 -- The law: a call on a till answers what the till's view says, 14 and 16 apart.
 pub answer-shown : (s : Shape) (b : Buffers) (st : State) → Left s b st → (call : Call) → isOnTill call ≡ true → HasRoom call (answerOf b call)
     → answerOf b call ≡ answerShown s (viewAt (s .measures .blockBytes) st (tillNamed call)) call
 answer-shown s b st l call on room = let same = answer-same s b st call l in same ∙ answer-in s st call on (subst (HasRoom call) same room)
 
 -- an accepted retire's length
-struck-length : (v : ℕ) (hs ws : List VersionView) → shownFrom v ws ≡ hs → refusalIn (retireShown v hs ws) ≡ 0
-    → (w : VersionView) × (newer : List VersionView) × (hs ≡ w ∷ newer) × (numberIn (retireShown v hs ws) ≡ w .length)
+struck-length : (hs : List VersionView) → refusalIn (retireShown hs) ≡ 0 → (w : VersionView) × (newer : List VersionView) × (hs ≡ w ∷ newer) × (numberIn (retireShown hs) ≡ w .length)
 unfolding retireShown refusalIn numberIn
-struck-length v [] ws e z = absurd (suc-ne-zero 14 z)
-struck-length v (x ∷ newer) [] e z = absurd (suc-ne-zero 14 z)
-struck-length v (x ∷ newer) (w ∷ ws) e z = go (eqb (w .number) v) refl z
-  where
-    go : (t : Bool) → eqb (w .number) v ≡ t → refusalIn (cond t (retired 0 (w .length)) (retired 13 0)) ≡ 0
-        → (u : VersionView) × (newer′ : List VersionView) × (x ∷ newer ≡ u ∷ newer′) × (numberIn (cond t (retired 0 (w .length)) (retired 13 0)) ≡ u .length)
-    go true q z = (w, ws, sym e ∙ shown-first v w ws q, unfold numberIn in refl)
-    go false q z = unfold refusalIn in absurd (suc-ne-zero 12 z)
+struck-length [] z = absurd (suc-ne-zero 14 z)
+struck-length (w ∷ ws) z = (w, ws, refl, refl)
 
 -- of versions that agree with one that is shown, the first
 first-kept : (bytes : ℕ) (xs : List Kept) (w : VersionView) (ws : List VersionView) → Agree bytes xs (w ∷ ws)
@@ -116,39 +106,46 @@ module _ (s : Shape) (b : Buffers) (st : State) (k : Keeper) (l : Left s b st) (
 
   -- a restore of a held version, which is shown as `w` with the newer ones `ws`
   held-is : (t v : ℕ) (x : Kept) (newer : List Kept) (output : List ℕ) (Q : RestoreAnswer → Type 0) → keptFrom v (keptTill k t .versions) ≡ x ∷ newer
-      → ((w : VersionView) (ws : List VersionView) → Agree (s .measures .blockBytes) (x ∷ newer) (w ∷ ws) → Q (restoreShown (w ∷ ws) output)) → Q (restoreOf (b .pool) (b .table) t v output)
+      → ((w : VersionView) (ws : List VersionView) → Agree (s .measures .blockBytes) (x ∷ newer) (w ∷ ws) → shownFrom v (shown t .versions) ≡ w ∷ ws → Q (restoreShown (w ∷ ws) output))
+      → Q (restoreOf (b .pool) (b .table) t v output)
   held-is t v x newer output Q e f =
       subst Q
       (sym (restore-is t v output
       ∙ ap (λ (q : Bool). cond q (restoreRefusal 3 output) (restoreShown (shownFrom v (shown t .versions)) output)) (held-there t v x newer e)))
-      (go (shownFrom v (shown t .versions)) (subst (λ (xs : List Kept). Agree (s .measures .blockBytes) xs (shownFrom v (shown t .versions))) e (held t v)))
+      (go (shownFrom v (shown t .versions)) refl (subst (λ (xs : List Kept). Agree (s .measures .blockBytes) xs (shownFrom v (shown t .versions))) e (held t v)))
     where
-      go : (hs : List VersionView) → Agree (s .measures .blockBytes) (x ∷ newer) hs → Q (restoreShown hs output)
-      go [] a = absurd a
-      go (w ∷ ws) a = f w ws a
+      go : (hs : List VersionView) → shownFrom v (shown t .versions) ≡ hs → Agree (s .measures .blockBytes) (x ∷ newer) hs → Q (restoreShown hs output)
+      go [] q a = absurd a
+      go (w ∷ ws) q a = f w ws a q
+
+  chain-of : (t v : ℕ) → chainShown (shownFrom v (shown t .versions)) ≡ longestChain (heldFrom v (tillOf st t .versions))
+  unfolding shown viewOf
+  chain-of t v =
+      ap chainShown (from-same (s .measures .blockBytes) (st .shelf) v (tillOf st t .versions))
+      ∙ sym (chain-is (s .measures .blockBytes) (st .shelf) (heldFrom v (tillOf st t .versions)))
 
   pub restores : Restores (s .measures .blockBytes) st k b
   unfolding restoreShown restoreRefusal
   restores = record {
     given = λ t v x newer output e q.
         held-is t v x newer output (λ (r : RestoreAnswer). (r .refusal ≡ 0) × (r .length ≡ length (x .image)) × (r .output ≡ x .image ++ drop (length (x .image)) output)
-        × (r .hops ≡ longestKept (s .measures .blockBytes) (x ∷ newer))) e (λ w ws a.
+        × (r .hops ≡ longestChain (heldFrom v (tillOf st t .versions)))) e (λ w ws a y.
         rw (le-ltb (length output) (w .length) (omega (arith, q, a .0 .size))) (
           refl,
           a .0 .size,
           ap₂ (λ (i : List ℕ) (n : ℕ). i ++ drop n output) (a .0 .image) (a .0 .size),
-          agree-chain (s .measures .blockBytes) (x ∷ newer) (w ∷ ws) a,
+          ap chainShown (sym y) ∙ chain-of t v,
         ));
     short = λ t v x newer output e q.
-        held-is t v x newer output (λ (r : RestoreAnswer). r .refusal ≡ 5) e (λ w ws a. rw (lt-ltb (length output) (w .length) (omega (arith, q, a .0 .size))) refl);
+        held-is t v x newer output (λ (r : RestoreAnswer). r .refusal ≡ 5) e (λ w ws a y. rw (lt-ltb (length output) (w .length) (omega (arith, q, a .0 .size))) refl);
     notHeld = λ t v output e.
         subst (λ (r : RestoreAnswer). ¬ (r .refusal ≡ 0)) (sym (restore-is t v output))
         (by-test (λ (r : RestoreAnswer). ¬ (r .refusal ≡ 0)) (leb (s .capacities .tills) t) (λ q z. suc-ne-zero 2 z)
         (λ q. none output (shownFrom v (shown t .versions)) (subst (λ (xs : List Kept). Agree (s .measures .blockBytes) xs (shownFrom v (shown t .versions))) e (held t v))));
     chain = λ t v x newer output e.
-        held-is t v x newer output (λ (r : RestoreAnswer). r .hops ≤ length newer) e (λ w ws a.
+        held-is t v x newer output (λ (r : RestoreAnswer). r .hops ≤ length newer) e (λ w ws a y.
         by-test (λ (r : RestoreAnswer). r .hops ≤ length newer) (ltb (length output) (w .length)) (λ q. zero-le)
-        (λ q. subst (λ (n : ℕ). n ≤ length newer) (sym (agree-chain (s .measures .blockBytes) (x ∷ newer) (w ∷ ws) a)) (longest-most (s .measures) x newer)));
+        (λ q. subst (λ (n : ℕ). chainShown (w ∷ ws) ≤ n) (agree-length (s .measures .blockBytes) newer ws (a .1)) (chain-most s (l .fit .proper) st (l .sound) t v w ws (unfold shown in y))));
   }
     where
       none : (output : List ℕ) (hs : List VersionView) → Agree (s .measures .blockBytes) [] hs → ¬ (restoreShown hs output .refusal ≡ 0)
@@ -208,7 +205,7 @@ module _ (s : Shape) (b : Buffers) (st : State) (k : Keeper) (l : Left s b st) (
   retire-given t v =
       subst (λ (a : Answer). refusalIn a ≡ 0 → Struck (numberIn a)) (sym (answer-is (callRetire t v) refl tt))
       (by-test (λ (a : Answer). refusalIn a ≡ 0 → Struck (numberIn a)) (leb (s .capacities .tills) t) (λ q z. absurd (suc-ne-zero 2 z))
-      (λ q z. go (struck-length v (shownFrom v (shown t .versions)) (shown t .versions) refl z)))
+      (λ q z. go (struck-length (shownFrom v (shown t .versions)) z)))
     where
       Struck : ℕ → Type 0
       Struck n = (x : Kept) × (newer : List Kept) × (keptFrom v (keptTill k t .versions) ≡ x ∷ newer) × (n ≡ length (x .image))
@@ -218,6 +215,17 @@ module _ (s : Shape) (b : Buffers) (st : State) (k : Keeper) (l : Left s b st) (
           let x = first-kept (s .measures .blockBytes) (keptFrom v (keptTill k t .versions)) (f .0) (f .1)
           (subst (Agree (s .measures .blockBytes) (keptFrom v (keptTill k t .versions))) (f .2) (held t v)) in
           (x .0, x .1, x .2, f .3 ∙ x .3)
+
+  retire-goes : (t v : ℕ) (x : Kept) (newer : List Kept) → keptFrom v (keptTill k t .versions) ≡ x ∷ newer → retireOf (b .pool) (b .table) t v .refusal ≡ 0
+  unfolding answerOf answerShown tillNamed refusalIn shown
+  retire-goes t v x newer e =
+      ap refusalIn (answer-is (callRetire t v) refl tt)
+      ∙ ap (λ (q : Bool). refusalIn (cond q (retired 3 0) (retireShown (shownFrom v (shown t .versions))))) (held-there t v x newer e)
+      ∙ go (shownFrom v (shown t .versions)) (subst (λ (xs : List Kept). Agree (s .measures .blockBytes) xs (shownFrom v (shown t .versions))) e (held t v))
+    where
+      go : (hs : List VersionView) → Agree (s .measures .blockBytes) (x ∷ newer) hs → refusalIn (retireShown hs) ≡ 0
+      go [] a = absurd a
+      go (w ∷ ws) a = unfold retireShown refusalIn in refl
 
   pub answers : Answers (s .measures .blockBytes) st k b
   unfolding listingRefusal
@@ -236,5 +244,6 @@ module _ (s : Shape) (b : Buffers) (st : State) (k : Keeper) (l : Left s b st) (
     backup = λ t image e.
         let g = backup-given t image e in
         g .0 ∙ ap suc (last-is t) ∙ sym (fed-last t image (omega (arith, leb-false (s .capacities .tills) t (g .1), z .many)));
+    goes = retire-goes;
     retire = retire-given;
   }

@@ -3,16 +3,17 @@ use mathlib.Core.Path.{_≡_, refl, sym, ap, ap₂, _∙_, subst}
 use mathlib.Core.Logic.{_↔_}
 use mathlib.Core.Bool.{Bool, true, false, cond, false≢true}
 use mathlib.Core.List.{List, [], _∷_, map}
-use Prim.Native.Nat.{ℕ, zero, suc, _-_, _≤_, _<_}
-use native.Mathlib.Nat.{not-suc-le-zero, le-refl}
+use Prim.Native.Nat.{ℕ, suc, _-_, _<_}
+use native.Mathlib.Nat.{not-suc-le-zero}
 use native.Mathlib.Omega.{arith}
-use lib.ListN.{length, getD}
+use lib.ListN.{getD}
 use lib.Dec.{eqb, ltb}
-use borrow.Author.Tests.{eqb-true, eq-eqb, ne-eqb, ltb-true, ltb-false}
-use Rattle.lists.specs.Lists.{every, count, counted, sameNumbers, isIn}
+use borrow.Author.Tests.{eqb-true, ltb-true, ltb-false}
+use Rattle.lists.specs.Lists.{every, count, rises, isIn}
 use Rattle.lists.specs.Rows.{joined}
 use Rattle.lists.proofs.Counts.{count-append}
-use Rattle.lists.proofs.Tests.{clause, cond-true, every-head, every-tail}
+use Rattle.lists.proofs.Rises.{rises-first}
+use Rattle.lists.proofs.Tests.{clause, every-head, every-tail}
 use Rattle.lists.proofs.Uses.{in-uses, uses, uses-append, uses-in}
 use Rattle.model.specs.Measures.{Shape}
 use Rattle.model.specs.State.{Pointer, nullPointer, direct, indirect, nullPosition, held, removed, Segment, Shelf, Version, Till, State}
@@ -23,6 +24,7 @@ use Rattle.laws.proofs.Sweep.{countIn, named-one}
 use Rattle.laws.proofs.Counts.{at, held-positive}
 use Rattle.laws.proofs.Place.{held-named}
 use Rattle.laws.proofs.Serves.{pointersOf, Valid, sound-valid}
+use Rattle.laws.proofs.Tills.{held-here, held-later}
 use Rattle.history.specs.Demand.{pointersHeld, LedTo}
 
 -- ---- occupied and led to
@@ -54,7 +56,6 @@ position-of c (held d n ∷ seg) h = go (eqb c d) refl (λ l. position-of c seg 
     go false e r = let z = r (omega (arith, rw e at h)) in (suc (z .0), z .1, z .2)
 position-of c (removed ∷ seg) h = let z = position-of c seg h in (suc (z .0), z .1, z .2)
 
--- a held position is counted
 -- the pointer, the version and the till that lead to a position
 leads-is : (k i : ℕ) (p : Pointer) → leadsTo k i p ≡ true → p ≡ direct k i
 leads-is k i nullPointer h = absurd (false≢true h)
@@ -71,39 +72,29 @@ pointer-of k i (p ∷ ps) h = go (leadsTo k i p) refl (λ l. pointer-of k i ps l
     go true e r = (0, leads-is k i p e)
     go false e r = let z = r (omega (arith, h, ap {B = ℕ} (λ (t : Bool). cond t 1 0) e)) in (suc (z .0), z .1)
 
-held-here : (b : ℕ) (w : Version) (vs : List Version) → w .number ≡ b → heldFrom b (w ∷ vs) ≡ w ∷ vs
-unfolding heldFrom
-held-here b w vs e = ap (λ (t : Bool). cond t (w ∷ vs) (heldFrom b vs)) (eq-eqb (w .number) b e)
-
-held-later : (v : ℕ) (w : Version) (vs : List Version) → (w .number ≡ v → ⊥) → heldFrom v (w ∷ vs) ≡ heldFrom v vs
-unfolding heldFrom
-held-later v w vs e = ap (λ (t : Bool). cond t (w ∷ vs) (heldFrom v vs)) (ne-eqb (w .number) v e)
-
-version-of : (k i : ℕ) (vs : List Version) (b n : ℕ) → sameNumbers (map (λ (v : Version). v .number) vs) (counted (λ x. x) b n) ≡ true
-    → 0 < count (leadsTo k i) (pointersOf vs)
-    → (v : ℕ) × (j : ℕ) × (b ≤ v) × (getD (nextPointers (heldFrom v vs)) j nullPointer ≡ direct k i)
-unfolding sameNumbers counted joined
-version-of k i [] b n h c = unfold count in absurd (not-suc-le-zero c)
-version-of k i (w ∷ vs) b zero h c = absurd (false≢true h)
-version-of k i (w ∷ vs) b (suc n) h c =
-    let (e, r) = cond-true (eqb (w .number) b) (sameNumbers (map (λ (v : Version). v .number) vs) (counted (λ x. x) (suc b) n)) h in
-    go (ltb 0 (count (leadsTo k i) (w .pointers))) refl (eqb-true (w .number) b e) (λ l. version-of k i vs (suc b) n r l)
+version-of : (k i : ℕ) (vs : List Version) (low high : ℕ) → rises low high (map (λ (v : Version). v .number) vs) ≡ true → 0 < count (leadsTo k i) (pointersOf vs)
+    → (v : ℕ) × (j : ℕ) × (low < v) × (getD (nextPointers (heldFrom v vs)) j nullPointer ≡ direct k i)
+unfolding joined
+version-of k i [] low high h c = unfold count in absurd (not-suc-le-zero c)
+version-of k i (w ∷ vs) low high h c =
+    let r = rises-first low high (w .number) (map (λ (v : Version). v .number) vs) h in
+    go (ltb 0 (count (leadsTo k i) (w .pointers))) refl (r .above) (λ l. version-of k i vs (w .number) high (r .rest) l)
   where
     first : (w : Version) (vs : List Version) (j : ℕ) → getD (nextPointers (w ∷ vs)) j nullPointer ≡ getD (w .pointers) j nullPointer
     first w vs j = unfold nextPointers in refl
 
-    go : (t : Bool) → ltb 0 (count (leadsTo k i) (w .pointers)) ≡ t → w .number ≡ b
-        → (0 < count (leadsTo k i) (pointersOf vs) → (v : ℕ) × (j : ℕ) × (suc b ≤ v) × (getD (nextPointers (heldFrom v vs)) j nullPointer ≡ direct k i))
-        → (v : ℕ) × (j : ℕ) × (b ≤ v) × (getD (nextPointers (heldFrom v (w ∷ vs))) j nullPointer ≡ direct k i)
-    go true q e r =
+    go : (t : Bool) → ltb 0 (count (leadsTo k i) (w .pointers)) ≡ t → low < w .number
+        → (0 < count (leadsTo k i) (pointersOf vs) → (v : ℕ) × (j : ℕ) × (w .number < v) × (getD (nextPointers (heldFrom v vs)) j nullPointer ≡ direct k i))
+        → (v : ℕ) × (j : ℕ) × (low < v) × (getD (nextPointers (heldFrom v (w ∷ vs))) j nullPointer ≡ direct k i)
+    go true q l r =
         let z = pointer-of k i (w .pointers) (ltb-true 0 _ q) in
-        (b, z .0, le-refl b, ap (λ (l : List Version). getD (nextPointers l) (z .0) nullPointer) (held-here b w vs e) ∙ first w vs (z .0) ∙ z .1)
-    go false q e r =
+        (w .number, z .0, l, ap (λ (l : List Version). getD (nextPointers l) (z .0) nullPointer) (held-here (w .number) w vs refl) ∙ first w vs (z .0) ∙ z .1)
+    go false q l r =
         let z = r (omega (arith, c, ltb-false 0 (count (leadsTo k i) (w .pointers)) q, count-append (leadsTo k i) (w .pointers) (pointersOf vs))) in (
           z .0,
           z .1,
-          omega (arith, z .2),
-          ap (λ (l : List Version). getD (nextPointers l) (z .1) nullPointer) (held-later (z .0) w vs (λ y. omega (arith, y, e, z .2))) ∙ z .3,
+          omega (arith, l, z .2),
+          ap (λ (l : List Version). getD (nextPointers l) (z .1) nullPointer) (held-later (z .0) w vs (λ y. omega (arith, y, z .2))) ∙ z .3,
         )
 
 till-of : (s : Shape) (a : Shelf) (k i : ℕ) (ts : List Till) → every (isTill s a) ts ≡ true → 0 < count (leadsTo k i) (allPointers ts)
@@ -112,15 +103,15 @@ unfolding allPointers joined
 till-of s a k i [] h c = unfold count in absurd (not-suc-le-zero c)
 till-of s a k i (x ∷ ts) h c = go (ltb 0 (count (leadsTo k i) (pointersOf (x .versions)))) refl (λ l. till-of s a k i ts (every-tail (isTill s a) x ts h) l)
   where
-    numbers : sameNumbers (map (λ (v : Version). v .number) (x .versions)) (counted (λ n. n) (suc (x .last) - length (x .versions)) (length (x .versions))) ≡ true
-    numbers = unfold isTill isNumbered in clause _ 3 (clause _ 0 (every-head (isTill s a) x ts h))
+    numbers : rises 0 (x .last) (map (λ (v : Version). v .number) (x .versions)) ≡ true
+    numbers = unfold isTill isNumbered in clause _ 2 (clause _ 0 (every-head (isTill s a) x ts h))
 
     go : (q : Bool) → ltb 0 (count (leadsTo k i) (pointersOf (x .versions))) ≡ q
         → (0 < count (leadsTo k i) (allPointers ts)
         → (t : ℕ) × (v : ℕ) × (j : ℕ) × (getD (nextPointers (heldFrom v (getD ts t emptyTill .versions))) j nullPointer ≡ direct k i))
         → (t : ℕ) × (v : ℕ) × (j : ℕ) × (getD (nextPointers (heldFrom v (getD (x ∷ ts) t emptyTill .versions))) j nullPointer ≡ direct k i)
     go true q r =
-        let z = version-of k i (x .versions) (suc (x .last) - length (x .versions)) (length (x .versions)) numbers (ltb-true 0 _ q) in
+        let z = version-of k i (x .versions) 0 (x .last) numbers (ltb-true 0 _ q) in
         (0, z .0, z .1, z .3)
     go false q r =
         let z = r (unfold allPointers in omega (

@@ -1,49 +1,73 @@
 -- Demand 3 whole, as one term.
-use mathlib.Core.Path.{_≡_, sym, ap, _∙_}
-use mathlib.Core.List.{List, map}
+use mathlib.Core.Path.{_≡_, refl, sym, ap, ap₂, _∙_, subst}
+use mathlib.Core.Bool.{true, false≢true}
+use mathlib.Core.List.{List, [], _∷_, map}
 use mathlib.Core.Option.{Option}
-use Prim.Native.Nat.{ℕ}
+use Prim.Native.Nat.{ℕ, _<_}
+use lib.ListN.{length, getD, List·getD-map}
+use Rattle.lists.specs.Lists.{rises}
 use Rattle.lists.specs.Rows.{chunks}
 use Rattle.lists.proofs.Cuts.{chunks-joined}
 use Rattle.model.specs.Measures.{Shape}
-use Rattle.model.specs.State.{State}
+use Rattle.model.specs.State.{Pointer, nullPointer, direct, indirect, Shelf, Version, State}
+use Rattle.model.specs.Image.{imageBlocks}
 use Rattle.model.specs.Table.{stateToBytes, cellsIn}
-use Rattle.model.specs.Sound.{Store}
+use Rattle.model.specs.Sound.{Store, nextPointers}
 use Rattle.model.specs.Calls.{emptyState, tallyIn, tallyOf, tillOf, heldFrom}
 use Rattle.laws.proofs.Serves.{sound-valid}
 use Rattle.laws.proofs.Named.{named-full, named-inside, named-count}
 use Rattle.history.specs.Calls.{Buffers, buffersAfterAll, stateAfterAll}
 use Rattle.history.specs.Keeper.{Kept, Keeper, freshKeeper, fedAll, keptFrom, keptTill}
-use Rattle.history.specs.Kinds.{kindOf, kindsKept}
-use Rattle.history.specs.View.{viewOf, viewAt, shownFrom}
-use Rattle.history.specs.Demand.{Shares, Cells, Holds, laidOutIn, Demand3, pointersHeld}
-use Rattle.history.proofs.Shown.{firstKinds, kinds-is, from-same}
-use Rattle.history.proofs.Kept.{agree-from, agree-kinds}
+use Rattle.history.specs.Kinds.{kindOf}
+use Rattle.history.specs.View.{viewVersions, viewOf, viewAt}
+use Rattle.history.specs.Demand.{IsDirect, Shares, Cells, Holds, laidOutIn, Demand3, pointersHeld}
+use Rattle.history.proofs.Shown.{from-same, shown-numbers}
+use Rattle.history.proofs.Kept.{isDirectKind, Agree, agree-from, agree-numbers}
 use Rattle.history.proofs.Fed.{Stands, stands-fresh, stands-all}
 use Rattle.history.proofs.Steps.{Left, left-all, left-laid, answers-same, left-store}
-use Rattle.history.proofs.Numbers.{kept-numbers}
-use Rattle.history.proofs.Chains.{shared-not-direct}
 use Rattle.history.proofs.Cells.{named-leads}
 use Rattle.history.proofs.Bullets.{restores, answers}
+
+-- ---- a block that a version shares with one taken while it was the newest
+
+direct-kind : (p : Pointer) → IsDirect p → isDirectKind (kindOf p) ≡ true
+unfolding isDirectKind
+direct-kind nullPointer h = absurd h
+direct-kind (direct k i) h = refl
+direct-kind (indirect n) h = absurd h
+
+shared-not-direct : (bytes : ℕ) (a : Shelf) (x y : Kept) (newer : List Kept) (vs : List Version) (n i : ℕ) → Agree bytes (x ∷ y ∷ newer) (viewVersions bytes a vs)
+    → y .previous ≡ x .number → n < length (imageBlocks bytes (x .image)) → i < length (imageBlocks bytes (y .image))
+    → getD (imageBlocks bytes (x .image)) n [] ≡ getD (imageBlocks bytes (y .image)) i [] → ¬ IsDirect (getD (nextPointers vs) n nullPointer)
+unfolding viewVersions nextPointers
+shared-not-direct bytes a x y newer [] n i g p ln li same d = absurd g
+shared-not-direct bytes a x y newer (v ∷ vs) n i g p ln li same d =
+    false≢true
+    (sym (g .0 .shared .1 p n i ln li same)
+    ∙ ap isDirectKind (List·getD-map kindOf (v .pointers) n nullPointer) ∙ direct-kind (getD (v .pointers) n nullPointer) d)
 
 -- ---- a store that stands for a state that calls reach
 
 module _ (s : Shape) (b : Buffers) (st : State) (k : Keeper) (l : Left s b st) (z : Stands s k st) where
-  -- what each pointer of a version is; nothing of one that is not held
-  kinds : (t v : ℕ) → map kindOf (pointersHeld st t v) ≡ kindsKept (s .measures .blockBytes) (keptFrom v (keptTill k t .versions))
-  unfolding pointersHeld viewOf
-  kinds t v =
-      kinds-is (s .measures .blockBytes) (st .shelf) (heldFrom v (tillOf st t .versions))
-      ∙ ap firstKinds (sym (from-same (s .measures .blockBytes) (st .shelf) v (tillOf st t .versions)))
-      ∙ agree-kinds (s .measures .blockBytes) (keptFrom v (keptTill k t .versions)) (shownFrom v (viewAt (s .measures .blockBytes) st t .versions))
+  -- of versions held and shown
+  held : (t v : ℕ) → Agree (s .measures .blockBytes) (keptFrom v (keptTill k t .versions)) (viewVersions (s .measures .blockBytes) (st .shelf) (heldFrom v (tillOf st t .versions)))
+  unfolding viewOf
+  held t v =
+      subst (Agree (s .measures .blockBytes) (keptFrom v (keptTill k t .versions))) (from-same (s .measures .blockBytes) (st .shelf) v (tillOf st t .versions))
       (agree-from (s .measures .blockBytes) v (keptTill k t .versions) (viewAt (s .measures .blockBytes) st t .versions) (z .tills t .1))
 
   shares : Shares (s .measures .blockBytes) st k b
+  unfolding pointersHeld
   shares = record {
-    notDirect = λ t v x y newer n i q ln li zero same.
-        shared-not-direct (s .measures) (pointersHeld st t v) x y newer n i (kinds t v ∙ ap (λ (xs : List Kept). kindsKept (s .measures .blockBytes) xs) q) ln li zero same;
-    kinds = kinds;
+    notDirect = λ t v x y newer n i q p ln li full same d.
+        shared-not-direct (s .measures .blockBytes) (st .shelf) x y newer (heldFrom v (tillOf st t .versions)) n i
+        (subst (λ (xs : List Kept). Agree (s .measures .blockBytes) xs (viewVersions (s .measures .blockBytes) (st .shelf) (heldFrom v (tillOf st t .versions)))) q (held t v)) p ln li same d;
   }
+
+  numbers : (t : ℕ) → rises 0 (keptTill k t .last) (map (λ (x : Kept). x .number) (keptTill k t .versions)) ≡ true
+  numbers t =
+      ap₂ (rises 0) (sym (z .tills t .0)) (sym (agree-numbers (s .measures .blockBytes) (keptTill k t .versions) (viewAt (s .measures .blockBytes) st t .versions) (z .tills t .1)))
+      ∙ shown-numbers s st (l .sound) t
 
   pool-cells : cellsIn (s .measures .blockBytes) (b .pool) ≡ st .shelf .cells
   unfolding cellsIn stateToBytes
@@ -66,7 +90,7 @@ module _ (s : Shape) (b : Buffers) (st : State) (k : Keeper) (l : Left s b st) (
     isStore = left-store s b st l;
     pool = l .pool;
     table = l .table;
-    numbers = kept-numbers s st (l .sound) k z;
+    numbers = numbers;
     restores = restores s b st k l z;
     answers = answers s b st k l z;
     shares = shares;

@@ -1,31 +1,23 @@
 -- The keeper, fed call by call, stands beside the store: each till shows what is kept of it.
 use mathlib.Core.Path.{_≡_, refl, sym, ap, _∙_, subst}
 use mathlib.Core.Bool.{Bool, true, false}
-use mathlib.Core.List.{List, [], _∷_, map}
+use mathlib.Core.List.{List, [], _∷_}
 use Prim.Native.Nat.{ℕ, zero, suc, _-_, _≤_}
 use native.Mathlib.Omega.{arith}
 use lib.ListN.{length, getD, set, replicate, length-set, length-replicate}
 use lib.Seq.{getD-set-same, getD-set-other, set-getD, set-out}
 use lib.Dec.{eqb, leb}
-use borrow.Author.Tests.{eqb-true, eqb-false, ne-eqb, leb-true, leb-false}
-use Rattle.lists.specs.Lists.{counted}
-use Rattle.lists.proofs.Same.{same-eq}
-use Rattle.lists.proofs.Tests.{clause, every-at}
+use borrow.Author.Tests.{eqb-true, eqb-false, leb-true, leb-false}
 use Rattle.model.specs.Measures.{Shape}
-use Rattle.model.specs.State.{State, Outcome, refused, done}
-use Rattle.model.specs.Trace.{imageOf}
-use Rattle.model.specs.Sound.{isSound, isTill, isNumbered}
-use Rattle.model.specs.Calls.{emptyTill, tillOf, emptyState, backup, retire, After}
+use Rattle.model.specs.State.{State}
+use Rattle.model.specs.Sound.{isSound}
+use Rattle.model.specs.Calls.{emptyTill, tillOf, emptyState, backup, retire}
 use Rattle.laws.proofs.Fits.{Proper}
-use Rattle.laws.proofs.Serves.{sound-valid}
-use Rattle.laws.proofs.Retire.{Retired, retire-done}
 use Rattle.history.specs.Calls.{Call, callLayout, callBackup, callRestore, callRetire, callListing, callTally, Buffers, refusalOf, buffersAfter, refusedLayouts, stateAfter, stateAfterAll, outcomeRefusal, answerIn, refusalIn, isAccepted}
 use Rattle.history.specs.Keeper.{KeptTill, Keeper, noTill, freshKeeper, keptTill, filed, struckOut, fed, fedAll}
-use Rattle.history.specs.Kinds.{kindOf}
-use Rattle.history.specs.View.{VersionView, TillView, viewVersions, viewOf, viewAt, tillNamed, changed}
+use Rattle.history.specs.View.{TillView, viewVersions, viewOf, viewAt, tillNamed, changed}
 use Rattle.history.proofs.Kept.{AgreeTill, till-filed, till-struck}
-use Rattle.history.proofs.Shown.{views-numbers}
-use Rattle.history.proofs.Numbered.{Numbered, retire-numbered}
+use Rattle.history.proofs.Shown.{shown-numbers}
 use Rattle.history.proofs.Frame.{frame-own, frame-other}
 use Rattle.history.proofs.Steps.{Left, left-one, accepted-same}
 
@@ -72,27 +64,6 @@ stands-fresh s = record { many = length-replicate (s .capacities .tills) noTill;
     go (suc n) (suc t) = go n t
 
 module _ (s : Shape) (pr : Proper (s .measures)) (st : State) (h : isSound s st ≡ true) where
-  struck-agrees : (t v : ℕ) (y : KeptTill) → AgreeTill (s .measures .blockBytes) y (viewAt (s .measures .blockBytes) st t) → (o : Outcome After) → Numbered o → retire s st t v ≡ o
-      → AgreeTill (s .measures .blockBytes) (change (callRetire t v) (eqb (outcomeRefusal o) 0) y)
-      (changed (s .measures .blockBytes) (callRetire t v) (eqb (outcomeRefusal o) 0) (viewAt (s .measures .blockBytes) st t))
-  unfolding change changed outcomeRefusal
-  struck-agrees t v y a (refused n) g q = rw (ne-eqb n 0 (λ z. omega (arith, g, z))) a
-  struck-agrees t v y a (done x) g q =
-      till-struck (s .measures .blockBytes) y (viewAt (s .measures .blockBytes) st t) v (suc (tillOf st t .last) - length (tillOf st t .versions)) (length (tillOf st t .versions))
-      (record { number = f .oldest .number; length = f .oldest .length; image = imageOf (s .measures .blockBytes) (st .shelf) (f .oldest ∷ f .newer); kinds = map kindOf (f .oldest .pointers) })
-      (viewVersions (s .measures .blockBytes) (st .shelf) (f .newer)) a
-      (unfold viewOf viewVersions in ap (viewVersions (s .measures .blockBytes) (st .shelf)) (f .first)) (f .named) numbers
-    where
-      f : Retired s st t v x
-      f = retire-done s t v st x h q
-
-      numbers : map (λ (w : VersionView). w .number) (viewAt (s .measures .blockBytes) st t .versions)
-          ≡ counted (λ i. i) (suc (tillOf st t .last) - length (tillOf st t .versions)) (length (tillOf st t .versions))
-      numbers =
-          unfold viewOf isTill isNumbered tillOf in
-          (views-numbers (s .measures .blockBytes) (st .shelf) (tillOf st t .versions)
-          ∙ same-eq _ _ (clause _ 3 (clause _ 0 (every-at (isTill s (st .shelf)) emptyTill (st .tills) (sound-valid s st h .tills) t (f .there)))))
-
   own-agrees : (call : Call) (y : KeptTill) → AgreeTill (s .measures .blockBytes) y (viewAt (s .measures .blockBytes) st (tillNamed call))
       → AgreeTill (s .measures .blockBytes) (change call (isAccepted s st call) y)
       (changed (s .measures .blockBytes) call (isAccepted s st call) (viewAt (s .measures .blockBytes) st (tillNamed call)))
@@ -105,7 +76,12 @@ module _ (s : Shape) (pr : Proper (s .measures)) (st : State) (h : isSound s st 
       go true = unfold change changed in till-filed (s .measures .blockBytes) y (viewAt (s .measures .blockBytes) st t) image a
       go false = unfold change changed in a
   own-agrees (callRestore t v output) y a = a
-  own-agrees (callRetire t v) y a = struck-agrees t v y a (retire s st t v) (retire-numbered s st t v) refl
+  own-agrees (callRetire t v) y a = go (eqb (outcomeRefusal (retire s st t v)) 0)
+    where
+      go : (ok : Bool) → AgreeTill (s .measures .blockBytes) (change (callRetire t v) ok y)
+          (changed (s .measures .blockBytes) (callRetire t v) ok (viewAt (s .measures .blockBytes) st t))
+      go true = unfold change changed in till-struck (s .measures .blockBytes) y (viewAt (s .measures .blockBytes) st t) v a (shown-numbers s st h t)
+      go false = unfold change changed in a
   own-agrees (callListing t) y a = a
   own-agrees callTally y a = a
 

@@ -3,20 +3,21 @@ use mathlib.Core.Path.{_≡_, sym, ap, ap₂, _∙_}
 use mathlib.Core.Bool.{true}
 use mathlib.Core.List.{List, [], _∷_, _++_, map}
 use Prim.Native.Nat.{ℕ, suc}
-use lib.ListN.{length, getD, set, drop}
+use lib.ListN.{length, getD, set}
 use lib.Seq.{getD-set-same, getD-set-other}
 use Rattle.lists.proofs.Tests.{clause}
 use Rattle.model.specs.Measures.{Shape}
 use Rattle.model.specs.State.{Shelf, Version, Till, State}
 use Rattle.model.specs.Image.{imageBlocks}
 use Rattle.model.specs.Sound.{isSound, isTill, allPointers}
-use Rattle.model.specs.Calls.{emptyTill, tillOf, After}
+use Rattle.model.specs.Calls.{emptyTill, tillOf, heldBefore, closeUp, After}
 use Rattle.laws.proofs.Fits.{Proper}
 use Rattle.laws.proofs.Serves.{Serves, till-among}
 use Rattle.laws.proofs.Backup.{Filed}
+use Rattle.laws.proofs.Takeover.{Between, between}
 use Rattle.laws.proofs.Retire.{Retired}
-use Rattle.history.specs.View.{VersionView, viewVersions, viewOf, viewAt, newKind, turnNewest, shownWith, shownWithout}
-use Rattle.history.proofs.Views.{view-path, view-again, views-again, views-extended, new-image, new-kinds}
+use Rattle.history.specs.View.{VersionView, viewVersions, viewOf, viewAt, newKind, turnNewest, shownWith, dropVersion, shownWithout}
+use Rattle.history.proofs.Views.{view-path, view-again, views-again, views-extended, views-closed, new-image, new-kinds}
 use Rattle.history.proofs.Traced.{cuts, till-ok}
 
 -- the other tills are left alone
@@ -74,20 +75,26 @@ module _ (s : Shape) (pr : Proper (s .measures)) (st : State) (h : isSound s st 
 
 module _ (s : Shape) (st : State) (t v : ℕ) (a : After) (f : Retired s st t v a) where
   after : Till
-  after = record { last = tillOf st t .last; versions = f .newer }
+  after = record { last = tillOf st t .last; versions = closeUp (heldBefore v (tillOf st t .versions)) (f .version) (f .newer) }
 
   after-is : tillOf (a .state) t ≡ after
   unfolding tillOf after
   after-is = ap (λ (ts : List Till). getD ts t emptyTill) (f .tills) ∙ getD-set-same (st .tills) t after emptyTill (f .there)
 
-  pub retired-own : viewAt (s .measures .blockBytes) (a .state) t ≡ shownWithout (viewAt (s .measures .blockBytes) st t)
+  pub retired-own : viewAt (s .measures .blockBytes) (a .state) t ≡ shownWithout (viewAt (s .measures .blockBytes) st t) v
   retired-own =
       serves-till s (st .shelf) (a .state .shelf) (a .state) (f .swept) t
       ∙ ap (viewOf (s .measures .blockBytes) (st .shelf)) after-is
       ∙ (unfold viewOf shownWithout after in (λ j. record { last = tillOf st t .last; versions = rest j }))
     where
-      rest : viewVersions (s .measures .blockBytes) (st .shelf) (f .newer) ≡ drop 1 (viewVersions (s .measures .blockBytes) (st .shelf) (tillOf st t .versions))
-      rest = unfold viewVersions in sym (ap (λ (vs : List Version). drop 1 (viewVersions (s .measures .blockBytes) (st .shelf) vs)) (f .first))
+      b : Between v (tillOf st t .versions) (f .version) (f .newer)
+      b = between v (tillOf st t .versions) (f .version) (f .newer) (f .from)
+
+      rest : viewVersions (s .measures .blockBytes) (st .shelf) (closeUp (heldBefore v (tillOf st t .versions)) (f .version) (f .newer))
+          ≡ dropVersion v (viewVersions (s .measures .blockBytes) (st .shelf) (tillOf st t .versions))
+      rest =
+          views-closed (s .measures) (st .shelf) v (f .version) (f .newer) (b .named) (heldBefore v (tillOf st t .versions)) (b .others)
+          ∙ ap (λ (vs : List Version). dropVersion v (viewVersions (s .measures .blockBytes) (st .shelf) vs)) (sym (b .split))
 
   pub retired-other : (u : ℕ) → (u ≡ t → ⊥) → viewAt (s .measures .blockBytes) (a .state) u ≡ viewAt (s .measures .blockBytes) st u
   retired-other u ne =

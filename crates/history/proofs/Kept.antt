@@ -1,29 +1,46 @@
--- The keeper beside what the tills show: each kept version is shown with its number, its length, its image and the pointers that the images say.
+-- The keeper beside what the tills show: each kept version is shown with its number, its length and its image, and a block that it shares with a version
+-- taken while it was its till's newest is not stored for itself.
 use mathlib.Core.Path.{_≡_, refl, sym, ap, ap₂, _∙_, subst}
-use mathlib.Core.Bool.{Bool, true, false, cond, not}
+use mathlib.Core.Bool.{Bool, true, false, cond, not, false≢true}
 use mathlib.Core.List.{List, [], _∷_, _++_, map}
-use Prim.Native.Nat.{ℕ, zero, suc, _<_}
-use native.Mathlib.Nat.{suc-ne-zero}
+use mathlib.Core.Option.{Option, none, some}
+use Prim.Native.Nat.{ℕ, zero, suc, _≤_, _<_}
+use native.Mathlib.Nat.{le-refl}
 use native.Mathlib.Omega.{arith}
-use lib.ListN.{length, getD, drop, length-map}
+use lib.ListN.{length, getD, length-map}
 use lib.Dec.{eqb}
 use borrow.Author.Tests.{eqb-true, ne-eqb}
-use Rattle.lists.specs.Lists.{keep, counted, firstFrom, sameNumbers, allZero, largest}
+use Rattle.lists.specs.Lists.{keep, firstFrom, sameNumbers, rises}
 use Rattle.lists.specs.Over.{over}
-use Rattle.lists.proofs.Counted.{counted-same}
+use Rattle.lists.proofs.First.{first-none, isNone}
+use Rattle.lists.proofs.Rises.{rises-first}
+use Rattle.lists.proofs.Same.{same-refl}
 use Rattle.model.specs.State.{Block}
 use Rattle.model.specs.Image.{imageBlocks}
 use Rattle.history.specs.Keeper.{Kept, KeptTill, keptFrom, oldestKept, newestKept, filed, struckOut}
-use Rattle.history.specs.Kinds.{Kind, zeroKind, directKind, indirectKind, kindAt, kindFor, firstBlocks, kindsKept, hopsOfKind, hopsKept, longestKept}
-use Rattle.history.specs.View.{VersionView, TillView, hopsShown, chainShown, newKind, turnedKind, turnNewest, shownWith, shownWithout, shownFrom, oldestShown, newestShown}
-use Rattle.history.proofs.Shown.{firstKinds}
+use Rattle.history.specs.Kinds.{Kind, zeroKind, directKind, indirectKind, kindAt}
+use Rattle.history.specs.View.{VersionView, TillView, newKind, turnedKind, withKinds, turnNewest, shownWith, takeOverKind, dropVersion, shownWithout, shownFrom, oldestShown, newestShown}
+
+unfoldable pub isDirectKind : Kind → Bool
+isDirectKind zeroKind = false
+isDirectKind directKind = true
+isDirectKind (indirectKind n) = false
+
+-- What is shown of `x` as its pointers beside the newer versions. The next newer one, `y`, was taken after `x`; if `x` was then the newest, no block that
+-- `y` has too is stored for itself.
+abbrev pub Shared : ℕ → Kept → List Kept → List Kind → Type 0
+Shared bytes x [] ks = Unit {0}
+Shared bytes x (y ∷ newer) ks =
+    (x .number ≤ y .previous)
+    × (y .previous ≡ x .number → (n i : ℕ) → n < length (imageBlocks bytes (x .image)) → i < length (imageBlocks bytes (y .image))
+    → getD (imageBlocks bytes (x .image)) n [] ≡ getD (imageBlocks bytes (y .image)) i [] → isDirectKind (getD ks n zeroKind) ≡ false)
 
 -- a kept version, with the newer ones, is shown as `w`
 pub record Shows (bytes : ℕ) (x : Kept) (newer : List Kept) (w : VersionView) : Type 0 where
   pub number : w .number ≡ x .number
   pub size : w .length ≡ length (x .image)
   pub image : w .image ≡ x .image
-  pub kinds : w .kinds ≡ kindsKept bytes (x ∷ newer)
+  pub shared : Shared bytes x newer (w .kinds)
 
 abbrev pub Agree : ℕ → List Kept → List VersionView → Type 0
 Agree bytes [] [] = Unit {0}
@@ -34,39 +51,38 @@ Agree bytes (x ∷ xs) (w ∷ ws) = Shows bytes x xs w × Agree bytes xs ws
 abbrev pub AgreeTill : ℕ → KeptTill → TillView → Type 0
 AgreeTill bytes y w = (w .last ≡ y .last) × Agree bytes (y .versions) (w .versions)
 
+-- ---- a block that the new image has
+
+turned-shared : (new : List Block) (k : Kind) (b : Block) (i : ℕ) → i < length new → b ≡ getD new i [] → isDirectKind (turnedKind new k b) ≡ false
+unfolding turnedKind isDirectKind isNone
+turned-shared new zeroKind b i l e = refl
+turned-shared new directKind b i l e = go (firstFrom (sameNumbers b) 0 new) (first-none (sameNumbers b) [] new 0 i l (ap (sameNumbers b) (sym e) ∙ same-refl b))
+  where
+    go : (o : Option ℕ) → isNone o ≡ false → isDirectKind (kindAt o) ≡ false
+    go none q = absurd (false≢true (sym q))
+    go (some n) q = refl
+turned-shared new (indirectKind n) b i l e = refl
+
+over-shared : (new : List Block) (ks : List Kind) (bs : List Block) (n i : ℕ) → n < length bs → i < length new → getD bs n [] ≡ getD new i []
+    → isDirectKind (getD (over (turnedKind new) ks bs) n zeroKind) ≡ false
+unfolding isDirectKind
+over-shared new [] bs n i ln li e = refl
+over-shared new (k ∷ ks) [] n i ln li e = absurd (omega (arith, ln))
+over-shared new (k ∷ ks) (b ∷ bs) zero i ln li e = turned-shared new k b i li e
+over-shared new (k ∷ ks) (b ∷ bs) (suc n) i ln li e = over-shared new ks bs n i (omega (arith, ln)) li e
+
 module _ (bytes : ℕ) where
   -- ---- a version is filed
 
-  alone-kind : (b : Block) → kindFor b [] ≡ newKind b
-  unfolding kindFor newKind firstFrom
-  alone-kind b = refl
-
-  turned-alone : (new : List Block) (b : Block) → turnedKind new (kindFor b []) b ≡ kindFor b new
-  unfolding turnedKind kindFor firstFrom
-  turned-alone new b = go (allZero b)
-    where
-      go : (t : Bool) → turnedKind new (cond t zeroKind directKind) b ≡ cond t zeroKind (kindAt (firstFrom (sameNumbers b) 0 new))
-      go true = unfold turnedKind in refl
-      go false = unfold turnedKind in refl
-
-  turned-all : (new bs : List Block) → over (turnedKind new) (map (λ b. kindFor b []) bs) bs ≡ map (λ b. kindFor b new) bs
-  turned-all new [] = refl
-  turned-all new (b ∷ bs) = ap₂ _∷_ (turned-alone new b) (turned-all new bs)
-
-  new-shown : (n n′ : ℕ) (image : List ℕ) → n ≡ n′
-      → Shows bytes (record { number = n′; image = image }) [] (record { number = n; length = length image; image = image; kinds = map newKind (imageBlocks bytes image) })
-  unfolding kindsKept firstBlocks
-  new-shown n n′ image e = record { number = e; size = refl; image = refl; kinds = go (imageBlocks bytes image) }
-    where
-      go : (bs : List Block) → map newKind bs ≡ map (λ b. kindFor b []) bs
-      go [] = refl
-      go (b ∷ bs) = ap₂ _∷_ (sym (alone-kind b)) (go bs)
+  new-shown : (n n′ p : ℕ) (image : List ℕ) → n ≡ n′
+      → Shows bytes (record { number = n′; image = image; previous = p }) [] (record { number = n; length = length image; image = image; kinds = map newKind (imageBlocks bytes image) })
+  new-shown n n′ p image e = record { number = e; size = refl; image = refl; shared = tt }
 
   agree-filed : (n n′ : ℕ) (image : List ℕ) → n ≡ n′ → (xs : List Kept) (ws : List VersionView) → Agree bytes xs ws
-      → Agree bytes (xs ++ (record { number = n′; image = image } ∷ []))
+      → Agree bytes (xs ++ (record { number = n′; image = image; previous = newestKept xs } ∷ []))
       (turnNewest bytes (imageBlocks bytes image) ws ++ (record { number = n; length = length image; image = image; kinds = map newKind (imageBlocks bytes image) } ∷ []))
-  unfolding turnNewest kindsKept firstBlocks
-  agree-filed n n′ image e [] [] a = (new-shown n n′ image e, tt)
+  unfolding turnNewest withKinds newestKept
+  agree-filed n n′ image e [] [] a = (new-shown n n′ 0 image e, tt)
   agree-filed n n′ image e [] (w ∷ ws) a = absurd a
   agree-filed n n′ image e (x ∷ xs) [] a = absurd a
   agree-filed n n′ image e (x ∷ []) (w ∷ []) a =
@@ -75,23 +91,26 @@ module _ (bytes : ℕ) where
           number = f .number;
           size = f .size;
           image = f .image;
-          kinds =
-              ap₂ (λ (ks : List Kind) (i : List ℕ). over (turnedKind (imageBlocks bytes image)) ks (imageBlocks bytes i)) (f .kinds) (f .image)
-              ∙ turned-all (imageBlocks bytes image) (imageBlocks bytes (x .image));
+          shared = (
+            le-refl (x .number),
+            λ q k i lk li same.
+                ap (λ (l : List ℕ). isDirectKind (getD (over (turnedKind (imageBlocks bytes image)) (w .kinds) (imageBlocks bytes l)) k zeroKind)) (f .image)
+                ∙ over-shared (imageBlocks bytes image) (w .kinds) (imageBlocks bytes (x .image)) k i lk li same,
+          );
         },
-        (new-shown n n′ image e, tt),
+        (new-shown n n′ (x .number) image e, tt),
       )
   agree-filed n n′ image e (x ∷ []) (w ∷ v ∷ ws) a = absurd (a .1)
   agree-filed n n′ image e (x ∷ y ∷ xs) (w ∷ []) a = absurd (a .1)
   agree-filed n n′ image e (x ∷ y ∷ xs) (w ∷ v ∷ ws) a =
       let f = a .0 in
-      (record { number = f .number; size = f .size; image = f .image; kinds = f .kinds }, agree-filed n n′ image e (y ∷ xs) (v ∷ ws) (a .1))
+      (record { number = f .number; size = f .size; image = f .image; shared = f .shared }, agree-filed n n′ image e (y ∷ xs) (v ∷ ws) (a .1))
 
   pub till-filed : (y : KeptTill) (w : TillView) (image : List ℕ) → AgreeTill bytes y w → AgreeTill bytes (filed y image) (shownWith bytes w image)
   unfolding filed shownWith
   till-filed y w image a = (ap suc (a .0), agree-filed (suc (w .last)) (suc (y .last)) image (ap suc (a .0)) (y .versions) (w .versions) (a .1))
 
-  -- ---- the oldest is struck
+  -- ---- a version is struck
 
   pub agree-numbers : (xs : List Kept) (ws : List VersionView) → Agree bytes xs ws → map (λ (w : VersionView). w .number) ws ≡ map (λ (x : Kept). x .number) xs
   agree-numbers [] [] a = refl
@@ -99,34 +118,77 @@ module _ (bytes : ℕ) where
   agree-numbers (x ∷ xs) [] a = absurd a
   agree-numbers (x ∷ xs) (w ∷ ws) a = ap₂ _∷_ (a .0 .number) (agree-numbers xs ws (a .1))
 
-  -- later numbers are all kept
-  keep-later : (v : ℕ) (xs : List Kept) (b n : ℕ) → map (λ (x : Kept). x .number) xs ≡ counted (λ i. i) b n → v < b → keep (λ (x : Kept). not (eqb (x .number) v)) xs ≡ xs
-  unfolding keep counted
-  keep-later v [] b n e l = refl
-  keep-later v (x ∷ xs) b zero e l = absurd (suc-ne-zero _ (ap length e))
-  keep-later v (x ∷ xs) b (suc n) e l =
-      let q : x .number ≡ b = ap (λ (l : List ℕ). getD l 0 0) e in
-      rw (ne-eqb (x .number) v (λ z. omega (arith, z, q, l))) (ap {B = List Kept} (λ k. x ∷ k) (keep-later v xs (suc b) n (ap (drop 1) e) (omega (arith, l))))
+  -- numbers above that of the one struck are all kept
+  keep-above : (v low high : ℕ) (xs : List Kept) → rises low high (map (λ (x : Kept). x .number) xs) ≡ true → v ≤ low → keep (λ (x : Kept). not (eqb (x .number) v)) xs ≡ xs
+  unfolding keep
+  keep-above v low high [] h l = refl
+  keep-above v low high (x ∷ xs) h l =
+      let r = rises-first low high (x .number) (map (λ (x : Kept). x .number) xs) h in
+      rw (ne-eqb (x .number) v (λ z. omega (arith, z, l, r .above)))
+      (ap {B = List Kept} (λ k. x ∷ k) (keep-above v (x .number) high xs (r .rest) (omega (arith, l, r .above))))
 
-  rest-agrees : (v : ℕ) (xs : List Kept) (w : VersionView) (ws : List VersionView) (b n : ℕ) → Agree bytes xs (w ∷ ws)
-      → map (λ (x : Kept). x .number) xs ≡ counted (λ i. i) b n → eqb (w .number) v ≡ true
-      → Agree bytes (keep (λ (x : Kept). not (eqb (x .number) v)) xs) ws
-  unfolding keep counted
-  rest-agrees v [] w ws b n a e q = absurd a
-  rest-agrees v (x ∷ xs) w ws b zero a e q = absurd (suc-ne-zero _ (ap length e))
-  rest-agrees v (x ∷ xs) w ws b (suc n) a e q =
-      let z : x .number ≡ b = ap (λ (l : List ℕ). getD l 0 0) e in
-      let t : eqb (x .number) v ≡ true = ap (λ (i : ℕ). eqb i v) (sym (a .0 .number)) ∙ q in
-      rw t (subst (λ (l : List Kept). Agree bytes l ws) (sym (keep-later v xs (suc b) n (ap (drop 1) e) (omega (arith, z, eqb-true (x .number) v t)))) (a .1))
+  -- the older neighbour of the one struck: the next newer one was taken after that
+  skip-shared : (x y : Kept) (newer : List Kept) (ks ks′ : List Kind) → Shared bytes y newer ks → x .number < y .number → Shared bytes x newer ks′
+  skip-shared x y [] ks ks′ f l = tt
+  skip-shared x y (z ∷ newer) ks ks′ f l = (omega (arith, f .0, l), λ q n i ln li same. absurd (omega (arith, f .0, l, q)))
 
-  pub till-struck : (y : KeptTill) (w : TillView) (v b n : ℕ) (u : VersionView) (us : List VersionView) → AgreeTill bytes y w → w .versions ≡ u ∷ us → eqb (u .number) v ≡ true
-      → map (λ (w : VersionView). w .number) (w .versions) ≡ counted (λ i. i) b n → AgreeTill bytes (struckOut y v) (shownWithout w)
+  agree-struck : (v high : ℕ) (xs : List Kept) (ws : List VersionView) → Agree bytes xs ws → (low : ℕ) → rises low high (map (λ (x : Kept). x .number) xs) ≡ true
+      → Agree bytes (keep (λ (x : Kept). not (eqb (x .number) v)) xs) (dropVersion v ws)
+  unfolding keep dropVersion
+  agree-struck v high [] [] a low h = tt
+  agree-struck v high [] (w ∷ ws) a low h = absurd a
+  agree-struck v high (x ∷ xs) [] a low h = absurd a
+  agree-struck v high (x ∷ []) (w ∷ []) a low h =
+      subst (λ (t : Bool). Agree bytes (cond (not (eqb (x .number) v)) (x ∷ []) []) (cond t [] (w ∷ []))) (ap (λ (i : ℕ). eqb i v) (sym (a .0 .number))) (go (eqb (x .number) v))
+    where
+      go : (t : Bool) → Agree bytes (cond (not t) (x ∷ []) []) (cond t [] (w ∷ []))
+      go true = tt
+      go false = a
+  agree-struck v high (x ∷ []) (w ∷ u ∷ ws) a low h = absurd (a .1)
+  agree-struck v high (x ∷ y ∷ xs) (w ∷ []) a low h = absurd (a .1)
+  agree-struck v high (x ∷ y ∷ xs) (w ∷ u ∷ ws) a low h =
+      let r = rises-first low high (x .number) (map (λ (k : Kept). k .number) (y ∷ xs)) h in
+      let r′ = rises-first (x .number) high (y .number) (map (λ (k : Kept). k .number) xs) (r .rest) in
+      subst (λ (t : Bool). Agree bytes (cond (not (eqb (x .number) v)) (x ∷ rest) rest) (cond t (u ∷ ws) (inner (eqb (u .number) v)))) (ap (λ (i : ℕ). eqb i v) (sym (a .0 .number)))
+      (subst (λ (t : Bool). Agree bytes (cond (not (eqb (x .number) v)) (x ∷ rest) rest) (cond (eqb (x .number) v) (u ∷ ws) (inner t))) (ap (λ (i : ℕ). eqb i v) (sym (a .1 .0 .number)))
+      (go (eqb (x .number) v) refl (eqb (y .number) v) refl (r′ .above) (r .rest) (r′ .rest) (agree-struck v high (y ∷ xs) (u ∷ ws) (a .1) (x .number) (r .rest))))
+    where
+      rest : List Kept
+      rest = keep (λ (k : Kept). not (eqb (k .number) v)) (y ∷ xs)
+
+      inner : Bool → List VersionView
+      inner t = cond t (withKinds w (map (takeOverKind (u .kinds)) (w .kinds)) ∷ ws) (w ∷ dropVersion v (u ∷ ws))
+
+      same : eqb (x .number) v ≡ true → rises (x .number) high (map (λ (k : Kept). k .number) (y ∷ xs)) ≡ true → rest ≡ y ∷ xs
+      same q h = keep-above v (x .number) high (y ∷ xs) h (omega (arith, eqb-true (x .number) v q))
+
+      gone : eqb (y .number) v ≡ true → rises (y .number) high (map (λ (k : Kept). k .number) xs) ≡ true → rest ≡ xs
+      gone q h = unfold keep in rw q (keep-above v (y .number) high xs h (omega (arith, eqb-true (y .number) v q)))
+
+      stay : eqb (y .number) v ≡ false → rest ≡ y ∷ keep (λ (k : Kept). not (eqb (k .number) v)) xs
+      stay q = unfold keep in rw q refl
+
+      older : x .number < y .number → Shows bytes x xs (withKinds w (map (takeOverKind (u .kinds)) (w .kinds)))
+      older l = unfold withKinds in record {
+        number = a .0 .number;
+        size = a .0 .size;
+        image = a .0 .image;
+        shared = skip-shared x y xs (u .kinds) (map (takeOverKind (u .kinds)) (w .kinds)) (a .1 .0 .shared) l;
+      }
+
+      go : (p : Bool) → eqb (x .number) v ≡ p → (q : Bool) → eqb (y .number) v ≡ q → x .number < y .number → rises (x .number) high (map (λ (k : Kept). k .number) (y ∷ xs)) ≡ true
+          → rises (y .number) high (map (λ (k : Kept). k .number) xs) ≡ true → Agree bytes rest (dropVersion v (u ∷ ws))
+          → Agree bytes (cond (not p) (x ∷ rest) rest) (cond p (u ∷ ws) (inner q))
+      go true p q′ q l h h′ ih = subst (λ (k : List Kept). Agree bytes k (u ∷ ws)) (sym (same p h)) (a .1)
+      go false p true q l h h′ ih = subst (λ (k : List Kept). Agree bytes (x ∷ k) (withKinds w (map (takeOverKind (u .kinds)) (w .kinds)) ∷ ws)) (sym (gone q h′)) (older l, a .1 .1)
+      go false p false q l h h′ ih =
+          (subst (λ (k : List Kept). Shows bytes x k w) (sym (stay q)) (record { number = a .0 .number; size = a .0 .size; image = a .0 .image; shared = a .0 .shared }), ih)
+
+  pub till-struck : (y : KeptTill) (w : TillView) (v : ℕ) → AgreeTill bytes y w → rises 0 (w .last) (map (λ (u : VersionView). u .number) (w .versions)) ≡ true
+      → AgreeTill bytes (struckOut y v) (shownWithout w v)
   unfolding struckOut shownWithout
-  till-struck y w v b n u us a e q numbers = (
-    a .0,
-    subst (λ (l : List VersionView). Agree bytes (keep (λ (x : Kept). not (eqb (x .number) v)) (y .versions)) (drop 1 l)) (sym e)
-        (rest-agrees v (y .versions) u us b n (subst (Agree bytes (y .versions)) e (a .1)) (sym (agree-numbers (y .versions) (w .versions) (a .1)) ∙ numbers) q),
-  )
+  till-struck y w v a h =
+      (a .0, agree-struck v (w .last) (y .versions) (w .versions) (a .1) 0 (ap (rises 0 (w .last)) (sym (agree-numbers (y .versions) (w .versions) (a .1))) ∙ h))
 
   -- ---- what follows
 
@@ -162,33 +224,3 @@ module _ (bytes : ℕ) where
   agree-newest (x ∷ []) (w ∷ v ∷ ws) a = absurd (a .1)
   agree-newest (x ∷ y ∷ xs) (w ∷ []) a = absurd (a .1)
   agree-newest (x ∷ y ∷ xs) (w ∷ v ∷ ws) a = agree-newest (y ∷ xs) (v ∷ ws) (a .1)
-
-  pub agree-kinds : (xs : List Kept) (ws : List VersionView) → Agree bytes xs ws → firstKinds ws ≡ kindsKept bytes xs
-  agree-kinds [] [] a = unfold kindsKept in refl
-  agree-kinds [] (w ∷ ws) a = absurd a
-  agree-kinds (x ∷ xs) [] a = absurd a
-  agree-kinds (x ∷ xs) (w ∷ ws) a = a .0 .kinds
-
-  agree-hops : (xs : List Kept) (ws : List VersionView) → Agree bytes xs ws → (n : ℕ) → hopsShown ws n ≡ hopsKept bytes xs n
-  unfolding hopsShown hopsKept
-  agree-hops [] [] a n = refl
-  agree-hops [] (w ∷ ws) a n = absurd a
-  agree-hops (x ∷ xs) [] a n = absurd a
-  agree-hops (x ∷ xs) (w ∷ ws) a n =
-      ap (λ (ks : List Kind). hopsOfKind (getD ks n zeroKind) (λ k. hopsShown ws k)) (a .0 .kinds)
-      ∙ next (getD (kindsKept bytes (x ∷ xs)) n zeroKind) (agree-hops xs ws (a .1))
-    where
-      next : (q : Kind) → ((k : ℕ) → hopsShown ws k ≡ hopsKept bytes xs k) → hopsOfKind q (λ k. hopsShown ws k) ≡ hopsOfKind q (λ k. hopsKept bytes xs k)
-      next zeroKind r = unfold hopsOfKind in refl
-      next directKind r = unfold hopsOfKind in refl
-      next (indirectKind k) r = unfold hopsOfKind in ap suc (r k)
-
-  pub agree-chain : (xs : List Kept) (ws : List VersionView) → Agree bytes xs ws → chainShown ws ≡ longestKept bytes xs
-  unfolding chainShown longestKept kindsKept
-  agree-chain [] [] a = refl
-  agree-chain [] (w ∷ ws) a = absurd a
-  agree-chain (x ∷ xs) [] a = absurd a
-  agree-chain (x ∷ xs) (w ∷ ws) a =
-      ap largest
-      (counted-same (hopsShown (w ∷ ws)) (hopsKept bytes (x ∷ xs)) (agree-hops (x ∷ xs) (w ∷ ws) a) 0 (length (w .kinds))
-      ∙ ap (counted (hopsKept bytes (x ∷ xs)) 0) (ap length (a .0 .kinds) ∙ length-map (imageBlocks bytes (x .image)) (λ b. kindFor b (firstBlocks bytes xs))))

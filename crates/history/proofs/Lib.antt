@@ -11,7 +11,6 @@ pub mod Local
 pub mod Order
 pub mod Kept
 pub mod Fed
-pub mod Numbers
 pub mod Chains
 pub mod Cells
 pub mod Bullets

@@ -1,7 +1,7 @@
 -- What a call on a till answers follows from what that till shows, 14 and 16 apart.
 use mathlib.Core.Path.{_≡_, refl, sym, ap, ap₂, _∙_, subst}
 use mathlib.Core.Logic.{_⊎_, inl, inr}
-use mathlib.Core.Bool.{Bool, true, false, cond, not, _||_, false≢true}
+use mathlib.Core.Bool.{Bool, true, false, cond, _||_, false≢true}
 use mathlib.Core.List.{List, [], _∷_, _++_}
 use mathlib.Core.Option.{Option, none, some}
 use Prim.Native.Nat.{ℕ, suc, _*_}
@@ -16,7 +16,7 @@ use Rattle.model.specs.Records.{isFree, equals}
 use Rattle.model.specs.Runs.{Run, findRun}
 use Rattle.model.specs.Place.{Placed, nonNull, writeRun, writeRecord, shareOrWrite, placeSegment, afterSome, placeNext, placeAll}
 use Rattle.model.specs.Trace.{imageOf}
-use Rattle.model.specs.Calls.{tillOf, heldFrom, restoreFrom, restoreRefusal, restore, isEmpty, isOldest, dropOldest, retire, fileIn, placeAndFile, backup, listTill, listingRefusal, listingIn, RestoreAnswer, After}
+use Rattle.model.specs.Calls.{tillOf, heldFrom, restoreFrom, restoreRefusal, restore, heldBefore, retireFrom, retire, fileIn, placeAndFile, backup, listTill, listingRefusal, listingIn, RestoreAnswer, After}
 use Rattle.history.specs.Calls.{Call, callLayout, callBackup, callRestore, callRetire, callListing, callTally, Answer, backedUp, restored, retired, listed, outcomeRefusal, outcomeNumber, answerIn}
 use Rattle.history.specs.View.{VersionView, viewVersions, viewOf, viewAt, isOnTill, tillNamed, shownFrom, restoreShown, retireShown, answerShown}
 use Rattle.history.proofs.Shown.{views-length, oldest-is, newest-is, from-same, chain-is}
@@ -131,31 +131,17 @@ retire-shown : (s : Shape) (st : State) (t v : ℕ) → retiredFrom (retire s st
 unfolding retire answerShown viewOf
 retire-shown s st t v = either (leb (s .capacities .tills) t)
   where
-    dropped : (hs vs : List Version) → (isEmpty vs ≡ true → isEmpty hs ≡ true)
-        → retiredFrom (cond (isEmpty hs) (refused 15) (cond (not (isOldest v vs)) (refused 13) (dropOldest s st t (tillOf st t .last) vs)))
-        ≡ retireShown v (viewVersions (s .measures .blockBytes) (st .shelf) hs) (viewVersions (s .measures .blockBytes) (st .shelf) vs)
-    dropped [] vs e = unfold isEmpty retireShown viewVersions outcomeRefusal outcomeNumber in refl
-    dropped (x ∷ hs) [] e = unfold isEmpty in absurd (false≢true (e refl))
-    dropped (x ∷ hs) (w ∷ ws) e =
-        unfold isEmpty isOldest retireShown viewVersions in go (eqb (w .number) v)
-      where
-        go : (b : Bool) → retiredFrom (cond (not b) (refused 13) (dropOldest s st t (tillOf st t .last) (w ∷ ws))) ≡ cond b (retired 0 (w .length)) (retired 13 0)
-        go true = unfold dropOldest outcomeRefusal outcomeNumber in refl
-        go false = unfold outcomeRefusal outcomeNumber in refl
-
-    none-held : (vs : List Version) → isEmpty vs ≡ true → isEmpty (heldFrom v vs) ≡ true
-    none-held [] e = unfold isEmpty heldFrom in refl
-    none-held (w ∷ vs) e = unfold isEmpty in absurd (false≢true e)
+    one : (older hs : List Version) → retiredFrom (retireFrom s st t (tillOf st t) older hs) ≡ retireShown (viewVersions (s .measures .blockBytes) (st .shelf) hs)
+    one older [] = unfold retireFrom retireShown viewVersions outcomeRefusal outcomeNumber in refl
+    one older (w ∷ ws) = unfold retireFrom retireShown viewVersions outcomeRefusal outcomeNumber in refl
 
     either : (b : Bool)
-        → retiredFrom (cond b (refused 3) (cond (isEmpty (heldFrom v (tillOf st t .versions))) (refused 15)
-        (cond (not (isOldest v (tillOf st t .versions))) (refused 13) (dropOldest s st t (tillOf st t .last) (tillOf st t .versions)))))
-        ≡ cond b (retired 3 0) (retireShown v (shownFrom v (viewVersions (s .measures .blockBytes) (st .shelf) (tillOf st t .versions))) (viewVersions (s .measures .blockBytes) (st .shelf) (tillOf st t .versions)))
+        → retiredFrom (cond b (refused 3) (retireFrom s st t (tillOf st t) (heldBefore v (tillOf st t .versions)) (heldFrom v (tillOf st t .versions))))
+        ≡ cond b (retired 3 0) (retireShown (shownFrom v (viewVersions (s .measures .blockBytes) (st .shelf) (tillOf st t .versions))))
     either true = unfold outcomeRefusal outcomeNumber in refl
     either false =
-        dropped (heldFrom v (tillOf st t .versions)) (tillOf st t .versions) (none-held (tillOf st t .versions))
-        ∙ ap (λ (l : List VersionView). retireShown v l (viewVersions (s .measures .blockBytes) (st .shelf) (tillOf st t .versions)))
-        (sym (from-same (s .measures .blockBytes) (st .shelf) v (tillOf st t .versions)))
+        one (heldBefore v (tillOf st t .versions)) (heldFrom v (tillOf st t .versions))
+        ∙ ap retireShown (sym (from-same (s .measures .blockBytes) (st .shelf) v (tillOf st t .versions)))
 
 listing-shown : (s : Shape) (st : State) (t : ℕ)
     → listed (listingIn (some (record { shape = s; state = st })) t) ≡ answerShown s (viewAt (s .measures .blockBytes) st t) (callListing t)

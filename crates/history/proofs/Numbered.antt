@@ -1,5 +1,5 @@
 -- No refusal carries number 0, and step 1 refuses with 14 or 16 only.
-use mathlib.Core.Bool.{not, _||_}
+use mathlib.Core.Bool.{_||_}
 use mathlib.Core.List.{List, [], _∷_}
 use mathlib.Core.Option.{Option, none, some}
 use Prim.Native.Nat.{ℕ, _*_, _<_}
@@ -13,7 +13,7 @@ use Rattle.model.specs.Image.{imageBlocks, imageSegments}
 use Rattle.model.specs.Records.{isFree, equals}
 use Rattle.model.specs.Runs.{Run, findRun}
 use Rattle.model.specs.Place.{Placed, nonNull, writeRun, writeRecord, shareOrWrite, placeSegment, afterSome, placeNext, placeAll}
-use Rattle.model.specs.Calls.{tillOf, heldFrom, isEmpty, isOldest, dropOldest, fileIn, placeAndFile, backup, retire}
+use Rattle.model.specs.Calls.{tillOf, heldFrom, heldBefore, retireFrom, fileIn, placeAndFile, backup, retire}
 
 abbrev pub Numbered : {A : Type 0} → Outcome A → Type 0
 Numbered (refused n) = 0 < n
@@ -68,11 +68,8 @@ backup-numbered s st t image =
 
 pub retire-numbered : (s : Shape) (st : State) (t v : ℕ) → Numbered (retire s st t v)
 unfolding retire
-retire-numbered s st t v =
-    by-test Numbered (leb (s .capacities .tills) t) (λ e. lit< tt)
-    (λ e. by-test Numbered (isEmpty (heldFrom v (tillOf st t .versions))) (λ e. lit< tt)
-    (λ e. by-test Numbered (not (isOldest v (tillOf st t .versions))) (λ e. lit< tt) (λ e. go (tillOf st t .versions))))
+retire-numbered s st t v = by-test Numbered (leb (s .capacities .tills) t) (λ e. lit< tt) (λ e. go (heldFrom v (tillOf st t .versions)))
   where
-    go : (vs : List Version) → Numbered (dropOldest s st t (tillOf st t .last) vs)
-    go [] = unfold dropOldest in lit< tt
-    go (v ∷ vs) = unfold dropOldest in tt
+    go : (hs : List Version) → Numbered (retireFrom s st t (tillOf st t) (heldBefore v (tillOf st t .versions)) hs)
+    go [] = unfold retireFrom in lit< tt
+    go (w ∷ ws) = unfold retireFrom in tt

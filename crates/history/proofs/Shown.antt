@@ -1,23 +1,22 @@
 -- What a till's versions show, part by part: how many, their numbers, the versions from a number on, the longest chain.
-use mathlib.Core.Path.{_≡_, refl, ap, _∙_, sym}
+use mathlib.Core.Path.{_≡_, refl, ap, _∙_, sym, subst}
 use mathlib.Core.Bool.{Bool, true, false, cond}
 use mathlib.Core.List.{List, [], _∷_, map}
 use Prim.Native.Nat.{ℕ, suc}
-use lib.ListN.{length, getD, length-map, List·getD-map}
-use lib.Dec.{eqb}
-use Rattle.lists.specs.Lists.{counted, largest}
+use lib.ListN.{length, getD, length-map, List·getD-map, List·getD-eq-default}
+use lib.Dec.{eqb, ltb}
+use borrow.Author.Tests.{ltb-true, ltb-false}
+use Rattle.lists.specs.Lists.{counted, largest, rises}
 use Rattle.lists.proofs.Counted.{counted-same}
-use Rattle.model.specs.State.{Pointer, nullPointer, direct, indirect, Shelf, Version}
+use Rattle.lists.proofs.Tests.{clause, every-at}
+use Rattle.model.specs.Measures.{Shape}
+use Rattle.model.specs.State.{Pointer, nullPointer, direct, indirect, Shelf, Version, Till, State}
 use Rattle.model.specs.Trace.{imageOf, hopsVia, hops, longestChain}
-use Rattle.model.specs.Sound.{nextPointers}
-use Rattle.model.specs.Calls.{heldFrom, oldestNumber, newestNumber}
+use Rattle.model.specs.Sound.{isSound, isTill, isNumbered}
+use Rattle.model.specs.Calls.{emptyTill, tillOf, heldFrom, oldestNumber, newestNumber}
+use Rattle.laws.proofs.Serves.{sound-valid}
 use Rattle.history.specs.Kinds.{Kind, kindOf, hopsOfKind}
-use Rattle.history.specs.View.{VersionView, viewVersions, hopsShown, chainShown, shownFrom, oldestShown, newestShown}
-
--- what each pointer of the first version of a list is
-abbrev pub firstKinds : List VersionView → List Kind
-firstKinds [] = []
-firstKinds (w ∷ ws) = w .kinds
+use Rattle.history.specs.View.{VersionView, viewVersions, viewOf, viewAt, hopsShown, chainShown, shownFrom, oldestShown, newestShown}
 
 module _ (bytes : ℕ) (a : Shelf) where
   pub views-numbers : (vs : List Version) → map (λ (w : VersionView). w .number) (viewVersions bytes a vs) ≡ map (λ (v : Version). v .number) vs
@@ -75,7 +74,15 @@ module _ (bytes : ℕ) (a : Shelf) where
       (counted-same (hops (v ∷ newer)) (hopsShown (viewVersions bytes a (v ∷ newer))) (hops-is (v ∷ newer)) 0 (length (v .pointers))
       ∙ ap (counted (hopsShown (viewVersions bytes a (v ∷ newer))) 0) (sym (length-map (v .pointers) kindOf)))
 
-  pub kinds-is : (vs : List Version) → map kindOf (nextPointers vs) ≡ firstKinds (viewVersions bytes a vs)
-  unfolding nextPointers viewVersions
-  kinds-is [] = refl
-  kinds-is (v ∷ vs) = refl
+-- a sound store's numbers rise
+pub shown-numbers : (s : Shape) (st : State) → isSound s st ≡ true → (t : ℕ)
+    → rises 0 (viewAt (s .measures .blockBytes) st t .last) (map (λ (w : VersionView). w .number) (viewAt (s .measures .blockBytes) st t .versions)) ≡ true
+unfolding viewOf
+shown-numbers s st h t =
+    ap (rises 0 (tillOf st t .last)) (views-numbers (s .measures .blockBytes) (st .shelf) (tillOf st t .versions)) ∙ go (ltb t (length (st .tills))) refl
+  where
+    go : (b : Bool) → ltb t (length (st .tills)) ≡ b → rises 0 (tillOf st t .last) (map (λ (v : Version). v .number) (tillOf st t .versions)) ≡ true
+    go true q = unfold tillOf isTill isNumbered in clause _ 2 (clause _ 0 (every-at (isTill s (st .shelf)) emptyTill (st .tills) (sound-valid s st h .tills) t (ltb-true t (length (st .tills)) q)))
+    go false q =
+        let gone : tillOf st t ≡ emptyTill = unfold tillOf in List·getD-eq-default (st .tills) emptyTill (ltb-false t (length (st .tills)) q) in
+        subst (λ (x : Till). rises 0 (x .last) (map (λ (v : Version). v .number) (x .versions)) ≡ true) (sym gone) (unfold emptyTill rises in refl)

@@ -1,4 +1,4 @@
--- What versions show: on a shelf that serves their pointers it is as before, and with a new version it turns as the step on views says.
+-- What versions show: on a shelf that serves their pointers it is as before; with a new version, and without a retired one, it is as the step on views says.
 use mathlib.Core.Path.{_≡_, refl, sym, ap, ap₂, _∙_}
 use mathlib.Core.Bool.{Bool, true, false, cond, false≢true}
 use mathlib.Core.List.{List, [], _∷_, _++_, map}
@@ -6,11 +6,13 @@ use mathlib.Core.Option.{Option, none, some}
 use Prim.Native.Nat.{ℕ, suc, _-_, _*_, _≤_, _<_}
 use native.Mathlib.Nat.{zero-add}
 use native.Mathlib.Omega.{arith}
-use lib.ListN.{length, getD, take, length-map}
+use lib.ListN.{length, getD, take, length-map, List·getD-map}
 use lib.Seq.{take-at}
+use lib.Dec.{eqb}
 use Rattle.lists.specs.Lists.{count, counted, allZero}
 use Rattle.lists.specs.Rows.{joined, fill}
 use Rattle.lists.specs.Over.{over}
+use Rattle.lists.specs.Each.{Each}
 use Rattle.lists.proofs.Counted.{counted-is, counted-same}
 use Rattle.lists.proofs.Counts.{count-append}
 use Rattle.lists.proofs.Sets.{map-at}
@@ -21,15 +23,16 @@ use Rattle.model.specs.Image.{imageBlocks}
 use Rattle.model.specs.Turn.{target, indirectTo, turn}
 use Rattle.model.specs.Trace.{endOf, blockAt, tracedBlock, tracedBlocks, imageOf}
 use Rattle.model.specs.Sound.{isNull, leadsTo, nextPointers, areTraceable}
-use Rattle.model.specs.Calls.{newestPointers, withNewestPointers}
+use Rattle.model.specs.Calls.{newestPointers, withNewestPointers, takeOver, closeUp}
 use Rattle.laws.proofs.Sweep.{Exact}
 use Rattle.laws.proofs.Place.{isIndirect}
 use Rattle.laws.proofs.Serves.{pointersOf, Serves, traced-again}
 use Rattle.laws.proofs.Turn.{NewOk, extended, traced-same, turn-length, plain-end, lead-at, last-plain}
+use Rattle.laws.proofs.Takeover.{close-traced}
 use Rattle.laws.proofs.Image.{blocks-joined}
 use Rattle.laws.proofs.Fits.{Proper}
 use Rattle.history.specs.Kinds.{Kind, zeroKind, directKind, kindOf, kindAt}
-use Rattle.history.specs.View.{VersionView, viewVersions, viewOf, newKind, turnedKind, turnNewest}
+use Rattle.history.specs.View.{VersionView, viewVersions, viewOf, newKind, turnedKind, withKinds, turnNewest, takeOverKind, dropVersion}
 
 pub view-path : (n n′ l l′ : ℕ) (i i′ : List ℕ) (k k′ : List Kind) → n ≡ n′ → l ≡ l′ → i ≡ i′ → k ≡ k′
     → _≡_ {A = VersionView} (record { number = n; length = l; image = i; kinds = k }) (record { number = n′; length = l′; image = i′; kinds = k′ })
@@ -142,7 +145,7 @@ module _ (s : Shape) (p : Shelf) (x : Exact p) (bs : List Block) (newV : Version
   pub views-extended : (vs : List Version) → areTraceable (s .measures .blockBytes) (s .capacities .blocks) p vs ≡ true → Cut (s .measures .blockBytes) p vs
       → viewVersions (s .measures .blockBytes) p (extended s p x bs newV ok vs)
       ≡ turnNewest (s .measures .blockBytes) bs (viewVersions (s .measures .blockBytes) p vs) ++ viewVersions (s .measures .blockBytes) p (newV ∷ [])
-  unfolding viewVersions turnNewest extended withNewestPointers newestPointers areTraceable nextPointers tracedBlock
+  unfolding viewVersions turnNewest withKinds extended withNewestPointers newestPointers areTraceable nextPointers tracedBlock
   views-extended [] h c = refl
   views-extended (v ∷ []) h c =
       ap {B = List VersionView} (λ (w : VersionView). w ∷ viewVersions (s .measures .blockBytes) p (newV ∷ []))
@@ -158,3 +161,39 @@ module _ (s : Shape) (p : Shelf) (x : Exact p) (bs : List Block) (newV : Version
       (image-same (s .measures) p p v v (w ∷ vs) (extended s p x bs newV ok (w ∷ vs)) refl refl (traced-same s p x bs newV ok v (w ∷ vs) h))
       refl)
       (views-extended (w ∷ vs) (clause _ 3 h) (c .1))
+
+-- ---- without a version
+
+take-kind : (gone : List Pointer) (p : Pointer) → kindOf (takeOver gone p) ≡ takeOverKind (map kindOf gone) (kindOf p)
+unfolding takeOverKind
+take-kind gone nullPointer = refl
+take-kind gone (direct k i) = refl
+take-kind gone (indirect n) = sym (List·getD-map kindOf gone n nullPointer)
+
+take-kinds : (gone ps : List Pointer) → map kindOf (map (takeOver gone) ps) ≡ map (takeOverKind (map kindOf gone)) (map kindOf ps)
+take-kinds gone [] = refl
+take-kinds gone (p ∷ ps) = ap₂ _∷_ (take-kind gone p) (take-kinds gone ps)
+
+module _ (m : Measures) (a : Shelf) (n : ℕ) (v : Version) (newer : List Version) (named : eqb (v .number) n ≡ true) where
+  pub views-closed : (older : List Version) → Each (λ (w : Version). eqb (w .number) n ≡ false) older
+      → viewVersions (m .blockBytes) a (closeUp older v newer) ≡ dropVersion n (viewVersions (m .blockBytes) a (older ++ (v ∷ newer)))
+  unfolding viewVersions dropVersion withKinds closeUp withNewestPointers newestPointers
+  views-closed [] o = go newer
+    where
+      go : (ws : List Version) → viewVersions (m .blockBytes) a ws ≡ dropVersion n (viewVersions (m .blockBytes) a (v ∷ ws))
+      go [] = unfold viewVersions dropVersion in rw named refl
+      go (w ∷ ws) = unfold viewVersions dropVersion in rw named refl
+  views-closed (u ∷ []) o =
+      rw (o .0, named)
+      (ap {B = List VersionView} (λ (w : VersionView). w ∷ viewVersions (m .blockBytes) a newer)
+      (view-path _ _ _ _ _ _ _ _ refl refl
+      (image-same m a a u (record { number = u .number; length = u .length; pointers = map (takeOver (v .pointers)) (u .pointers) }) (v ∷ newer) newer refl
+      (length-map (u .pointers) (takeOver (v .pointers))) (close-traced v newer (m .blockBytes) a u []))
+      (take-kinds (v .pointers) (u .pointers))))
+  views-closed (u ∷ w ∷ older) o =
+      rw (o .0, o .1 .0)
+      (ap₂ _∷_
+      (view-path _ _ _ _ _ _ _ _ refl refl
+      (image-same m a a u u (w ∷ (older ++ (v ∷ newer))) (closeUp (w ∷ older) v newer) refl refl (close-traced v newer (m .blockBytes) a u (w ∷ older)))
+      refl)
+      (views-closed (w ∷ older) (o .1)))

@@ -1,22 +1,22 @@
 -- Demand 3: what holds after every list of calls. One type, `Demand3`, with a field for each sentence of the page; proofs/Demand.antt has its proof.
-use Prim.Native.Nat.{ℕ, suc, _-_, _≤_, _<_}
+use Prim.Native.Nat.{ℕ, _≤_, _<_}
 use mathlib.Core.Path.{_≡_}
 use mathlib.Core.Logic.{_↔_}
 use mathlib.Core.Bool.{true, false}
 use mathlib.Core.List.{List, [], _∷_, _++_, map}
 use mathlib.Core.Option.{some}
 use lib.ListN.{length, getD, drop}
-use Rattle.lists.specs.Lists.{counted, count, isIn, allZero}
+use Rattle.lists.specs.Lists.{counted, count, rises, isIn, allZero}
 use Rattle.model.specs.Measures.{Shape}
 use Rattle.model.specs.State.{Block, Pointer, nullPointer, direct, indirect, State}
 use Rattle.model.specs.Image.{imageBlocks}
 use Rattle.model.specs.Records.{namedCells, cellAt, positionAt, cellOf, isHeld}
+use Rattle.model.specs.Trace.{longestChain}
 use Rattle.model.specs.Table.{stateToWords, stateToBytes, cellsIn}
 use Rattle.model.specs.Sound.{storeOf, nextPointers}
 use Rattle.model.specs.Calls.{layoutOf, backupOf, restoreOf, RestoreAnswer, retireOf, listingOf, ListingAnswer, tallyOf, emptyState, tillOf, heldFrom}
 use Rattle.history.specs.Calls.{Call, callBackup, Buffers, buffersAfterAll, answersOf, refusedLayouts, stateAfterAll, answersIn}
 use Rattle.history.specs.Keeper.{Kept, Keeper, freshKeeper, keptTill, fed, fedAll, keptFrom, oldestKept, newestKept}
-use Rattle.history.specs.Kinds.{kindOf, kindsKept, longestKept}
 
 -- the pointers of a till's version of that number; `nextPointers` gives those of the first version of a list
 unfoldable pub pointersHeld : State → ℕ → ℕ → List Pointer
@@ -49,12 +49,12 @@ module _ (bytes : ℕ) (st : State) (k : Keeper) (b : Buffers) where
 
   pub record Restores : Type 0 where
     -- "A restore of a held version, with an output long enough, gets none of 10, 3, 15 and 5": it is accepted, "answers the image's length and writes the
-    -- image; later bytes of the output stay"; and its longest chain is what the kept images say
+    -- image; later bytes of the output stay"; and its longest chain is "the most so followed for any one block"
     pub given : (t v : ℕ) (x : Kept) (newer : List Kept) (output : List ℕ) → IsKept t v x newer → length (x .image) ≤ length output
         → (restoring t v output .refusal ≡ 0)
         × (restoring t v output .length ≡ length (x .image))
         × (restoring t v output .output ≡ x .image ++ drop (length (x .image)) output)
-        × (restoring t v output .hops ≡ longestKept bytes (x ∷ newer))
+        × (restoring t v output .hops ≡ longestChain (heldFrom v (tillOf st t .versions)))
     pub short : (t v : ℕ) (x : Kept) (newer : List Kept) (output : List ℕ) → IsKept t v x newer → length output < length (x .image)
         → restoring t v output .refusal ≡ 5
     -- "A restore of a version not held is refused"
@@ -74,6 +74,8 @@ module _ (bytes : ℕ) (st : State) (k : Keeper) (b : Buffers) where
     -- "an accepted backup the keeper's new last number"
     pub backup : (t : ℕ) (image : List ℕ) → backupOf (b .pool) (b .table) t image .refusal ≡ 0
         → backupOf (b .pool) (b .table) t image .version ≡ keptTill (fed k (callBackup t image) true) t .last
+    -- a held version "now goes", whichever it is
+    pub goes : (t v : ℕ) (x : Kept) (newer : List Kept) → IsKept t v x newer → retireOf (b .pool) (b .table) t v .refusal ≡ 0
     -- "an accepted retire the struck image's length"
     pub retire : (t v : ℕ) → retireOf (b .pool) (b .table) t v .refusal ≡ 0
         → (x : Kept) × (newer : List Kept) × (IsKept t v x newer) × (retireOf (b .pool) (b .table) t v .length ≡ length (x .image))
@@ -83,12 +85,11 @@ module _ (bytes : ℕ) (st : State) (k : Keeper) (b : Buffers) where
   blockOf x n = getD (imageBlocks bytes (x .image)) n []
 
   pub record Shares : Type 0 where
-    -- "If a non-null block of an image equals a block of the next newer version's image, its pointer is not direct"
-    pub notDirect : (t v : ℕ) (x y : Kept) (newer : List Kept) (n i : ℕ) → IsKept t v x (y ∷ newer)
+    -- "If a non-null block of an image equals a block of the next newer version's image, its pointer is not direct", where the older "was the till's newest
+    -- when the newer one was taken"
+    pub notDirect : (t v : ℕ) (x y : Kept) (newer : List Kept) (n i : ℕ) → IsKept t v x (y ∷ newer) → y .previous ≡ x .number
         → n < length (imageBlocks bytes (x .image)) → i < length (imageBlocks bytes (y .image)) → ¬ (allZero (blockOf x n) ≡ true) → blockOf x n ≡ blockOf y i
         → ¬ IsDirect (getD (pointersHeld st t v) n nullPointer)
-    -- exactly: null, else indirect to the lowest equal block of the next newer image, else direct
-    pub kinds : (t v : ℕ) → map kindOf (pointersHeld st t v) ≡ kindsKept bytes (keptFrom v (keptTill k t .versions))
 
   -- "The occupied cells (those that positions name), the cells with a byte other than zero, and the cells that some held version's direct pointer leads
   -- to are the same ones; an accepted tally's first number counts them"
@@ -105,9 +106,8 @@ module _ (bytes : ℕ) (st : State) (k : Keeper) (b : Buffers) where
     pub isStore : storeOf (b .pool) (b .table) ≡ some (record { shape = s; state = st })
     pub pool : b .pool ≡ stateToBytes st
     pub table : b .table ≡ stateToWords s st
-    -- the keeper's versions stand in the order of their numbers, without gaps up to the last: newer in the list is newer by number
-    pub numbers : (t : ℕ) → map (λ (x : Kept). x .number) (keptTill k t .versions)
-        ≡ counted (λ n. n) (suc (keptTill k t .last) - length (keptTill k t .versions)) (length (keptTill k t .versions))
+    -- the keeper's numbers rise, each at least 1 and at most the last given: newer in the list is newer by number
+    pub numbers : (t : ℕ) → rises 0 (keptTill k t .last) (map (λ (x : Kept). x .number) (keptTill k t .versions)) ≡ true
     pub restores : Restores
     pub answers : Answers
     pub shares : Shares

@@ -8,10 +8,11 @@ use Rattle.lists.specs.Lists.{keep}
 use Rattle.model.specs.Measures.{Capacities}
 use Rattle.history.specs.Calls.{Call, callLayout, callBackup, callRestore, callRetire, callListing, callTally, Buffers, buffersAfter, refusalOf}
 
--- a held version: its number and its whole image
+-- a held version: its number, its whole image, and the number of its till's newest version when it was taken, 0 if none was held
 pub record Kept : Type 0 where
   pub number : ℕ
   pub image : List ℕ
+  pub previous : ℕ
 
 -- the last number given, and the held versions, the oldest first
 pub record KeptTill : Type 0 where
@@ -31,9 +32,18 @@ freshKeeper c = replicate (c .tills) noTill
 unfoldable pub keptTill : Keeper → ℕ → KeptTill
 keptTill k t = getD k t noTill
 
+unfoldable pub oldestKept : List Kept → ℕ
+oldestKept [] = 0
+oldestKept (x ∷ xs) = x .number
+
+unfoldable pub newestKept : List Kept → ℕ
+newestKept [] = 0
+newestKept (x ∷ []) = x .number
+newestKept (x ∷ y ∷ xs) = newestKept (y ∷ xs)
+
 -- an accepted backup adds 1 to the last number and files the image under the new one
 unfoldable pub filed : KeptTill → List ℕ → KeptTill
-filed t image = record { last = suc (t .last); versions = t .versions ++ (record { number = suc (t .last); image = image } ∷ []) }
+filed t image = record { last = suc (t .last); versions = t .versions ++ (record { number = suc (t .last); image = image; previous = newestKept (t .versions) } ∷ []) }
 
 -- an accepted retire strikes the version named
 unfoldable pub struckOut : KeptTill → ℕ → KeptTill
@@ -58,12 +68,3 @@ fedAll k b (c ∷ cs) = fedAll (fed k c (eqb (refusalOf b c) 0)) (buffersAfter b
 unfoldable pub keptFrom : ℕ → List Kept → List Kept
 keptFrom n [] = []
 keptFrom n (x ∷ xs) = let r = keptFrom n xs in cond (eqb (x .number) n) (x ∷ xs) r
-
-unfoldable pub oldestKept : List Kept → ℕ
-oldestKept [] = 0
-oldestKept (x ∷ xs) = x .number
-
-unfoldable pub newestKept : List Kept → ℕ
-newestKept [] = 0
-newestKept (x ∷ []) = x .number
-newestKept (x ∷ y ∷ xs) = newestKept (y ∷ xs)

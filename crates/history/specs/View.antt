@@ -67,10 +67,12 @@ turnedKind new zeroKind b = zeroKind
 turnedKind new directKind b = kindAt (firstFrom (sameNumbers b) 0 new)
 turnedKind new (indirectKind n) b = indirectKind n
 
+unfoldable pub withKinds : VersionView → List Kind → VersionView
+withKinds w ks = record { number = w .number; length = w .length; image = w .image; kinds = ks }
+
 unfoldable pub turnNewest : ℕ → List Block → List VersionView → List VersionView
 turnNewest bytes new [] = []
-turnNewest bytes new (w ∷ []) =
-    record { number = w .number; length = w .length; image = w .image; kinds = over (turnedKind new) (w .kinds) (imageBlocks bytes (w .image)) } ∷ []
+turnNewest bytes new (w ∷ []) = withKinds w (over (turnedKind new) (w .kinds) (imageBlocks bytes (w .image))) ∷ []
 turnNewest bytes new (w ∷ x ∷ ws) = w ∷ turnNewest bytes new (x ∷ ws)
 
 unfoldable pub shownWith : ℕ → TillView → List ℕ → TillView
@@ -81,9 +83,22 @@ shownWith bytes w image = record {
       ++ (record { number = suc (w .last); length = length image; image = image; kinds = map newKind (imageBlocks bytes image) } ∷ []);
 }
 
--- the oldest version goes
-unfoldable pub shownWithout : TillView → TillView
-shownWithout w = record { last = w .last; versions = drop 1 (w .versions) }
+-- A pointer of a retired version's older neighbour: an indirect one takes over what it named, of the retired version's.
+unfoldable pub takeOverKind : List Kind → Kind → Kind
+takeOverKind gone zeroKind = zeroKind
+takeOverKind gone directKind = directKind
+takeOverKind gone (indirectKind n) = getD gone n zeroKind
+
+-- the version of that number goes, its older neighbour takes over
+unfoldable pub dropVersion : ℕ → List VersionView → List VersionView
+dropVersion n [] = []
+dropVersion n (w ∷ []) = cond (eqb (w .number) n) [] (w ∷ [])
+dropVersion n (w ∷ x ∷ ws) =
+    let r = dropVersion n (x ∷ ws) in
+    cond (eqb (w .number) n) (x ∷ ws) (cond (eqb (x .number) n) (withKinds w (map (takeOverKind (x .kinds)) (w .kinds)) ∷ ws) (w ∷ r))
+
+unfoldable pub shownWithout : TillView → ℕ → TillView
+shownWithout w n = record { last = w .last; versions = dropVersion n (w .versions) }
 
 -- What the till shows after a call that was accepted or refused: a function of what it showed before and of the call's arguments.
 unfoldable pub changed : ℕ → Call → Bool → TillView → TillView
@@ -91,7 +106,7 @@ changed bytes (callLayout c) ok w = w
 changed bytes (callBackup t image) true w = shownWith bytes w image
 changed bytes (callBackup t image) false w = w
 changed bytes (callRestore t v output) ok w = w
-changed bytes (callRetire t v) true w = shownWithout w
+changed bytes (callRetire t v) true w = shownWithout w v
 changed bytes (callRetire t v) false w = w
 changed bytes (callListing t) ok w = w
 changed bytes callTally ok w = w
@@ -125,10 +140,9 @@ restoreShown (w ∷ newer) output =
     cond (ltb (length output) (w .length)) (restoreRefusal 5 output)
     (record { refusal = 0; length = w .length; hops = chainShown (w ∷ newer); output = w .image ++ drop (w .length) output })
 
-unfoldable pub retireShown : ℕ → List VersionView → List VersionView → Answer
-retireShown v [] ws = retired 15 0
-retireShown v (x ∷ newer) [] = retired 15 0
-retireShown v (x ∷ newer) (w ∷ ws) = cond (eqb (w .number) v) (retired 0 (w .length)) (retired 13 0)
+unfoldable pub retireShown : List VersionView → Answer
+retireShown [] = retired 15 0
+retireShown (w ∷ newer) = retired 0 (w .length)
 
 unfoldable pub answerShown : Shape → TillView → Call → Answer
 answerShown s w (callLayout c) = laidOut 0
@@ -138,7 +152,7 @@ answerShown s w (callBackup t image) =
     (cond (leb (s .capacities .versions) (length (w .versions))) (backedUp 11 0)
     (cond (eqb (w .last) 65535) (backedUp 12 0) (backedUp 0 (suc (w .last))))))
 answerShown s w (callRestore t v output) = restored (cond (leb (s .capacities .tills) t) (restoreRefusal 3 output) (restoreShown (shownFrom v (w .versions)) output))
-answerShown s w (callRetire t v) = cond (leb (s .capacities .tills) t) (retired 3 0) (retireShown v (shownFrom v (w .versions)) (w .versions))
+answerShown s w (callRetire t v) = cond (leb (s .capacities .tills) t) (retired 3 0) (retireShown (shownFrom v (w .versions)))
 answerShown s w (callListing t) =
     listed (cond (leb (s .capacities .tills) t) (listingRefusal 3)
     (record { refusal = 0; oldest = oldestShown (w .versions); newest = newestShown (w .versions); last = w .last }))

@@ -1,19 +1,20 @@
 -- What an accepted backup did, and that it keeps the state sound.
-use mathlib.Core.Path.{_≡_, refl, sym, ap, ap₂, _∙_, subst}
+use mathlib.Core.Path.{_≡_, refl, sym, ap, _∙_, subst}
 use mathlib.Core.Bool.{Bool, true, false, cond, _||_, false≢true}
 use mathlib.Core.List.{List, [], _∷_, _++_, map, append-nil}
-use Prim.Native.Nat.{ℕ, zero, suc, _+_, _-_, _*_, _≤_, _<_, suc-le-suc}
-use native.Mathlib.Nat.{zero-add, add-zero, not-suc-le-zero, le-of-suc-le-suc, zero-lt-suc, le-refl}
+use Prim.Native.Nat.{ℕ, zero, suc, _+_, _-_, _*_, _≤_, _<_, zero-le, suc-le-suc}
+use native.Mathlib.Nat.{add-zero, not-suc-le-zero, le-of-suc-le-suc, zero-lt-suc, le-refl}
+use native.Mathlib.Numerals.{add-one}
 use native.Mathlib.Omega.{arith}
 use lib.ListN.{length, getD, set, take, drop, replicate, length-set, length-append, length-replicate, length-drop, take-append-drop, List·getD-append}
 use lib.Seq.{getD-take, getD-drop, length-take-le, getD-append-add}
 use lib.Dec.{eqb, leb, ltb}
 use borrow.Author.Tests.{eqb-false, eq-eqb, leb-true, leb-false, le-leb, ltb-false}
-use Rattle.lists.specs.Lists.{every, keep, count, counted, sameNumbers, allZero}
+use Rattle.lists.specs.Lists.{every, keep, count, rises, allZero}
 use Rattle.lists.specs.Rows.{joined}
 use Rattle.lists.proofs.Tests.{all-true, clause, every-at, every-set, or-false}
-use Rattle.lists.proofs.Same.{same-eq, same-refl, zeros-zero}
-use Rattle.lists.proofs.Counted.{counted-snoc}
+use Rattle.lists.proofs.Same.{zeros-zero}
+use Rattle.lists.proofs.Rises.{rises-snoc}
 use Rattle.lists.proofs.Counts.{count-append}
 use Rattle.model.specs.Measures.{Measures, Shape, isWithin, partsFor}
 use Rattle.model.specs.State.{Block, Pointer, nullPointer, direct, indirect, Shelf, Version, Till, State, Outcome, refused, done}
@@ -32,6 +33,7 @@ use Rattle.laws.proofs.Counts.{at, leads-itself}
 use Rattle.laws.proofs.Place.{PlacedOk, isIndirect, counted-held}
 use Rattle.laws.proofs.Segments.{PlaceOk, place-ok}
 use Rattle.laws.proofs.Image.{blocks-length, segments-ok, segments-joined, padding, last-zero}
+use Rattle.laws.proofs.Newest.{versions-append, newest-count, newest-numbers, newest-length}
 use Rattle.laws.proofs.Turn.{NewOk, turn-count, extended, extended-traceable, plain-end}
 use Rattle.laws.proofs.Serves.{pointersOf, Serves, Valid, sound-valid, valid-sound, tills-again}
 use Rattle.laws.proofs.Retire.{Finished, finish, pointers-set, passed, theAfter, no-refusal}
@@ -97,44 +99,7 @@ module _ (m : Measures) (a p : Shelf) (bs : List Block) (pad : ℕ) (ps : List P
           ∙ ok .nulls (length bs + j) (omega (arith, l, length-append bs (replicate pad (zeroBlock (m .blockBytes))), length-replicate pad (zeroBlock (m .blockBytes))))
           ∙ ap allZero (getD-append-add bs (replicate pad (zeroBlock (m .blockBytes))) j [] ∙ replicate-at pad j (zeroBlock (m .blockBytes)) l) ∙ (unfold zeroBlock in zeros-zero (m .blockBytes))
 
--- ---- pointers of the till's versions
-
-versions-append : (k i : ℕ) (vs ws : List Version) → count (leadsTo k i) (pointersOf (vs ++ ws)) ≡ count (leadsTo k i) (pointersOf vs) + count (leadsTo k i) (pointersOf ws)
-unfolding joined
-versions-append k i [] ws = unfold count in sym (zero-add (count (leadsTo k i) (pointersOf ws)))
-versions-append k i (v ∷ vs) ws =
-    omega (
-      arith,
-      versions-append k i vs ws,
-      count-append (leadsTo k i) (v .pointers) (pointersOf (vs ++ ws)),
-      count-append (leadsTo k i) (v .pointers) (pointersOf vs),
-    )
-
-newest-count : (k i : ℕ) (v : Version) (vs : List Version) (qs : List Pointer)
-    → count (leadsTo k i) (pointersOf (withNewestPointers (v ∷ vs) qs)) + count (leadsTo k i) (newestPointers (v ∷ vs))
-    ≡ count (leadsTo k i) (pointersOf (v ∷ vs)) + count (leadsTo k i) qs
-unfolding withNewestPointers newestPointers joined
-newest-count k i v [] qs = omega (arith, count-append (leadsTo k i) (v .pointers) [], count-append (leadsTo k i) qs [])
-newest-count k i v (w ∷ vs) qs =
-    omega (
-      arith,
-      newest-count k i w vs qs,
-      count-append (leadsTo k i) (v .pointers) (pointersOf (withNewestPointers (w ∷ vs) qs)),
-      count-append (leadsTo k i) (v .pointers) (pointersOf (w ∷ vs)),
-    )
-
-numbers-same : (vs : List Version) (qs : List Pointer) (w : Version)
-    → map (λ (v : Version). v .number) (withNewestPointers vs qs ++ (w ∷ [])) ≡ map (λ (v : Version). v .number) vs ++ (w .number ∷ [])
-unfolding withNewestPointers
-numbers-same [] qs w = refl
-numbers-same (v ∷ []) qs w = refl
-numbers-same (v ∷ u ∷ vs) qs w = ap {B = List ℕ} (λ l. v .number ∷ l) (numbers-same (u ∷ vs) qs w)
-
-length-same : (vs : List Version) (qs : List Pointer) (w : Version) → length (withNewestPointers vs qs ++ (w ∷ [])) ≡ suc (length vs)
-unfolding withNewestPointers
-length-same [] qs w = refl
-length-same (v ∷ []) qs w = refl
-length-same (v ∷ u ∷ vs) qs w = ap suc (length-same (u ∷ vs) qs w)
+-- ---- the till's versions with the new one
 
 module _ (s : Shape) (p : Shelf) (x : Exact p) (bs : List Block) (newV : Version) (ok : NewOk (s .measures) p bs (newV .pointers)) where
   ext : List Version → List Version
@@ -163,15 +128,11 @@ module _ (s : Shape) (p : Shelf) (x : Exact p) (bs : List Block) (newV : Version
 
   ext-numbers : (vs : List Version) → map (λ (v : Version). v .number) (extended s p x bs newV ok vs) ≡ map (λ (v : Version). v .number) vs ++ (newV .number ∷ [])
   unfolding extended
-  ext-numbers vs = go vs (turn p bs (newestPointers vs))
-    where
-      go : (vs : List Version) (qs : List Pointer)
-          → map (λ (v : Version). v .number) (withNewestPointers vs qs ++ (newV ∷ [])) ≡ map (λ (v : Version). v .number) vs ++ (newV .number ∷ [])
-      go vs qs = numbers-same vs qs newV
+  ext-numbers vs = newest-numbers vs (turn p bs (newestPointers vs)) (newV ∷ [])
 
   ext-length : (vs : List Version) → length (extended s p x bs newV ok vs) ≡ suc (length vs)
   unfolding extended
-  ext-length vs = length-same vs (turn p bs (newestPointers vs)) newV
+  ext-length vs = newest-length vs (turn p bs (newestPointers vs)) (newV ∷ []) ∙ add-one (length vs)
 
 -- the till's numbers with the new one
 numbered : (s : Shape) (last : ℕ) (vs ws : List Version) → isNumbered (s .capacities .versions) (record { last = last; versions = vs }) ≡ true
@@ -180,22 +141,12 @@ numbered : (s : Shape) (last : ℕ) (vs ws : List Version) → isNumbered (s .ca
     → isNumbered (s .capacities .versions) (record { last = suc last; versions = ws }) ≡ true
 unfolding isNumbered
 numbered s last vs ws h room top l e =
-    let low : length vs ≤ last = leb-true _ _ (clause _ 1 h) in
-    let most : last ≤ 65535 = leb-true _ _ (clause _ 2 h) in
-    let old : map (λ (v : Version). v .number) vs ≡ counted (λ n. n) (suc last - length vs) (length vs) = same-eq _ _ (clause _ 3 h) in
-    let names : map (λ (v : Version). v .number) ws ≡ counted (λ n. n) (suc (suc last) - length ws) (length ws) =
-    e ∙ ap {B = List ℕ} (λ l. l ++ (suc last ∷ [])) old
-    ∙ ap {B = List ℕ} (λ y. counted (λ n. n) (suc last - length vs) (length vs) ++ (y ∷ [])) (let z : suc last ≡ suc last - length vs + length vs = omega (arith, low) in z)
-    ∙ sym (counted-snoc (suc last - length vs) (length vs))
-    ∙ ap₂ (counted (λ n. n)) (let z : suc last - length vs ≡ suc (suc last) - length ws = omega (arith, l) in z) (sym l) in
+    let most : last ≤ 65535 = leb-true _ _ (clause _ 1 h) in
     all-true _ (
       le-leb (length ws) (s .capacities .versions) (omega (arith, l, room)),
       (
-        le-leb (length ws) (suc last) (omega (arith, l, low)),
-        (
-          le-leb (suc last) 65535 (omega (arith, most, top)),
-          (ap (λ (ns : List ℕ). sameNumbers ns (counted (λ n. n) (suc (suc last) - length ws) (length ws))) names ∙ same-refl _, tt),
-        ),
+        le-leb (suc last) 65535 (omega (arith, most, top)),
+        (ap (rises 0 (suc last)) e ∙ rises-snoc 0 last (suc last) (map (λ (v : Version). v .number) vs) zero-le (le-refl (suc last)) (clause _ 2 h), tt),
       ),
     )
 

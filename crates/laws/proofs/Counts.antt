@@ -1,8 +1,8 @@
--- Counts are the numbers of direct pointers, and a release lowers them by just those released.
+-- Counts are the numbers of direct pointers; a release lowers them by just those released, a claim raises them by just those claimed.
 use mathlib.Core.Path.{_≡_, refl, sym, ap, ap₂, _∙_}
 use mathlib.Core.Bool.{Bool, true, false, cond, _||_, false≢true}
 use mathlib.Core.List.{List, [], _∷_}
-use Prim.Native.Nat.{ℕ, zero, suc, _+_, _-_, _<_, pred}
+use Prim.Native.Nat.{ℕ, zero, suc, _+_, _-_, _≤_, _<_, pred, zero-le}
 use native.Mathlib.Nat.{zero-add, add-zero, suc-add, add-suc}
 use native.Mathlib.Omega.{arith}
 use lib.ListN.{length, getD, set, length-set}
@@ -18,7 +18,8 @@ use Rattle.lists.proofs.Tests.{all-true, clause}
 use Rattle.model.specs.Measures.{Measures}
 use Rattle.model.specs.State.{Pointer, nullPointer, direct, indirect, Position, nullPosition, held, removed, Segment, Shelf}
 use Rattle.model.specs.Records.{isHeld, isFree, isNullPosition, countOf, cellOf, cellsOf, namedCells}
-use Rattle.model.specs.Sweep.{oneLess, lower, lowerAll}
+use Rattle.model.specs.Place.{oneMore}
+use Rattle.model.specs.Sweep.{oneLess, changeAt, changeAll}
 use Rattle.model.specs.Sound.{leadsTo, isCounted, areCounted, allCounted, isUsed}
 use Rattle.laws.proofs.Sweep.{countIn}
 use Rattle.laws.proofs.Clean.{SegmentFits}
@@ -104,122 +105,236 @@ pub counted-sound : (shelf : Shelf) (ps : List Pointer) → Counted shelf ps
 counted-sound shelf ps c g =
     counted-records ps 0 (shelf .records) (λ k i e. (g k i e, c k i ∙ ap (λ (x : ℕ). count (leadsTo x i) ps) (sym (zero-add k))))
 
--- ---- release
+-- ---- counts that change
 
-lessAt : ℕ → Segment → Segment
-lessAt i seg = set seg i (oneLess (getD seg i nullPosition))
+-- a change of a position's count leaves all else
+pub record Recount (f : Position → Position) : Type 0 where
+  pub none : f nullPosition ≡ nullPosition
+  pub isHeld : (p : Position) → isHeld (f p) ≡ isHeld p
+  pub isNull : (p : Position) → isNullPosition (f p) ≡ isNullPosition p
+  pub cell : (p : Position) → cellOf (f p) ≡ cellOf p
+  pub cells : (p : Position) (seg : Segment) → cellsOf (f p ∷ seg) ≡ cellsOf (p ∷ seg)
 
-pub lower-at : (segs : List Segment) (p : Pointer) (k i : ℕ) → at (lower segs p) k i ≡ cond (leadsTo k i p) (oneLess (at segs k i)) (at segs k i)
-unfolding lower allOf
-lower-at segs nullPointer k i = refl
-lower-at segs (indirect n) k i = refl
-lower-at segs (direct k′ i′) k i = go (eqb k k′) refl (eqb i i′) refl
-  where
-    new : List Segment
-    new = set segs k′ (set (getD segs k′ []) i′ (oneLess (getD (getD segs k′ []) i′ nullPosition)))
+module _ (f : Position → Position) (c : Recount f) where
+  changeIn : ℕ → Segment → Segment
+  changeIn i seg = set seg i (f (getD seg i nullPosition))
 
-    here : getD new k′ [] ≡ set (getD segs k′ []) i′ (oneLess (getD (getD segs k′ []) i′ nullPosition))
-    here = unfold lessAt in upd-same (lessAt i′) [] segs k′ refl
+  pub change-at : (segs : List Segment) (p : Pointer) (k i : ℕ) → at (changeAt f segs p) k i ≡ cond (leadsTo k i p) (f (at segs k i)) (at segs k i)
+  unfolding changeAt allOf
+  change-at segs nullPointer k i = refl
+  change-at segs (indirect n) k i = refl
+  change-at segs (direct k′ i′) k i = go (eqb k k′) refl (eqb i i′) refl
+    where
+      new : List Segment
+      new = set segs k′ (set (getD segs k′ []) i′ (f (getD (getD segs k′ []) i′ nullPosition)))
 
-    go : (t : Bool) → eqb k k′ ≡ t → (q : Bool) → eqb i i′ ≡ q
-        → at new k i ≡ cond (cond (eqb k k′) (cond (eqb i i′) true false) false) (oneLess (at segs k i)) (at segs k i)
-    go true e true f =
-        rw (e, f) (rw (eqb-true k k′ e, eqb-true i i′ f) (ap (λ (s : Segment). getD s i′ nullPosition) here ∙ upd-same oneLess nullPosition (getD segs k′ []) i′ refl))
-    go true e false f =
-        rw (e, f) (rw (eqb-true k k′ e) (ap (λ (s : Segment). getD s i nullPosition) here ∙ getD-set-other (getD segs k′ []) i′ i _ nullPosition (eqb-false i i′ f)))
-    go false e q f = rw e (ap (λ (s : Segment). getD s i nullPosition) (getD-set-other segs k′ k _ [] (eqb-false k k′ e)))
+      here : getD new k′ [] ≡ set (getD segs k′ []) i′ (f (getD (getD segs k′ []) i′ nullPosition))
+      here = unfold changeIn in upd-same (changeIn i′) [] segs k′ refl
 
-less-count : (p : Position) → countOf (oneLess p) ≡ countOf p - 1
-less-count nullPosition = refl
-less-count (held c n) = let e : pred n ≡ n - 1 = omega arith in e
-less-count removed = refl
+      go : (t : Bool) → eqb k k′ ≡ t → (q : Bool) → eqb i i′ ≡ q
+          → at new k i ≡ cond (cond (eqb k k′) (cond (eqb i i′) true false) false) (f (at segs k i)) (at segs k i)
+      go true e true q =
+          rw (e, q) (rw (eqb-true k k′ e, eqb-true i i′ q) (ap (λ (s : Segment). getD s i′ nullPosition) here ∙ upd-same f nullPosition (getD segs k′ []) i′ (c .none)))
+      go true e false q =
+          rw (e, q) (rw (eqb-true k k′ e) (ap (λ (s : Segment). getD s i nullPosition) here ∙ getD-set-other (getD segs k′ []) i′ i _ nullPosition (eqb-false i i′ q)))
+      go false e r q = rw e (ap (λ (s : Segment). getD s i nullPosition) (getD-set-other segs k′ k _ [] (eqb-false k k′ e)))
+
+  -- what f keeps of a position is kept
+  change-keeps : {A : Type 0} (g : Position → A) → ((p : Position) → g (f p) ≡ g p) → (ps : List Pointer) (segs : List Segment) (k i : ℕ)
+      → g (at (changeAll f segs ps) k i) ≡ g (at segs k i)
+  unfolding changeAll
+  change-keeps g h [] segs k i = refl
+  change-keeps g h (p ∷ ps) segs k i = change-keeps g h ps (changeAt f segs p) k i ∙ ap g (change-at segs p k i) ∙ one (leadsTo k i p)
+    where
+      one : (t : Bool) → g (cond t (f (at segs k i)) (at segs k i)) ≡ g (at segs k i)
+      one true = h (at segs k i)
+      one false = refl
+
+  pub change-cell : (ps : List Pointer) (segs : List Segment) (k i : ℕ) → cellOf (at (changeAll f segs ps) k i) ≡ cellOf (at segs k i)
+  change-cell = change-keeps cellOf (c .cell)
+
+  pub change-held : (ps : List Pointer) (segs : List Segment) (k i : ℕ) → isHeld (at (changeAll f segs ps) k i) ≡ isHeld (at segs k i)
+  change-held = change-keeps isHeld (c .isHeld)
+
+  -- what a record names, and whether it is in use, stays
+  same-cells : (seg : Segment) (i : ℕ) → cellsOf (set seg i (f (getD seg i nullPosition))) ≡ cellsOf seg
+  unfolding cellsOf
+  same-cells [] i = refl
+  same-cells (p ∷ seg) zero = c .cells p seg
+  same-cells (nullPosition ∷ seg) (suc i) = same-cells seg i
+  same-cells (held b n ∷ seg) (suc i) = ap {B = List ℕ} (λ r. b ∷ r) (same-cells seg i)
+  same-cells (removed ∷ seg) (suc i) = same-cells seg i
+
+  same-used : (seg : Segment) (i : ℕ) → (isFree (set seg i (f (getD seg i nullPosition))) ≡ isFree seg) × (count isHeld (set seg i (f (getD seg i nullPosition))) ≡ count isHeld seg)
+  unfolding isFree every count
+  same-used [] i = (refl, refl)
+  same-used (p ∷ seg) zero = (ap (λ (b : Bool). cond b (every isNullPosition seg) false) (c .isNull p), ap (λ (b : Bool). cond b 1 0 + count isHeld seg) (c .isHeld p))
+  same-used (p ∷ seg) (suc i) =
+      let h = same-used seg i in
+      (ap (λ (b : Bool). cond (isNullPosition p) b false) (h .0), ap (λ (n : ℕ). cond (isHeld p) 1 0 + n) (h .1))
+
+  change-named : (segs : List Segment) (p : Pointer) → namedCells (changeAt f segs p) ≡ namedCells segs
+  unfolding changeAt namedCells
+  change-named segs nullPointer = refl
+  change-named segs (direct k i) = ap joined (map-set-same cellsOf segs k _ [] (same-cells (getD segs k []) i))
+  change-named segs (indirect n) = refl
+
+  pub change-all-named : (ps : List Pointer) (segs : List Segment) → namedCells (changeAll f segs ps) ≡ namedCells segs
+  unfolding changeAll
+  change-all-named [] segs = refl
+  change-all-named (p ∷ ps) segs = change-all-named ps (changeAt f segs p) ∙ change-named segs p
+
+  same-fits : (m : Measures) (i : ℕ) (seg : Segment) → SegmentFits m seg → SegmentFits m (changeIn i seg)
+  unfolding changeIn isUsed
+  same-fits m i seg g = record {
+    size = length-set seg i (f (getD seg i nullPosition)) ∙ g .size;
+    used = ap₂ (λ (a : Bool) (n : ℕ). a || ltb 0 n) (same-used seg i .0) (same-used seg i .1) ∙ g .used;
+  }
+
+  change-fits : (m : Measures) (p : Pointer) (segs : List Segment) → Each (SegmentFits m) segs → Each (SegmentFits m) (changeAt f segs p)
+  unfolding changeAt
+  change-fits m nullPointer segs h = h
+  change-fits m (direct k i) segs h = unfold changeIn in each-upd (SegmentFits m) (changeIn i) [] (same-fits m i) segs k h
+  change-fits m (indirect n) segs h = h
+
+  pub change-all-fits : (m : Measures) (ps : List Pointer) (segs : List Segment) → Each (SegmentFits m) segs → Each (SegmentFits m) (changeAll f segs ps)
+  unfolding changeAll
+  change-all-fits m [] segs h = h
+  change-all-fits m (p ∷ ps) segs h = change-all-fits m ps (changeAt f segs p) (change-fits m p segs h)
+
+  change-length : (segs : List Segment) (p : Pointer) → length (changeAt f segs p) ≡ length segs
+  unfolding changeAt
+  change-length segs nullPointer = refl
+  change-length segs (direct k i) = length-set segs k _
+  change-length segs (indirect n) = refl
+
+  pub change-all-length : (ps : List Pointer) (segs : List Segment) → length (changeAll f segs ps) ≡ length segs
+  unfolding changeAll
+  change-all-length [] segs = refl
+  change-all-length (p ∷ ps) segs = change-all-length ps (changeAt f segs p) ∙ change-length segs p
+
+-- ---- counts that fall
 
 pub less-cell : (p : Position) → cellOf (oneLess p) ≡ cellOf p
 less-cell nullPosition = refl
 less-cell (held c n) = refl
 less-cell removed = refl
 
-pub lower-count : (ps : List Pointer) (segs : List Segment) (k i : ℕ) → countOf (at (lowerAll segs ps) k i) ≡ countOf (at segs k i) - count (leadsTo k i) ps
-unfolding lowerAll count
+pub falls : Recount oneLess
+unfolding cellsOf
+falls = record { none = refl; isHeld = heldOne; isNull = nullOne; cell = less-cell; cells = cellsOne }
+  where
+    heldOne : (p : Position) → isHeld (oneLess p) ≡ isHeld p
+    heldOne nullPosition = refl
+    heldOne (held c n) = refl
+    heldOne removed = refl
+
+    nullOne : (p : Position) → isNullPosition (oneLess p) ≡ isNullPosition p
+    nullOne nullPosition = refl
+    nullOne (held c n) = refl
+    nullOne removed = refl
+
+    cellsOne : (p : Position) (seg : Segment) → cellsOf (oneLess p ∷ seg) ≡ cellsOf (p ∷ seg)
+    cellsOne nullPosition seg = unfold cellsOf in refl
+    cellsOne (held c n) seg = unfold cellsOf in refl
+    cellsOne removed seg = unfold cellsOf in refl
+
+less-count : (p : Position) → countOf (oneLess p) ≡ countOf p - 1
+less-count nullPosition = refl
+less-count (held c n) = let e : pred n ≡ n - 1 = omega arith in e
+less-count removed = refl
+
+pub lower-count : (ps : List Pointer) (segs : List Segment) (k i : ℕ) → countOf (at (changeAll oneLess segs ps) k i) ≡ countOf (at segs k i) - count (leadsTo k i) ps
+unfolding changeAll count
 lower-count [] segs k i = omega arith
 lower-count (p ∷ ps) segs k i =
-    lower-count ps (lower segs p) k i
-    ∙ ap (λ (n : ℕ). n - count (leadsTo k i) ps) (ap countOf (lower-at segs p k i) ∙ one (leadsTo k i p))
+    lower-count ps (changeAt oneLess segs p) k i
+    ∙ ap (λ (n : ℕ). n - count (leadsTo k i) ps) (ap countOf (change-at oneLess falls segs p k i) ∙ one (leadsTo k i p))
     ∙ (let e : countOf (at segs k i) - cond (leadsTo k i p) 1 0 - count (leadsTo k i) ps ≡ countOf (at segs k i) - (cond (leadsTo k i p) 1 0 + count (leadsTo k i) ps) = omega arith in e)
   where
     one : (t : Bool) → countOf (cond t (oneLess (at segs k i)) (at segs k i)) ≡ countOf (at segs k i) - cond t 1 0
     one true = less-count (at segs k i)
     one false = omega arith
 
-pub lower-cell : (ps : List Pointer) (segs : List Segment) (k i : ℕ) → cellOf (at (lowerAll segs ps) k i) ≡ cellOf (at segs k i)
-unfolding lowerAll
-lower-cell [] segs k i = refl
-lower-cell (p ∷ ps) segs k i = lower-cell ps (lower segs p) k i ∙ ap cellOf (lower-at segs p k i) ∙ one (leadsTo k i p)
-  where
-    one : (t : Bool) → cellOf (cond t (oneLess (at segs k i)) (at segs k i)) ≡ cellOf (at segs k i)
-    one true = less-cell (at segs k i)
-    one false = refl
+-- ---- counts that rise
 
--- what a record names, and whether it is in use, stays
-less-cells : (seg : Segment) (i : ℕ) → cellsOf (set seg i (oneLess (getD seg i nullPosition))) ≡ cellsOf seg
+pub grows : Recount oneMore
 unfolding cellsOf
-less-cells [] i = refl
-less-cells (nullPosition ∷ seg) zero = refl
-less-cells (held c n ∷ seg) zero = refl
-less-cells (removed ∷ seg) zero = refl
-less-cells (nullPosition ∷ seg) (suc i) = less-cells seg i
-less-cells (held c n ∷ seg) (suc i) = ap {B = List ℕ} (λ r. c ∷ r) (less-cells seg i)
-less-cells (removed ∷ seg) (suc i) = less-cells seg i
+grows = record { none = refl; isHeld = heldOne; isNull = nullOne; cell = cellOne; cells = cellsOne }
+  where
+    heldOne : (p : Position) → isHeld (oneMore p) ≡ isHeld p
+    heldOne nullPosition = refl
+    heldOne (held c n) = refl
+    heldOne removed = refl
 
-less-used : (seg : Segment) (i : ℕ) → (isFree (set seg i (oneLess (getD seg i nullPosition))) ≡ isFree seg) × (count isHeld (set seg i (oneLess (getD seg i nullPosition))) ≡ count isHeld seg)
-unfolding isFree every count
-less-used [] i = (refl, refl)
-less-used (nullPosition ∷ seg) zero = (refl, refl)
-less-used (held c n ∷ seg) zero = (refl, refl)
-less-used (removed ∷ seg) zero = (refl, refl)
-less-used (p ∷ seg) (suc i) =
-    let h = less-used seg i in
-    (ap (λ (b : Bool). cond (isNullPosition p) b false) (h .0), ap (λ (n : ℕ). cond (isHeld p) 1 0 + n) (h .1))
+    nullOne : (p : Position) → isNullPosition (oneMore p) ≡ isNullPosition p
+    nullOne nullPosition = refl
+    nullOne (held c n) = refl
+    nullOne removed = refl
 
-lower-named : (segs : List Segment) (p : Pointer) → namedCells (lower segs p) ≡ namedCells segs
-unfolding lower namedCells
-lower-named segs nullPointer = refl
-lower-named segs (direct k i) = ap joined (map-set-same cellsOf segs k _ [] (less-cells (getD segs k []) i))
-lower-named segs (indirect n) = refl
+    cellOne : (p : Position) → cellOf (oneMore p) ≡ cellOf p
+    cellOne nullPosition = refl
+    cellOne (held c n) = refl
+    cellOne removed = refl
 
-pub lower-all-named : (ps : List Pointer) (segs : List Segment) → namedCells (lowerAll segs ps) ≡ namedCells segs
-unfolding lowerAll
-lower-all-named [] segs = refl
-lower-all-named (p ∷ ps) segs = lower-all-named ps (lower segs p) ∙ lower-named segs p
+    cellsOne : (p : Position) (seg : Segment) → cellsOf (oneMore p ∷ seg) ≡ cellsOf (p ∷ seg)
+    cellsOne nullPosition seg = unfold cellsOf in refl
+    cellsOne (held c n) seg = unfold cellsOf in refl
+    cellsOne removed seg = unfold cellsOf in refl
 
-less-fits : (m : Measures) (i : ℕ) (seg : Segment) → SegmentFits m seg → SegmentFits m (lessAt i seg)
-unfolding lessAt isUsed
-less-fits m i seg f = record {
-  size = length-set seg i (oneLess (getD seg i nullPosition)) ∙ f .size;
-  used = ap₂ (λ (a : Bool) (n : ℕ). a || ltb 0 n) (less-used seg i .0) (less-used seg i .1) ∙ f .used;
-}
+more-count : (p : Position) → isHeld p ≡ true → countOf (oneMore p) ≡ countOf p + 1
+more-count nullPosition h = absurd (false≢true h)
+more-count (held c n) h = omega arith
+more-count removed h = absurd (false≢true h)
 
-lower-fits : (m : Measures) (p : Pointer) (segs : List Segment) → Each (SegmentFits m) segs → Each (SegmentFits m) (lower segs p)
-unfolding lower
-lower-fits m nullPointer segs h = h
-lower-fits m (direct k i) segs h = unfold lessAt in each-upd (SegmentFits m) (lessAt i) [] (less-fits m i) segs k h
-lower-fits m (indirect n) segs h = h
+-- of positions that are held
+pub raise-count : (ps : List Pointer) (segs : List Segment) (k i : ℕ) → (0 < count (leadsTo k i) ps → isHeld (at segs k i) ≡ true)
+    → countOf (at (changeAll oneMore segs ps) k i) ≡ countOf (at segs k i) + count (leadsTo k i) ps
+unfolding changeAll count
+raise-count [] segs k i h = omega arith
+raise-count (p ∷ ps) segs k i h = go (leadsTo k i p) refl (raise-count ps (changeAt oneMore segs p) k i)
+  where
+    next : at (changeAt oneMore segs p) k i ≡ cond (leadsTo k i p) (oneMore (at segs k i)) (at segs k i)
+    next = change-at oneMore grows segs p k i
 
-pub lower-all-fits : (m : Measures) (ps : List Pointer) (segs : List Segment) → Each (SegmentFits m) segs → Each (SegmentFits m) (lowerAll segs ps)
-unfolding lowerAll
-lower-all-fits m [] segs h = h
-lower-all-fits m (p ∷ ps) segs h = lower-all-fits m ps (lower segs p) (lower-fits m p segs h)
+    go : (t : Bool) → leadsTo k i p ≡ t
+        → ((0 < count (leadsTo k i) ps → isHeld (at (changeAt oneMore segs p) k i) ≡ true)
+        → countOf (at (changeAll oneMore (changeAt oneMore segs p) ps) k i) ≡ countOf (at (changeAt oneMore segs p) k i) + count (leadsTo k i) ps)
+        → countOf (at (changeAll oneMore (changeAt oneMore segs p) ps) k i) ≡ countOf (at segs k i) + (cond (leadsTo k i p) 1 0 + count (leadsTo k i) ps)
+    go true e r =
+        let here : isHeld (at segs k i) ≡ true = h (omega (arith, ap {B = ℕ} (λ (t : Bool). cond t 1 0) e)) in
+        let q : at (changeAt oneMore segs p) k i ≡ oneMore (at segs k i) = next ∙ ap (λ (t : Bool). cond t (oneMore (at segs k i)) (at segs k i)) e in
+        omega (
+          arith,
+          r (λ l. ap isHeld q ∙ grows .isHeld (at segs k i) ∙ here),
+          ap countOf q,
+          more-count (at segs k i) here,
+          ap {B = ℕ} (λ (t : Bool). cond t 1 0) e,
+        )
+    go false e r =
+        let q : at (changeAt oneMore segs p) k i ≡ at segs k i = next ∙ ap (λ (t : Bool). cond t (oneMore (at segs k i)) (at segs k i)) e in
+        omega (
+          arith,
+          r (λ l. ap isHeld q ∙ h (omega (arith, l))),
+          ap countOf q,
+          ap {B = ℕ} (λ (t : Bool). cond t 1 0) e,
+        )
 
-lower-length : (segs : List Segment) (p : Pointer) → length (lower segs p) ≡ length segs
-unfolding lower
-lower-length segs nullPointer = refl
-lower-length segs (direct k i) = length-set segs k _
-lower-length segs (indirect n) = refl
+-- at most by as many as there are
+pub raise-most : (ps : List Pointer) (segs : List Segment) (k i : ℕ) → countOf (at (changeAll oneMore segs ps) k i) ≤ countOf (at segs k i) + length ps
+unfolding changeAll
+raise-most [] segs k i = omega arith
+raise-most (p ∷ ps) segs k i =
+    omega (arith, raise-most ps (changeAt oneMore segs p) k i, ap countOf (change-at oneMore grows segs p k i), one (leadsTo k i p))
+  where
+    more : (p : Position) → countOf (oneMore p) ≤ countOf p + 1
+    more nullPosition = zero-le
+    more (held c n) = omega arith
+    more removed = zero-le
 
-pub lower-all-length : (ps : List Pointer) (segs : List Segment) → length (lowerAll segs ps) ≡ length segs
-unfolding lowerAll
-lower-all-length [] segs = refl
-lower-all-length (p ∷ ps) segs = lower-all-length ps (lower segs p) ∙ lower-length segs p
+    one : (t : Bool) → countOf (cond t (oneMore (at segs k i)) (at segs k i)) ≤ countOf (at segs k i) + 1
+    one true = more (at segs k i)
+    one false = omega arith
 
 -- ---- a pointer among others
 

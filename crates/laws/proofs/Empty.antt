@@ -6,7 +6,7 @@ use Prim.Native.Nat.{ℕ, zero, suc, zero-le}
 use native.Mathlib.Nat.{suc-ne-zero}
 use lib.ListN.{replicate, length-replicate}
 use borrow.Author.Tests.{eq-eqb, le-leb}
-use Rattle.lists.specs.Lists.{counted, every, allOf, sameNumbers, isIn, distinct, allZero}
+use Rattle.lists.specs.Lists.{every, allOf, rises, isIn, distinct, allZero}
 use Rattle.lists.specs.Rows.{joined}
 use Rattle.lists.proofs.Tests.{all-true, every-replicate}
 use Rattle.lists.proofs.Same.{zeros-zero}
@@ -61,7 +61,7 @@ no-pointers (suc n) = no-pointers n
 empty-till : (s : Shape) (shelf : Shelf) → isTill s shelf emptyTill ≡ true
 unfolding isTill isNumbered areTraceable emptyTill
 empty-till s shelf =
-    all-true _ (all-true _ (le-leb 0 (s .capacities .versions) zero-le, (refl, (refl, (unfold sameNumbers counted in refl, tt)))), (refl, tt))
+    all-true _ (all-true _ (le-leb 0 (s .capacities .versions) zero-le, (refl, (unfold rises in refl, tt))), (refl, tt))
 
 pub empty-sound : (s : Shape) → inRange s ≡ true → isSound s (emptyState s) ≡ true
 unfolding isSound isShaped emptyState hasCells

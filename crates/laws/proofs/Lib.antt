@@ -14,8 +14,10 @@ pub mod Place
 pub mod Segments
 pub mod Image
 pub mod Serves
-pub mod Retire
+pub mod Newest
 pub mod Turn
+pub mod Takeover
+pub mod Retire
 pub mod Backup
 pub mod Empty
 pub mod Named

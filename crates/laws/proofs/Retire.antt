@@ -1,31 +1,34 @@
 -- Counts fall and the shelf is swept, for a backup and a retire; what an accepted retire did, and that it keeps the state sound.
 use mathlib.Core.Path.{_≡_, refl, sym, ap, _∙_, subst}
-use mathlib.Core.Bool.{Bool, true, false, cond, not, false≢true}
-use mathlib.Core.List.{List, [], _∷_, map}
+use mathlib.Core.Bool.{Bool, true, false, cond, false≢true}
+use mathlib.Core.List.{List, [], _∷_, _++_, map, map-append}
 use Prim.Native.Nat.{ℕ, zero, suc, _+_, _-_, _≤_, _<_, zero-le}
 use native.Mathlib.Nat.{not-suc-le-zero, le-of-suc-le-suc, le-refl}
 use native.Mathlib.Omega.{arith}
-use lib.ListN.{length, getD, set, length-set}
-use lib.Dec.{eqb, leb}
+use lib.ListN.{length, getD, set, length-set, length-append}
+use lib.Dec.{leb}
 use borrow.Author.Tests.{leb-true, leb-false, le-leb}
-use Rattle.lists.specs.Lists.{count, counted, sameNumbers}
+use Rattle.lists.specs.Lists.{count, rises}
 use Rattle.lists.specs.Rows.{joined}
 use Rattle.lists.proofs.Counts.{count-append}
-use Rattle.lists.proofs.Same.{same-tail}
-use Rattle.lists.proofs.Tests.{all-true, clause, every-at, every-set, not-not}
+use Rattle.lists.proofs.Rises.{rises-without}
+use Rattle.lists.proofs.Tests.{all-true, clause, every-at, every-set}
 use Rattle.lists.proofs.Uses.{uses}
 use Rattle.model.specs.Measures.{Measures, Shape}
-use Rattle.model.specs.State.{Pointer, Position, nullPosition, held, removed, Shelf, Version, Till, State, Outcome, refused, done}
-use Rattle.model.specs.Records.{isHeld, countOf}
-use Rattle.model.specs.Sweep.{release, sweep}
-use Rattle.model.specs.Sound.{isSound, isNumbered, areTraceable, isTill, leadsTo, allPointers}
-use Rattle.model.specs.Calls.{emptyTill, tillOf, heldFrom, withTill, isEmpty, isOldest, dropOldest, retire, After}
+use Rattle.model.specs.State.{Pointer, Shelf, Version, Till, State, Outcome, refused, done}
+use Rattle.model.specs.Records.{isHeld}
+use Rattle.model.specs.Place.{oneMore}
+use Rattle.model.specs.Sweep.{oneLess, release, claim, sweep}
+use Rattle.model.specs.Sound.{isSound, isNumbered, isTill, leadsTo, allPointers}
+use Rattle.model.specs.Calls.{emptyTill, tillOf, heldFrom, heldBefore, withTill, newestPointers, takeOver, taken, closeUp, retireFrom, retire, After}
 use Rattle.laws.proofs.Sweep.{Exact, Keeps, countIn, blockIn, sweep-keeps}
 use Rattle.laws.proofs.Clean.{ShelfFits, Cleared, sweep-clears, clean-held}
-use Rattle.laws.proofs.Counts.{at, Counted, lower-count, lower-cell, lower-all-named, lower-all-fits, lower-all-length}
+use Rattle.laws.proofs.Counts.{at, Counted, falls, grows, lower-count, raise-count, change-cell, change-all-named, change-all-fits, change-all-length}
 use Rattle.laws.proofs.Fits.{record-in}
-use Rattle.laws.proofs.Serves.{pointersOf, Serves, Valid, sound-valid, valid-sound, tills-again}
+use Rattle.laws.proofs.Serves.{pointersOf, Serves, Valid, sound-valid, valid-sound, till-among, tills-again}
 use Rattle.laws.proofs.Place.{counted-held}
+use Rattle.laws.proofs.Newest.{versions-append, newest-numbers, newest-length}
+use Rattle.laws.proofs.Takeover.{between, taken-gone, close-count, close-traceable}
 
 -- ---- release and sweep, for a backup and a retire
 
@@ -49,11 +52,11 @@ module _ (m : Measures) (a : Shelf) (qs rs ps : List Pointer) (f : ShelfFits m a
 
   go-exact : Exact let-go
   unfolding let-go release
-  go-exact n = ap (uses n) (lower-all-named rs (a .records)) ∙ x n
+  go-exact n = ap (uses n) (change-all-named oneLess falls rs (a .records)) ∙ x n
 
   go-fits : ShelfFits m let-go
   unfolding let-go release
-  go-fits = record { records = lower-all-fits m rs (a .records) (f .records); cells = f .cells }
+  go-fits = record { records = change-all-fits oneLess falls m rs (a .records) (f .records); cells = f .cells }
 
   go-counts : Counted let-go ps
   unfolding let-go release
@@ -75,7 +78,7 @@ module _ (m : Measures) (a : Shelf) (qs rs ps : List Pointer) (f : ShelfFits m a
   after-blocks : (k i : ℕ) → 0 < count (leadsTo k i) ps → blockIn after k i ≡ blockIn a k i
   unfolding let-go release
   after-blocks k i p =
-      kept .blocks k i (subst (λ (n : ℕ). 0 < n) (sym (go-counts k i)) p) ∙ ap (λ (n : ℕ). getD (a .cells) n []) (lower-cell rs (a .records) k i)
+      kept .blocks k i (subst (λ (n : ℕ). 0 < n) (sym (go-counts k i)) p) ∙ ap (λ (n : ℕ). getD (a .cells) n []) (change-cell oneLess falls rs (a .records) k i)
 
   positive : (k i : ℕ) → isHeld (at (after .records) k i) ≡ true → 0 < countIn after k i
   positive k i h =
@@ -90,7 +93,7 @@ module _ (m : Measures) (a : Shelf) (qs rs ps : List Pointer) (f : ShelfFits m a
     counts = after-counts;
     positive = positive;
     serves = record { holds = λ k i p. counted-held (at (after .records) k i) (subst (λ (n : ℕ). 0 < n) (sym (after-counts k i)) p); blocks = after-blocks };
-    recordCount = cleared .recordCount ∙ lower-all-length rs (a .records);
+    recordCount = cleared .recordCount ∙ change-all-length oneLess falls rs (a .records);
     cellCount = cleared .cellCount;
   }
 
@@ -115,29 +118,73 @@ pointers-set k i (x ∷ ts) (suc t) y h =
       count-append (leadsTo k i) (pointersOf (x .versions)) (allPointers ts),
     )
 
--- a till without its oldest version
-younger : (s : Shape) (a : Shelf) (last : ℕ) (v : Version) (newer : List Version) → isTill s a (record { last = last; versions = v ∷ newer }) ≡ true
-    → isTill s a (record { last = last; versions = newer }) ≡ true
-unfolding isTill isNumbered areTraceable counted
-younger s a last v newer h =
-    let n : ℕ = length newer in
-    let up : suc n ≤ s .capacities .versions = leb-true _ _ (clause _ 0 (clause _ 0 h)) in
-    let low : suc n ≤ last = leb-true _ _ (clause _ 1 (clause _ 0 h)) in
+-- ---- pointers that are claimed
+
+-- the counts rise by the pointers claimed, of which each is to a held position, and all else stays
+module _ (m : Measures) (a : Shelf) (qs ps : List Pointer) (f : ShelfFits m a) (x : Exact a) (c : Counted a qs)
+    (g : (k i : ℕ) → 0 < count (leadsTo k i) ps → 0 < count (leadsTo k i) qs) where
+  pub claim-exact : Exact (claim a ps)
+  unfolding claim
+  claim-exact n = ap (uses n) (change-all-named oneMore grows ps (a .records)) ∙ x n
+
+  pub claim-fits : ShelfFits m (claim a ps)
+  unfolding claim
+  claim-fits = record { records = change-all-fits oneMore grows m ps (a .records) (f .records); cells = f .cells }
+
+  pub claim-counts : Counted (claim a ps) (qs ++ ps)
+  unfolding claim
+  claim-counts k i =
+      raise-count ps (a .records) k i (λ l. counted-held (at (a .records) k i) (subst (λ (n : ℕ). 0 < n) (sym (c k i)) (g k i l)))
+      ∙ ap (λ (n : ℕ). n + count (leadsTo k i) ps) (c k i) ∙ sym (count-append (leadsTo k i) qs ps)
+
+  pub claim-block : (k i : ℕ) → blockIn (claim a ps) k i ≡ blockIn a k i
+  unfolding claim
+  claim-block k i = ap (λ (n : ℕ). getD (a .cells) n []) (change-cell oneMore grows ps (a .records) k i)
+
+  pub claim-length : length (claim a ps .records) ≡ length (a .records)
+  unfolding claim
+  claim-length = change-all-length oneMore grows ps (a .records)
+
+  -- pointers `ps` are claimed, `rs` let go, and the shelf is swept: `us` stay
+  pub exchange : (rs us : List Pointer) → ((k i : ℕ) → count (leadsTo k i) (qs ++ ps) ≡ count (leadsTo k i) rs + count (leadsTo k i) us)
+      → Finished m a (sweep m (release (claim a ps) rs)) us
+  exchange rs us e =
+      let fin : Finished m (claim a ps) (sweep m (release (claim a ps) rs)) us = finish m (claim a ps) (qs ++ ps) rs us claim-fits claim-exact claim-counts e in
+      record {
+        fits = fin .fits;
+        exact = fin .exact;
+        counts = fin .counts;
+        positive = fin .positive;
+        serves = record { holds = fin .serves .holds; blocks = λ k i l. fin .serves .blocks k i l ∙ claim-block k i };
+        recordCount = fin .recordCount ∙ claim-length;
+        cellCount = fin .cellCount ∙ (unfold claim in refl);
+      }
+
+-- a till without a version
+closed-till : (s : Shape) (a : Shelf) (last : ℕ) (older : List Version) (v : Version) (newer : List Version) → isTill s a (record { last = last; versions = older ++ (v ∷ newer) }) ≡ true
+    → isTill s a (record { last = last; versions = closeUp older v newer }) ≡ true
+unfolding isTill isNumbered
+closed-till s a last older v newer h =
+    let few : length (older ++ (v ∷ newer)) ≤ s .capacities .versions = leb-true _ _ (clause _ 0 (clause _ 0 h)) in
     all-true _ (
       all-true _ (
-        le-leb n (s .capacities .versions) (omega (arith, up)),
-        (le-leb n last (omega (arith, low)), (clause _ 2 (clause _ 0 h), (numbers low (clause _ 3 (clause _ 0 h)), tt))),
+        le-leb (length (closeUp older v newer)) (s .capacities .versions) (omega (arith, few, length-append older (v ∷ newer), close-length)),
+        (clause _ 1 (clause _ 0 h), (ap (rises 0 last) close-numbers ∙ rises-without 0 last (v .number) (numbers older) (numbers newer) (ap (rises 0 last) (sym split-numbers) ∙ clause _ 2 (clause _ 0 h)), tt)),
       ),
-      (clause _ 3 (clause _ 1 h), tt),
+      (close-traceable v newer s a older (clause _ 1 h), tt),
     )
   where
-    numbers : suc (length newer) ≤ last
-        → sameNumbers (map (λ (v : Version). v .number) (v ∷ newer)) (counted (λ n. n) (suc last - suc (length newer)) (suc (length newer))) ≡ true
-        → sameNumbers (map (λ (v : Version). v .number) newer) (counted (λ n. n) (suc last - length newer) (length newer)) ≡ true
-    numbers low h =
-        ap (λ (x : ℕ). sameNumbers (map (λ (v : Version). v .number) newer) (counted (λ n. n) x (length newer)))
-        (let z : suc last - length newer ≡ suc (suc last - suc (length newer)) = omega (arith, low) in z)
-        ∙ same-tail (v .number) (suc last - suc (length newer)) (map (λ (v : Version). v .number) newer) (counted (λ n. n) (suc (suc last - suc (length newer))) (length newer)) h
+    numbers : List Version → List ℕ
+    numbers vs = map (λ (w : Version). w .number) vs
+
+    close-length : length (closeUp older v newer) ≡ length older + length newer
+    close-length = unfold closeUp in newest-length older (map (takeOver (v .pointers)) (newestPointers older)) newer
+
+    close-numbers : map (λ (w : Version). w .number) (closeUp older v newer) ≡ map (λ (w : Version). w .number) older ++ map (λ (w : Version). w .number) newer
+    close-numbers = unfold closeUp in newest-numbers older (map (takeOver (v .pointers)) (newestPointers older)) newer
+
+    split-numbers : map (λ (w : Version). w .number) (older ++ (v ∷ newer)) ≡ map (λ (w : Version). w .number) older ++ (v .number ∷ map (λ (w : Version). w .number) newer)
+    split-numbers = map-append (λ (w : Version). w .number) older (v ∷ newer)
 
 -- ---- retire
 
@@ -158,55 +205,76 @@ pub passed : (b : Bool) (n : ℕ) (o : Outcome After) (a : After) → cond b (re
 passed true n o a e = absurd (no-refusal n a e)
 passed false n o a e = (refl, e)
 
--- What an accepted retire of version `v` at till `t` of `st` did: the oldest version went, and the shelf was swept.
+-- What an accepted retire of version `v` at till `t` of `st` did: that version went from between the others, and the shelf was swept.
 pub record Retired (s : Shape) (st : State) (t v : ℕ) (a : After) : Type 0 where
   pub there : t < length (st .tills)
-  pub oldest : Version
+  pub version : Version
   pub newer : List Version
-  pub first : tillOf st t .versions ≡ oldest ∷ newer
-  pub named : eqb (oldest .number) v ≡ true
-  pub answer : a .answer ≡ oldest .length
-  pub tills : a .state .tills ≡ set (st .tills) t (record { last = tillOf st t .last; versions = newer })
+  pub from : heldFrom v (tillOf st t .versions) ≡ version ∷ newer
+  pub answer : a .answer ≡ version .length
+  pub tills : a .state .tills ≡ set (st .tills) t (record { last = tillOf st t .last; versions = closeUp (heldBefore v (tillOf st t .versions)) version newer })
   -- the sweep keeps what all pointers lead to
   pub swept : Serves (s .measures) (st .shelf) (a .state .shelf) (allPointers (a .state .tills))
   pub sound : isSound s (a .state) ≡ true
 
 module _ (s : Shape) (st : State) (t v : ℕ) (ht : t < length (st .tills)) (h : isSound s st ≡ true) (w : Version) (newer : List Version)
-    (e : tillOf st t .versions ≡ w ∷ newer) (hv : eqb (w .number) v ≡ true) where
+    (e : heldFrom v (tillOf st t .versions) ≡ w ∷ newer) where
   valid : Valid s st
   valid = sound-valid s st h
 
+  older : List Version
+  older = heldBefore v (tillOf st t .versions)
+
+  split : tillOf st t .versions ≡ older ++ (w ∷ newer)
+  unfolding older
+  split = between v (tillOf st t .versions) w newer e .split
+
   till : Till
-  till = record { last = tillOf st t .last; versions = newer }
+  till = record { last = tillOf st t .last; versions = closeUp older w newer }
+
+  -- the pointers taken over
+  ts : List Pointer
+  ts = map (taken (w .pointers)) (newestPointers older)
 
   ps : List Pointer
   ps = allPointers (set (st .tills) t till)
 
-  left : Shelf
-  left = sweep (s .measures) (release (st .shelf) (w .pointers))
+  all-count : (k i : ℕ) → count (leadsTo k i) (pointersOf (tillOf st t .versions)) ≡ count (leadsTo k i) (pointersOf older) + (count (leadsTo k i) (w .pointers) + count (leadsTo k i) (pointersOf newer))
+  unfolding joined
+  all-count k i =
+      ap (λ (vs : List Version). count (leadsTo k i) (pointersOf vs)) split ∙ versions-append k i older (w ∷ newer)
+      ∙ ap (λ (n : ℕ). count (leadsTo k i) (pointersOf older) + n) (count-append (leadsTo k i) (w .pointers) (pointersOf newer))
 
-  shared : (k i : ℕ) → count (leadsTo k i) (allPointers (st .tills)) ≡ count (leadsTo k i) (w .pointers) + count (leadsTo k i) ps
-  unfolding ps till tillOf joined
+  shared : (k i : ℕ) → count (leadsTo k i) (allPointers (st .tills) ++ ts) ≡ count (leadsTo k i) (w .pointers) + count (leadsTo k i) ps
+  unfolding ps till tillOf ts
   shared k i =
       omega (
         arith,
+        count-append (leadsTo k i) (allPointers (st .tills)) ts,
         pointers-set k i (st .tills) t till ht,
-        ap (λ (vs : List Version). count (leadsTo k i) (pointersOf vs)) e,
-        count-append (leadsTo k i) (w .pointers) (pointersOf newer),
+        all-count k i,
+        close-count w newer k i older,
       )
+
+  claimed : (k i : ℕ) → 0 < count (leadsTo k i) ts → 0 < count (leadsTo k i) (allPointers (st .tills))
+  unfolding ts tillOf
+  claimed k i l = omega (arith, taken-gone (w .pointers) k i (newestPointers older) l, all-count k i, till-among k i (st .tills) t)
+
+  left : Shelf
+  left = sweep (s .measures) (release (claim (st .shelf) ts) (w .pointers))
 
   fin : Finished (s .measures) (st .shelf) left ps
   unfolding left
-  fin = finish (s .measures) (st .shelf) (allPointers (st .tills)) (w .pointers) ps (valid .fits) (valid .exact) (valid .counts) shared
+  fin = exchange (s .measures) (st .shelf) (allPointers (st .tills)) ts (valid .fits) (valid .exact) (valid .counts) claimed (w .pointers) ps shared
 
-  old : isTill s (st .shelf) (record { last = tillOf st t .last; versions = w ∷ newer }) ≡ true
+  old : isTill s (st .shelf) (record { last = tillOf st t .last; versions = older ++ (w ∷ newer) }) ≡ true
   old =
-      ap (λ (vs : List Version). isTill s (st .shelf) (record { last = tillOf st t .last; versions = vs })) (sym e)
+      ap (λ (vs : List Version). isTill s (st .shelf) (record { last = tillOf st t .last; versions = vs })) (sym split)
       ∙ (unfold tillOf in every-at (isTill s (st .shelf)) emptyTill (st .tills) (valid .tills) t ht)
 
-  dropped-sound : isSound s (withTill st t till left) ≡ true
+  closed-sound : isSound s (withTill st t till left) ≡ true
   unfolding withTill ps till
-  dropped-sound =
+  closed-sound =
       valid-sound s _
       (record {
         range = valid .range;
@@ -217,43 +285,40 @@ module _ (s : Shape) (st : State) (t v : ℕ) (ht : t < length (st .tills)) (h :
         exact = fin .exact;
         tills =
             tills-again s (st .shelf) left ps (fin .serves) (set (st .tills) t till)
-            (every-set (isTill s (st .shelf)) (st .tills) t till (valid .tills) (younger s (st .shelf) (tillOf st t .last) w newer old))
+            (every-set (isTill s (st .shelf)) (st .tills) t till (valid .tills) (closed-till s (st .shelf) (tillOf st t .last) older w newer old))
             (λ k i. le-refl (count (leadsTo k i) ps));
         counts = fin .counts;
       })
       (fin .positive)
 
-  dropped : Retired s st t v (record {
-    state = withTill st t (record { last = tillOf st t .last; versions = newer }) (sweep (s .measures) (release (st .shelf) (w .pointers)));
+  closed : Retired s st t v (record {
+    state =
+        withTill st t (record { last = tillOf st t .last; versions = closeUp (heldBefore v (tillOf st t .versions)) w newer })
+        (sweep (s .measures) (release (claim (st .shelf) (map (taken (w .pointers)) (newestPointers (heldBefore v (tillOf st t .versions))))) (w .pointers)));
     answer = w .length;
   })
-  unfolding withTill till left ps
-  dropped = record {
+  unfolding withTill till left ps ts older
+  closed = record {
     there = ht;
-    oldest = w;
+    version = w;
     newer = newer;
-    first = e;
-    named = hv;
+    from = e;
     answer = refl;
     tills = refl;
     swept = fin .serves;
-    sound = dropped-sound;
+    sound = closed-sound;
   }
 
 pub retire-done : (s : Shape) (t v : ℕ) (st : State) (a : After) → isSound s st ≡ true → retire s st t v ≡ done a → Retired s st t v a
-unfolding retire isOldest
+unfolding retire
 retire-done s t v st a h e =
     let (e₁, r₁) = passed (leb (s .capacities .tills) t) 3 _ a e in
-    let (e₂, r₂) = passed (isEmpty (heldFrom v (tillOf st t .versions))) 15 _ a r₁ in
-    let (e₃, r₃) = passed (not (isOldest v (tillOf st t .versions))) 13 _ a r₂ in
-    go (tillOf st t .versions) refl (omega (arith, leb-false (s .capacities .tills) t e₁, sound-valid s st h .tillCount))
-    (not-not (isOldest v (tillOf st t .versions)) e₃) r₃
+    go (heldFrom v (tillOf st t .versions)) refl (omega (arith, leb-false (s .capacities .tills) t e₁, sound-valid s st h .tillCount)) r₁
   where
-    go : (vs : List Version) → tillOf st t .versions ≡ vs → t < length (st .tills) → isOldest v vs ≡ true → dropOldest s st t (tillOf st t .last) vs ≡ done a
-        → Retired s st t v a
-    go [] q ht o r = unfold dropOldest in absurd (no-refusal 15 a r)
-    go (w ∷ newer) q ht o r =
-        unfold dropOldest theAfter in subst (Retired s st t v) (ap (theAfter a) r) (dropped s st t v ht h w newer q o)
+    go : (hs : List Version) → heldFrom v (tillOf st t .versions) ≡ hs → t < length (st .tills)
+        → retireFrom s st t (tillOf st t) (heldBefore v (tillOf st t .versions)) hs ≡ done a → Retired s st t v a
+    go [] q ht r = unfold retireFrom in absurd (no-refusal 15 a r)
+    go (w ∷ newer) q ht r = unfold retireFrom theAfter in subst (Retired s st t v) (ap (theAfter a) r) (closed s st t v ht h w newer q)
 
 pub retire-sound : (s : Shape) (t v : ℕ) (st : State) (a : After) → isSound s st ≡ true → retire s st t v ≡ done a → isSound s (a .state) ≡ true
 retire-sound s t v st a h e = retire-done s t v st a h e .sound

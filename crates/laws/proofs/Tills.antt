@@ -1,27 +1,30 @@
--- Held versions are numbered on from the oldest; a sound store's till, among the table's words.
-use mathlib.Core.Path.{_≡_, refl, sym, ap, ap₂, _∙_, subst}
-use mathlib.Core.Bool.{Bool, true, cond}
+-- The version of a number, by its place among the held ones; a sound store's till, among the table's words.
+use mathlib.Core.Path.{_≡_, refl, sym, ap, _∙_, subst}
+use mathlib.Core.Bool.{Bool, true, false, cond, false≢true}
 use mathlib.Core.List.{List, [], _∷_, map}
-use Prim.Native.Nat.{ℕ, zero, suc, _+_, _*_, _-_, _≤_, _<_}
+use Prim.Native.Nat.{ℕ, zero, suc, _+_, _*_, _-_, _≤_, _<_, zero-le}
 use native.Mathlib.Nat.{add-zero, mul-le-mul-right, suc-mul}
 use native.Mathlib.Omega.{arith}
-use lib.ListN.{length, getD, take, drop}
+use lib.ListN.{length, getD, take, drop, length-map, List·getD-map}
+use lib.Dec.{eqb}
 use lib.Seq.{getD-take, getD-drop}
-use borrow.Author.Tests.{eq-eqb, ne-eqb, leb-true}
-use Rattle.lists.specs.Lists.{counted, allOf, sameNumbers}
+use borrow.Author.Tests.{eqb-false, eq-eqb, ne-eqb, leb-true}
+use Rattle.lists.specs.Lists.{rises, isIn}
+use Rattle.lists.specs.Rows.{rows}
 use Rattle.lists.proofs.Tests.{clause, every-at}
-use Rattle.lists.proofs.Same.{same-eq}
+use Rattle.lists.proofs.Rows.{Wide, wide-all, length-rows, getD-rows, getD-fill}
+use Rattle.lists.proofs.Rises.{rises-length}
 use Rattle.model.specs.Measures.{Shape, tillWords, tableWords}
 use Rattle.model.specs.State.{Version, Till, State}
-use Rattle.model.specs.Table.{tillToWords, stateToWords, shapeOf, stateIn}
+use Rattle.model.specs.Table.{versionToWords, tillToWords, stateToWords, shapeOf, stateIn}
 use Rattle.model.specs.Sound.{isNumbered, areTraceable, isTill}
-use Rattle.model.specs.Calls.{emptyTill, tillOf, heldFrom, oldestNumber, newestNumber}
+use Rattle.model.specs.Calls.{emptyTill, tillOf, heldFrom, heldBefore, oldestNumber, newestNumber}
 use Rattle.laws.proofs.Fits.{StateFits}
-use Rattle.laws.proofs.RoundTrip.{length-till}
+use Rattle.laws.proofs.RoundTrip.{length-version, length-till}
 use Rattle.laws.specs.Stores.{tillAt, Sound}
 use Rattle.laws.proofs.Stores.{till-is, found, fits, valid, long}
 
--- ---- numbers
+-- ---- the version of a number, by its place
 
 pub held-here : (n : ℕ) (v : Version) (vs : List Version) → v .number ≡ n → heldFrom n (v ∷ vs) ≡ v ∷ vs
 unfolding heldFrom
@@ -31,45 +34,27 @@ pub held-later : (n : ℕ) (v : Version) (vs : List Version) → (v .number ≡ 
 unfolding heldFrom
 held-later n v vs e = ap (λ (t : Bool). cond t (v ∷ vs) (heldFrom n vs)) (ne-eqb (v .number) n e)
 
--- the versions are numbered on from a
-abbrev pub From : ℕ → List Version → Type 0
-From a vs = map (λ (v : Version). v .number) vs ≡ counted (λ n. n) a (length vs)
+-- place `j` is the first that has it, or past the end: it and those after it are held from it, the others before it
+pub held-place : (n : ℕ) (vs : List Version) (j : ℕ) → j ≤ length vs → ((i : ℕ) → i < j → getD (map (λ (v : Version). v .number) vs) i 0 ≡ n → ⊥)
+    → (j < length vs → getD (map (λ (v : Version). v .number) vs) j 0 ≡ n) → (heldFrom n vs ≡ drop j vs) × (heldBefore n vs ≡ take j vs)
+unfolding heldFrom heldBefore
+held-place n [] zero h f e = (refl, refl)
+held-place n [] (suc j) h f e = absurd (omega (arith, h))
+held-place n (v ∷ vs) zero h f e = rw (eq-eqb (v .number) n (e (omega arith))) (refl, refl)
+held-place n (v ∷ vs) (suc j) h f e =
+    let r = held-place n vs j (omega (arith, h)) (λ i l q. f (suc i) (omega (arith, l)) q) (λ l. e (omega (arith, l))) in
+    rw (ne-eqb (v .number) n (f 0 (omega arith))) (r .0, ap {B = List Version} (λ l. v ∷ l) (r .1))
 
-first-of : (a : ℕ) (v : Version) (vs : List Version) → From a (v ∷ vs) → v .number ≡ a
-unfolding counted
-first-of a v vs e = ap (λ (l : List ℕ). getD l 0 0) e
-
-rest-of : (a : ℕ) (v : Version) (vs : List Version) → From a (v ∷ vs) → From (suc a) vs
-unfolding counted
-rest-of a v vs e = ap (drop 1) e
-
-pub oldest-from : (a : ℕ) (vs : List Version) → From a vs → 0 < length vs → oldestNumber vs ≡ a
+-- the oldest and the newest number, by their places
+pub oldest-at : (vs : List Version) → oldestNumber vs ≡ getD (map (λ (v : Version). v .number) vs) 0 0
 unfolding oldestNumber
-oldest-from a [] e h = absurd (omega arith)
-oldest-from a (v ∷ vs) e h = first-of a v vs e
+oldest-at [] = refl
+oldest-at (v ∷ vs) = refl
 
-pub newest-from : (a : ℕ) (vs : List Version) → From a vs → 0 < length vs → newestNumber vs + 1 ≡ a + length vs
+pub newest-at : (v : Version) (vs : List Version) → newestNumber (v ∷ vs) ≡ getD (map (λ (w : Version). w .number) (v ∷ vs)) (length vs) 0
 unfolding newestNumber
-newest-from a [] e h = absurd (omega arith)
-newest-from a (v ∷ []) e h = omega (arith, first-of a v [] e)
-newest-from a (v ∷ w ∷ vs) e h = omega (arith, newest-from (suc a) (w ∷ vs) (rest-of a v (w ∷ vs) e) (omega arith))
-
-pub before-held : (a n : ℕ) (vs : List Version) → From a vs → n < a → heldFrom n vs ≡ []
-unfolding heldFrom
-before-held a n [] e h = refl
-before-held a n (v ∷ vs) e h =
-    let f : v .number ≡ a = first-of a v vs e in
-    held-later n v vs (λ q. omega (arith, f, q, h)) ∙ before-held (suc a) n vs (rest-of a v vs e) (omega arith)
-
-pub held-drop : (a : ℕ) (vs : List Version) → From a vs → (j : ℕ) → heldFrom (a + j) vs ≡ drop j vs
-unfolding heldFrom
-held-drop a [] e zero = refl
-held-drop a [] e (suc j) = refl
-held-drop a (v ∷ vs) e zero = held-here (a + 0) v vs (omega (arith, first-of a v vs e))
-held-drop a (v ∷ vs) e (suc j) =
-    let f : v .number ≡ a = first-of a v vs e in
-    let n : a + suc j ≡ suc a + j = omega arith in
-    held-later (a + suc j) v vs (λ q. omega (arith, f, q)) ∙ ap (λ (k : ℕ). heldFrom k vs) n ∙ held-drop (suc a) vs (rest-of a v vs e) j
+newest-at v [] = refl
+newest-at v (w ∷ vs) = newest-at w vs
 
 -- ---- a till of a sound store
 
@@ -100,17 +85,21 @@ module _ {pool table : List ℕ} (h : Sound pool table) (t : ℕ) (in-table : t 
   unfolding isTill isNumbered shapeOf
   few = leb-true _ _ (clause _ 0 (clause _ 0 is-till))
 
-  pub given : length (till .versions) ≤ till .last
-  unfolding isTill isNumbered
-  given = leb-true _ _ (clause _ 1 (clause _ 0 is-till))
-
   pub last-most : till .last ≤ 65535
   unfolding isTill isNumbered
-  last-most = leb-true _ _ (clause _ 2 (clause _ 0 is-till))
+  last-most = leb-true _ _ (clause _ 1 (clause _ 0 is-till))
 
-  pub numbers : From (suc (till .last) - length (till .versions)) (till .versions)
+  pub numbers : rises 0 (till .last) (map (λ (v : Version). v .number) (till .versions)) ≡ true
   unfolding isTill isNumbered
-  numbers = same-eq _ _ (clause _ 3 (clause _ 0 is-till))
+  numbers = clause _ 2 (clause _ 0 is-till)
+
+  pub given : length (till .versions) ≤ till .last
+  given =
+      omega (
+        arith,
+        rises-length 0 (till .last) (map (λ (v : Version). v .number) (till .versions)) zero-le numbers,
+        length-map (till .versions) (λ (v : Version). v .number),
+      )
 
   pub in-words : tillAt (shapeOf table) t + tillWords (getD table 1 0) (getD table 2 0) ≤ length table
   unfolding shapeOf tableWords
@@ -125,3 +114,25 @@ module _ {pool table : List ℕ} (h : Sound pool table) (t : ℕ) (in-table : t 
   pub held-word : getD table (tillAt (shapeOf table) t + 1) 0 ≡ length (till .versions)
   unfolding tillToWords
   held-word = word-at 1 (omega arith) ∙ ap (λ (ws : List ℕ). getD ws 1 0) till-words
+
+  -- the slots of the held versions begin with their numbers
+  pub slot-in : (j : ℕ) → j < length (till .versions) → 4 + j * (3 + getD table 2 0) + (3 + getD table 2 0) ≤ tillWords (getD table 1 0) (getD table 2 0)
+  slot-in j l =
+      let m : suc j * (3 + getD table 2 0) ≤ getD table 1 0 * (3 + getD table 2 0) = mul-le-mul-right (3 + getD table 2 0) (omega (arith, l, few)) in
+      omega (arith, m, suc-mul j (3 + getD table 2 0))
+
+  pub number-word : (j : ℕ) → j < length (till .versions) → getD table (tillAt (shapeOf table) t + (4 + j * (3 + getD table 2 0))) 0 ≡ getD (map (λ (v : Version). v .number) (till .versions)) j 0
+  unfolding tillToWords versionToWords
+  number-word j l =
+      let b : ℕ = getD table 2 0 in
+      let vs : List Version = till .versions in
+      let none : Version = record { number = 0; length = 0; pointers = [] } in
+      let wide : Wide (versionToWords b) (3 + b) vs = wide-all (versionToWords b) (3 + b) (length-version b) vs in
+      let most : length vs * (3 + b) ≤ getD table 1 0 * (3 + b) = mul-le-mul-right (3 + b) few in
+      let q : 4 + j * (3 + b) ≡ suc (suc (suc (suc (j * (3 + b))))) = omega arith in
+      word-at (4 + j * (3 + b)) (omega (arith, slot-in j l)) ∙ ap (λ (ws : List ℕ). getD ws (4 + j * (3 + b)) 0) till-words
+      ∙ ap (λ (i : ℕ). getD (tillToWords (getD table 1 0) b till) i 0) q
+      ∙ getD-fill (getD table 1 0 * (3 + b)) (rows (versionToWords b) vs) (j * (3 + b)) (omega (arith, most, length-rows (versionToWords b) (3 + b) vs wide))
+      ∙ ap (λ (i : ℕ). getD (rows (versionToWords b) vs) i 0) (sym (add-zero (j * (3 + b))))
+      ∙ getD-rows (versionToWords b) (3 + b) none 0 vs wide j 0 l (omega arith)
+      ∙ sym (List·getD-map (λ (v : Version). v .number) vs j none)

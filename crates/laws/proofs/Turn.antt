@@ -136,13 +136,13 @@ lead-at p next [] h n = refl
 lead-at p next (q ∷ ps) h zero = every-head (leads p next) q ps h
 lead-at p next (q ∷ ps) h (suc n) = lead-at p next ps (every-tail (leads p next) q ps h) n
 
-every-map : (p : Shelf) (f : Pointer → Pointer) (next next′ : List Pointer) → ((q : Pointer) → leads p next q ≡ true → leads p next′ (f q) ≡ true)
+pub every-map : (p : Shelf) (f : Pointer → Pointer) (next next′ : List Pointer) → ((q : Pointer) → leads p next q ≡ true → leads p next′ (f q) ≡ true)
     → (ps : List Pointer) → every (leads p next) ps ≡ true → every (leads p next′) (map f ps) ≡ true
 unfolding every
 every-map p f next next′ g [] h = refl
 every-map p f next next′ g (q ∷ ps) h = rw (g q (every-head (leads p next) q ps h)) (every-map p f next next′ g ps (every-tail (leads p next) q ps h))
 
-every-same : (p : Shelf) (next next′ : List Pointer) → ((n : ℕ) → isNull (getD next′ n nullPointer) ≡ isNull (getD next n nullPointer))
+pub every-same : (p : Shelf) (next next′ : List Pointer) → ((n : ℕ) → isNull (getD next′ n nullPointer) ≡ isNull (getD next n nullPointer))
     → (ps : List Pointer) → every (leads p next) ps ≡ true → every (leads p next′) ps ≡ true
 unfolding every
 every-same p next next′ g [] h = refl
@@ -160,7 +160,7 @@ same-ends m p nullPointer f g h = refl
 same-ends m p (direct k i) f g h = refl
 same-ends m p (indirect n) f g h = h n
 
-ends-same : (m : Measures) (p : Shelf) (v v′ : Version) (newer newer′ : List Version) → v′ .length ≡ v .length → length (v′ .pointers) ≡ length (v .pointers)
+pub ends-same : (m : Measures) (p : Shelf) (v v′ : Version) (newer newer′ : List Version) → v′ .length ≡ v .length → length (v′ .pointers) ≡ length (v .pointers)
     → ((n : ℕ) → tracedBlock (m .blockBytes) p (v′ ∷ newer′) n ≡ tracedBlock (m .blockBytes) p (v ∷ newer) n) → endsZero (m .blockBytes) p v newer ≡ true → endsZero (m .blockBytes) p v′ newer′ ≡ true
 unfolding endsZero
 ends-same m p v v′ newer newer′ l n t h =

@@ -2,17 +2,18 @@
 use mathlib.Core.Path.{_≡_, refl, sym, subst}
 use mathlib.Core.Bool.{Bool, true, false, false≢true}
 use mathlib.Core.List.{List, [], _∷_, map}
-use Prim.Native.Nat.{ℕ, zero, suc, _+_, _-_, _*_, _^_, _≤_, _<_}
+use Prim.Native.Nat.{ℕ, _+_, _-_, _*_, _^_, _≤_, _<_, zero-le}
 use native.Mathlib.Nat.{pow-le-pow-right}
 use native.Mathlib.Omega.{arith}
-use lib.ListN.{length, getD}
-use lib.Dec.{eqb, lit<}
-use borrow.Author.Tests.{eqb-true, leb-true}
-use Rattle.lists.specs.Lists.{every, counted, sameNumbers}
+use lib.ListN.{length, getD, length-map}
+use lib.Dec.{lit<}
+use borrow.Author.Tests.{leb-true}
+use Rattle.lists.specs.Lists.{every, rises}
 use Rattle.lists.specs.Rows.{joined, rows}
 use Rattle.lists.specs.Each.{Each}
 use Rattle.lists.proofs.Each.{each-at, each-both, each-joined, each-map, each-map-at, each-of, each-weaken, each-append}
-use Rattle.lists.proofs.Tests.{clause, by-test, cond-true, every-head, every-tail}
+use Rattle.lists.proofs.Tests.{clause, by-test, every-head, every-tail}
+use Rattle.lists.proofs.Rises.{rises-first, rises-length}
 use Rattle.lists.proofs.Uses.{uses-in}
 use Rattle.lists.proofs.Rows.{each-fill}
 use Rattle.lists.proofs.Masks.{mask-lt}
@@ -41,14 +42,10 @@ pointer-word nullPointer h = lit< tt
 pointer-word (direct k i) h = omega (arith, h .1)
 pointer-word (indirect n) h = omega (arith, h)
 
-numbers-most : (last : ℕ) (vs : List Version) (b n : ℕ) → sameNumbers (map (λ (v : Version). v .number) vs) (counted (λ x. x) b n) ≡ true → b + n ≤ suc last
-    → Each (λ (v : Version). v .number ≤ last) vs
-unfolding sameNumbers counted
-numbers-most last [] b n h l = tt
-numbers-most last (v ∷ vs) b zero h l = absurd (false≢true h)
-numbers-most last (v ∷ vs) b (suc n) h l =
-    let (e, r) = cond-true (eqb (v .number) b) (sameNumbers (map (λ (v : Version). v .number) vs) (counted (λ x. x) (suc b) n)) h in
-    (omega (arith, eqb-true (v .number) b e, l), numbers-most last vs (suc b) n r (omega (arith, l)))
+numbers-most : (low last : ℕ) (vs : List Version) → rises low last (map (λ (v : Version). v .number) vs) ≡ true → last ≤ 65535 → Each (λ (v : Version). v .number ≤ 65535) vs
+numbers-most low last [] h l = tt
+numbers-most low last (v ∷ vs) h l =
+    let r = rises-first low last (v .number) (map (λ (v : Version). v .number) vs) h in (omega (arith, r .most, l), numbers-most (v .number) last vs (r .rest) l)
 
 measure-word : (m : Measures) (n : ℕ) → Word n → Word (measureWord m n)
 unfolding measureWord
@@ -104,13 +101,13 @@ module _ (s : Shape) (fit : Fit s) (st : State) (h : isSound s st ≡ true) (sma
   small-till : (t : Till) → TillFits s t → isTill s (st .shelf) t ≡ true → SmallTill t
   unfolding isTill isNumbered
   small-till t f e =
-      let top : t .last ≤ 65535 = leb-true _ _ (clause _ 2 (clause _ 0 e)) in
-      let low : length (t .versions) ≤ t .last = leb-true _ _ (clause _ 1 (clause _ 0 e)) in (
+      let top : t .last ≤ 65535 = leb-true _ _ (clause _ 1 (clause _ 0 e)) in
+      let many : 0 + length (map (λ (v : Version). v .number) (t .versions)) ≤ t .last = rises-length 0 (t .last) (map (λ (v : Version). v .number) (t .versions)) zero-le (clause _ 2 (clause _ 0 e)) in (
         top,
-        omega (arith, top, low),
+        omega (arith, top, many, length-map (t .versions) (λ (v : Version). v .number)),
         each-both (VersionFits s) (λ (v : Version). (v .number ≤ 65535) × (v .length ≤ s .measures .blockBytes * s .capacities .blocks)) (t .versions) (f .versions)
             (each-both (λ (v : Version). v .number ≤ 65535) (λ (v : Version). v .length ≤ s .measures .blockBytes * s .capacities .blocks) (t .versions)
-            (numbers-most 65535 (t .versions) (suc (t .last) - length (t .versions)) (length (t .versions)) (clause _ 3 (clause _ 0 e)) (omega (arith, top, low)))
+            (numbers-most 0 (t .last) (t .versions) (clause _ 2 (clause _ 0 e)) top)
             (lengths-most s st (t .versions) (clause _ 1 e))),
       )
 

@@ -72,6 +72,15 @@ pub with-long {ℓ} : {A : Type ℓ} (P Q : List A → Type 0) (k : ℕ) → ((x
 with-long P Q k f [] w p = tt
 with-long P Q k f (x ∷ xs) w p = (f x (w .0) (p .0), with-long P Q k f xs (w .1) (p .1))
 
+-- what fits is not cut
+pub fill-append : (n : ℕ) (xs ys : List ℕ) → length xs ≤ n → fill n (xs ++ ys) ≡ xs ++ fill (n - length xs) ys
+unfolding fill
+fill-append n [] ys h = let e : n ≡ n - 0 = omega arith in ap (λ (k : ℕ). fill k ys) e
+fill-append zero (x ∷ xs) ys h = absurd (omega (arith, h))
+fill-append (suc n) (x ∷ xs) ys h =
+    let e : n - length xs ≡ suc n - length (x ∷ xs) = omega arith in
+    ap {B = List ℕ} (λ r. x ∷ r) (fill-append n xs ys (omega (arith, h)) ∙ ap (λ (k : ℕ). xs ++ fill k ys) e)
+
 -- ---- words over others, and words that move down
 
 drop-zeros : (n b : ℕ) → drop n (fill b []) ≡ fill (b - n) []

@@ -2,6 +2,7 @@
 pub mod Tests
 pub mod Each
 pub mod Same
+pub mod Rises
 pub mod Sets
 pub mod Counted
 pub mod Counts

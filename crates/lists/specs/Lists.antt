@@ -3,7 +3,7 @@ use Prim.Native.Nat.{ℕ, zero, suc, _+_, max}
 use mathlib.Core.Bool.{Bool, true, false, cond}
 use mathlib.Core.List.{List, [], _∷_}
 use mathlib.Core.Option.{Option, none, some}
-use lib.Dec.{eqb}
+use lib.Dec.{eqb, ltb, leb}
 
 module _ {ℓ} {A : Type ℓ} where
   -- `n` elements: `f` at `i`, `i + 1` and so on
@@ -56,6 +56,11 @@ isIn n (x ∷ xs) = let r = isIn n xs in cond (eqb n x) true r
 unfoldable pub distinct : List ℕ → Bool
 distinct [] = true
 distinct (x ∷ xs) = let r = distinct xs in cond (isIn x xs) false r
+
+-- the numbers rise: the first is above `low`, each other above the one before it, and none is above `high`
+unfoldable pub rises : ℕ → ℕ → List ℕ → Bool
+rises low high [] = true
+rises low high (n ∷ ns) = let r = rises n high ns in cond (ltb low n) (cond (leb n high) r false) false
 
 unfoldable pub allZero : List ℕ → Bool
 allZero xs = every (λ x. eqb x 0) xs

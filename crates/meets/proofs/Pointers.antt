@@ -18,19 +18,18 @@ use Rattle.model.specs.Table.{wordToPointer, pointerOf, pointerWord, versionToW
 use Rattle.laws.proofs.Fits.{PointerFits, VersionFits}
 use Rattle.laws.proofs.RoundTrip.{pointers-back, length-version}
 use Rattle.trace.specs.Versions.{noVersion}
-use Rattle.shelf.specs.Fits.{Fits}
+use Rattle.shelf.specs.Fits.{Fits, NamesHeld}
 use Rattle.meets.proofs.Shelf.{wordsOf, words-length}
-use Rattle.meets.proofs.Slots.{till, till-fits, pointers-fit}
+use Rattle.meets.proofs.Slots.{till, till-fits, pointers-fit, pointers-held}
 
-null-word : wordToPointer 0 ≡ nullPointer
+pub null-word : wordToPointer 0 ≡ nullPointer
 unfolding wordToPointer pointerOf
 null-word = refl
 
--- each names a position that is there, if it is direct
-words-fit : (n l : ℕ) (ps : List Pointer) → Each PointerFits ps → ((j : ℕ) → Fits n l (getD ps j nullPointer))
-    → (i : ℕ) → Fits n l (wordToPointer (getD (map pointerWord ps) i 0))
-words-fit n l ps e f i =
-    subst (λ (p : Pointer). Fits n l p)
+-- what holds of each pointer holds of each word's
+words-each : (P : Pointer → Type 0) (ps : List Pointer) → Each PointerFits ps → ((j : ℕ) → P (getD ps j nullPointer)) → (i : ℕ) → P (wordToPointer (getD (map pointerWord ps) i 0))
+words-each P ps e f i =
+    subst P
     (ap (λ (qs : List Pointer). getD qs i nullPointer) (sym (pointers-back ps e))
     ∙ ap (λ (p : Pointer). getD (map wordToPointer (map pointerWord ps)) i p) (sym null-word)
     ∙ List·getD-map wordToPointer (map pointerWord ps) i 0)
@@ -84,5 +83,12 @@ module _ (s : Shape) (st : State) (sound : isSound s st ≡ true) (t : ℕ) (ht 
   -- they can be followed into the records' words
   pub version-fit : (j : ℕ) → Fits (s .measures .segmentBlocks) (length (wordsOf s st sound)) (wordToPointer (getD (map pointerWord (version .pointers)) j 0))
   version-fit j =
-      words-fit (s .measures .segmentBlocks) (length (wordsOf s st sound)) (version .pointers) (version-fits .pointers)
+      words-each (Fits (s .measures .segmentBlocks) (length (wordsOf s st sound))) (version .pointers) (version-fits .pointers)
       (subst (λ (l : ℕ). (k : ℕ) → Fits (s .measures .segmentBlocks) l (getD (version .pointers) k nullPointer)) (sym (words-length s st sound)) (λ k. pointers-fit s st sound t ht i k)) j
+
+  -- and name held positions
+  pub version-held : (j : ℕ) → NamesHeld (st .shelf .records) (wordToPointer (getD (map pointerWord (version .pointers)) j 0))
+  version-held j = words-each (NamesHeld (st .shelf .records)) (version .pointers) (version-fits .pointers) (λ k. pointers-held s st sound t ht i k) j
+
+  pub version-most : length (version .pointers) ≤ b
+  version-most = version-fits .most

@@ -22,9 +22,8 @@ use Rattle.model.specs.State.{Shelf, Version, Pointer, nullPointer, direct, ind
 use Rattle.model.specs.Table.{versionIn, versionToWords, tillToWords, versionsIn, stateToWords, headerToWords, recordToWords}
 use Rattle.laws.proofs.Fits.{record-in, held-in, TillFits, VersionFits, pointer-in}
 use Rattle.laws.proofs.RoundTrip.{length-version, version-back, length-till}
-use Rattle.shelf.specs.Fits.{Fits}
+use Rattle.shelf.specs.Fits.{Fits, NamesHeld}
 use Rattle.trace.specs.Versions.{noVersion, pointersAt, LeadsTo, Traceable, Direct}
-use Rattle.slots.proofs.Slots.{till-long}
 use Rattle.meets.proofs.Shelf.{fits, few-versions, few-blocks, wordsOf, words-length}
 
 -- ---- pointers that lead somewhere
@@ -46,6 +45,12 @@ module _ (n : ℕ) (shelf : Shelf) (most : (k : ℕ) → length (getD (shelf .re
   one-fits next nullPointer e = tt
   one-fits next (direct k i) e = (row-room k (length (shelf .records)) (recordWords n) (record-in (shelf .records) k i e), omega (arith, held-in (getD (shelf .records) k []) i e, most k))
   one-fits next (indirect k) e = tt
+
+  one-held : (next : List Pointer) (p : Pointer) → leads shelf next p ≡ true → NamesHeld (shelf .records) p
+  unfolding NamesHeld positionAt
+  one-held next nullPointer e = tt
+  one-held next (direct k i) e = e
+  one-held next (indirect k) e = tt
 
   -- of each pointer, and past the end
   by-place : (P : Pointer → Type 0) → P nullPointer → (f : Pointer → Bool) → ((p : Pointer) → f p ≡ true → P p) → (ps : List Pointer) → every f ps ≡ true
@@ -69,6 +74,13 @@ module _ (n : ℕ) (shelf : Shelf) (most : (k : ℕ) → length (getD (shelf .re
     all-fit (v ∷ vs) e zero j =
         by-place (Fits n (length (shelf .records) * recordWords n)) (unfold Fits in tt) (leads shelf (nextPointers vs)) (one-fits (nextPointers vs)) (v .pointers) (clause _ 1 e) j
     all-fit (v ∷ vs) e (suc i) j = all-fit vs (clause _ 3 e) i j
+
+    all-held : (vs : List Version) → areTraceable bytes b shelf vs ≡ true → (i j : ℕ) → NamesHeld (shelf .records) (getD (pointersAt vs i) j nullPointer)
+    unfolding areTraceable
+    all-held [] e i j = unfold NamesHeld in tt
+    all-held (v ∷ vs) e zero j =
+        by-place (NamesHeld (shelf .records)) (unfold NamesHeld in tt) (leads shelf (nextPointers vs)) (one-held (nextPointers vs)) (v .pointers) (clause _ 1 e) j
+    all-held (v ∷ vs) e (suc i) j = all-held vs (clause _ 3 e) i j
 
     -- the newer ones are traceable too
     traceable-from : (i : ℕ) (vs : List Version) → areTraceable bytes b shelf vs ≡ true → areTraceable bytes b shelf (drop i vs) ≡ true
@@ -121,16 +133,12 @@ module _ (s : Shape) (st : State) (sound : isSound s st ≡ true) (t : ℕ) (ht 
       ∙ row-append (tillToWords (c .versions) b) (tillWords (c .versions) b) noTill (st .tills)
       (wide-all (tillToWords (c .versions) b) (tillWords (c .versions) b) (length-till (c .versions) b) (st .tills)) (rows recordToWords (st .shelf .records)) t ht
 
-  -- a held version can be dropped from them
-  pub sound-oldest : 0 < length (till .versions)
-      → (7 + b ≤ length (tillToWords (c .versions) b till)) × (0 < getD (tillToWords (c .versions) b till) 1 0) × (b ≤ 1024)
-  sound-oldest h =
-      let (room, some) = till-long (c .versions) b till (tillToWords (c .versions) b till) h (till-fits .most) refl in
-      (room, some, few-blocks s st sound)
-
   -- each pointer of a version names what is there
   pub pointers-fit : (i j : ℕ) → Fits n (length (st .shelf .records) * recordWords n) (getD (pointersAt (till .versions) i) j nullPointer)
   pointers-fit i j = all-fit n (st .shelf) positions-most bytes b (till .versions) traceable i j
+
+  pub pointers-held : (i j : ℕ) → NamesHeld (st .shelf .records) (getD (pointersAt (till .versions) i) j nullPointer)
+  pointers-held i j = all-held n (st .shelf) positions-most bytes b (till .versions) traceable i j
 
   -- the versions from the i-th oldest on
   module _ (i : ℕ) (hi : i < length (till .versions)) where

@@ -6,7 +6,7 @@ use mathlib.Core.Bool.{Bool, true, _&&_}
 use mathlib.Core.List.{List, [], _∷_, _++_}
 use lib.ListN.{set, take, drop, replicate}
 use lib.Dec.{eqb}
-use Rattle.lists.specs.Lists.{counted, every, keep, count, total, firstFrom, allOf, sameNumbers, isIn, distinct, allZero, largest}
+use Rattle.lists.specs.Lists.{counted, every, keep, count, total, firstFrom, allOf, sameNumbers, rises, isIn, distinct, allZero, largest}
 use Rattle.lists.specs.Rows.{joined, parts, chunks, fill, rows}
 use Rattle.lists.specs.Masks.{maskOf}
 use Rattle.model.specs.Measures.{isWithin, areMeasures, inRange, partsFor, tableWords, poolBytes, isBase, Measures, Capacities, Shape, baseMeasures, headerWords, slotWords, recordWords, recordsAt}
@@ -15,11 +15,11 @@ use Rattle.model.specs.Records.{freeSegment, isFree, cellsOf, namedCells
 use Rattle.model.specs.Runs.{freeCells, better, scan, findRun}
 use Rattle.model.specs.Place.{pointersTo, newPositions, nonNull, share, write, writeRun, writeRecord, shareOrWrite, placeSegment, afterSome, placeNext, placeAll}
 use Rattle.model.specs.Turn.{target, turn, turning}
-use Rattle.model.specs.Sweep.{lower, lowerAll, release, moved, clearCells, freeRecord, strikeOnly, compact, removeFrom, sweepRecord, sweepFrom, sweep}
+use Rattle.model.specs.Sweep.{changeAt, changeAll, release, claim, moved, clearCells, freeRecord, strikeOnly, compact, removeFrom, sweepRecord, sweepFrom, sweep}
 use Rattle.model.specs.Trace.{hopsVia, endVia, hops, endOf, blockAt, tracedBlock, tracedBlocks, imageOf, longestChain}
 use Rattle.model.specs.Table.{pointerWord, recordToWords, versionToWords, tillToWords, measureWord, headerToWords, stateToWords, stateToBytes, measuresIn, shapeOf, pointerOf, wordToPointer, positionOf, positionsIn, segmentIn, recordsIn, cellsIn, shelfIn, versionIn, versionsIn, tillIn, tillsIn, stateIn}
 use Rattle.model.specs.Sound.{isShaped, hasLength, isNumbered, isUsed, hasCells, nextPointers, endsZero, areTraceable, isTill, allPointers, areCounted, allCounted, areFilled, isSound, ifSound, hasLengths, storeAs, storeOf}
-use Rattle.model.specs.Calls.{tableLengthOf, emptyTill, emptyState, layoutIf, layoutOf, tillOf, heldFrom, withTill, newestPointers, withNewestPointers, tillWith, fileIn, placeAndFile, backupAnswer, backupIn, backupOf, restoreRefusal, restoreFrom, restoreIn, restoreOf, dropOldest, isOldest, isEmpty, retireAnswer, retireIn, retireOf, oldestNumber, newestNumber, listingRefusal, listTill, listingIn, listingOf, tallyIn, tallyOf, LengthAnswer, LayoutAnswer, BackupAnswer, RestoreAnswer, RetireAnswer, ListingAnswer, TallyAnswer}
+use Rattle.model.specs.Calls.{tableLengthOf, emptyTill, emptyState, layoutIf, layoutOf, tillOf, heldFrom, withTill, newestPointers, withNewestPointers, tillWith, fileIn, placeAndFile, backupAnswer, backupIn, backupOf, restoreRefusal, restoreFrom, restoreIn, restoreOf, heldBefore, closeUp, retireFrom, retireAnswer, retireIn, retireOf, oldestNumber, newestNumber, listingRefusal, listTill, listingIn, listingOf, tallyIn, tallyOf, LengthAnswer, LayoutAnswer, BackupAnswer, RestoreAnswer, RetireAnswer, ListingAnswer, TallyAnswer}
 use Rattle.model.specs.State.{Pointer, nullPointer, direct, indirect, nullPosition, held, removed, Segment, Version}
 use Rattle.model.specs.Calls as Calls
 
@@ -195,7 +195,11 @@ case5 =
 
 case6 : List Step
 case6 =
-    retire 0 3 13 0
+    retire 0 3 0 512
+    ∷ slotIs 1 (v512 2 (counted indirect 0 7 ++ (direct 1 7 ∷ [])))
+    ∷ slotIs 2 (v512 4 (to8 2))
+    ∷ restore 0 1 (zeros 512) 0 512 2 (blocks ABCDEFGH)
+    ∷ listing 0 0 1 4 4
     ∷ tally 0 10 3 10
     ∷ retire 0 1 0 512
     ∷ recordIs 0 (replicate 8 nullPosition)
@@ -374,6 +378,89 @@ beside =
           ∷ retire 0 1 0 500
           ∷ [];
     }
+    -- ---- any version is retired
+    -- from the middle: version 1 takes over a direct pointer of version 2, with its count, and an indirect one; the third block of version 2 goes
+    ∷ record {
+      capacities = box 16;
+      steps =
+          backup 0 (blocks (65 ∷ 66 ∷ [])) 0 1
+          ∷ backup 0 (blocks (65 ∷ 66 ∷ 67 ∷ [])) 0 2
+          ∷ backup 0 (blocks (66 ∷ 68 ∷ [])) 0 3
+          ∷ retire 0 2 0 192
+          ∷ slotIs 0 (record { number = 1; length = 128; pointers = direct 1 0 ∷ indirect 0 ∷ [] })
+          ∷ slotIs 1 (record { number = 3; length = 128; pointers = direct 0 0 ∷ direct 0 1 ∷ [] })
+          ∷ slotIs 2 (record { number = 0; length = 0; pointers = [] })
+          ∷ recordIs 1 (held 2 1 ∷ removed ∷ removed ∷ replicate 5 nullPosition)
+          ∷ poolIs (blocks (66 ∷ 68 ∷ 65 ∷ []) ++ zeros (64 * 13))
+          ∷ restore 0 1 (zeros 128) 0 128 1 (blocks (65 ∷ 66 ∷ []))
+          ∷ restore 0 2 (zeros 192) 15 0 0 (zeros 192)
+          ∷ restore 0 3 (zeros 128) 0 128 0 (blocks (66 ∷ 68 ∷ []))
+          ∷ retire 0 2 15 0
+          ∷ listing 0 0 1 3 3
+          ∷ tally 0 3 2 3
+          ∷ backup 0 (blocks (65 ∷ 66 ∷ [])) 0 4
+          ∷ restore 0 1 (zeros 128) 0 128 2 (blocks (65 ∷ 66 ∷ []))
+          ∷ [];
+    }
+    -- the newest: version 1 takes over its first block twice and is whole again; the next number is still one above the last given
+    ∷ record {
+      capacities = box 16;
+      steps =
+          backup 0 (blocks (65 ∷ 65 ∷ 66 ∷ [])) 0 1
+          ∷ backup 0 (blocks (65 ∷ 67 ∷ [])) 0 2
+          ∷ slotIs 0 (record { number = 1; length = 192; pointers = indirect 0 ∷ indirect 0 ∷ direct 0 2 ∷ [] })
+          ∷ retire 0 2 0 128
+          ∷ slotIs 0 (record { number = 1; length = 192; pointers = direct 1 0 ∷ direct 1 0 ∷ direct 0 2 ∷ [] })
+          ∷ recordIs 1 (held 0 2 ∷ removed ∷ replicate 6 nullPosition)
+          ∷ restore 0 1 (zeros 192) 0 192 0 (blocks (65 ∷ 65 ∷ 66 ∷ []))
+          ∷ listing 0 0 1 1 2
+          ∷ tally 0 2 2 3
+          ∷ backup 0 (blocks (66 ∷ 65 ∷ [])) 0 3
+          ∷ slotIs 0 (record { number = 1; length = 192; pointers = indirect 1 ∷ indirect 1 ∷ indirect 0 ∷ [] })
+          ∷ restore 0 1 (zeros 192) 0 192 1 (blocks (65 ∷ 65 ∷ 66 ∷ []))
+          ∷ [];
+    }
+    -- one after the other from the newest down: each leaves its older neighbour whole, the last one an empty store, and the numbers go on
+    ∷ record {
+      capacities = box 32;
+      steps =
+          backup 0 (blocks ABCDEFGH) 0 1
+          ∷ backup 0 (blocks ABCDEFGZ) 0 2
+          ∷ backup 0 (blocks AIJKLMNO) 0 3
+          ∷ retire 0 3 0 512
+          ∷ listing 0 0 1 2 3
+          ∷ restore 0 2 (zeros 512) 0 512 0 (blocks ABCDEFGZ)
+          ∷ restore 0 1 (zeros 512) 0 512 1 (blocks ABCDEFGH)
+          ∷ tally 0 9 3 9
+          ∷ retire 0 2 0 512
+          ∷ listing 0 0 1 1 3
+          ∷ restore 0 1 (zeros 512) 0 512 0 (blocks ABCDEFGH)
+          ∷ tally 0 8 3 8
+          ∷ retire 0 1 0 512
+          ∷ listing 0 0 0 0 3
+          ∷ poolIs (zeros 2048)
+          ∷ tally 0 0 0 0
+          ∷ backup 0 (blocks ABCDEFGH) 0 4
+          ∷ listing 0 0 4 4 4
+          ∷ [];
+    }
+    -- held numbers rise from 1 or more to at most the last given: words 12 and 31 are the numbers of the first two slots
+    ∷ record {
+      capacities = box 16;
+      steps =
+          backup 0 (blocks (65 ∷ [])) 0 1
+          ∷ backup 0 (blocks (66 ∷ [])) 0 2
+          ∷ overwrite 12 0
+          ∷ listing 0 10 0 0 0
+          ∷ overwrite 12 2
+          ∷ listing 0 10 0 0 0
+          ∷ overwrite 12 1
+          ∷ overwrite 31 3
+          ∷ listing 0 10 0 0 0
+          ∷ overwrite 8 9
+          ∷ listing 0 0 1 3 9
+          ∷ [];
+    }
     -- ---- refusals, in their order
     -- neither a record nor a run: 14; nothing is altered, also where a segment before was placed
     ∷ record {
@@ -405,7 +492,7 @@ beside =
           ∷ tally 0 1 1 1
           ∷ [];
     }
-    -- restore 3, 15, 5; retire 3, 15, 13; listing 3
+    -- restore 3, 15, 5; retire 3, 15; listing 3
     ∷ record {
       capacities = box 32;
       steps =
@@ -417,7 +504,6 @@ beside =
           ∷ restore 0 1 (replicate 511 7) 5 0 0 (replicate 511 7)
           ∷ retire 1 1 3 0
           ∷ retire 0 3 15 0
-          ∷ retire 0 2 13 0
           ∷ listing 1 3 0 0 0
           ∷ listing 0 0 1 2 2
           ∷ [];
@@ -572,15 +658,15 @@ otherMeasures =
 day-holds : every holds (theDay ++ (beside ++ otherMeasures)) ≡ true
 unfolding theDay beside otherMeasures boxOf case1 case2 case3 case4 case5 case6 v512 to8 run8 letters ABCDEFGH ABCDEFGZ AIJKLMNO ABIJKLMN IJKLMNOP QRSTUVWX zeros blocks atBase box holds
     holdsFrom isAt slotAt recordAt
-    counted every keep count total firstFrom allOf sameNumbers isIn distinct allZero largest joined parts chunks fill maskOf isWithin areMeasures inRange partsFor
+    counted every keep count total firstFrom allOf sameNumbers rises isIn distinct allZero largest joined parts chunks fill maskOf isWithin areMeasures inRange partsFor
     tableWords poolBytes zeroBlock blockFrom blocksFrom imageBlocks segmentsFrom imageSegments freeSegment isFree cellsOf namedCells cellAt positionAt
     equals freeCells better scan findRun pointersTo newPositions nonNull share write writeRun writeRecord shareOrWrite placeSegment afterSome
-    placeNext placeAll target turn turning lower lowerAll release moved clearCells freeRecord strikeOnly compact removeFrom sweepRecord sweepFrom
+    placeNext placeAll target turn turning changeAt changeAll release claim moved clearCells freeRecord strikeOnly compact removeFrom sweepRecord sweepFrom
     sweep hopsVia endVia hops endOf blockAt tracedBlock tracedBlocks imageOf longestChain pointerWord recordToWords versionToWords tillToWords
     isBase measureWord headerToWords stateToWords stateToBytes measuresIn shapeOf pointerOf wordToPointer positionOf positionsIn segmentIn recordsIn cellsIn shelfIn versionIn
     versionsIn tillIn tillsIn stateIn isShaped hasLength isNumbered isUsed hasCells nextPointers endsZero areTraceable isTill allPointers areCounted
     allCounted areFilled isSound ifSound hasLengths storeAs storeOf emptyTill emptyState layoutIf layoutOf tillOf heldFrom withTill
     newestPointers withNewestPointers tillWith fileIn placeAndFile Calls.backup backupAnswer backupIn backupOf restoreRefusal restoreFrom
-    Calls.restore restoreIn restoreOf dropOldest isOldest isEmpty Calls.retire retireAnswer retireIn retireOf oldestNumber newestNumber listingRefusal
+    Calls.restore restoreIn restoreOf heldBefore closeUp retireFrom Calls.retire retireAnswer retireIn retireOf oldestNumber newestNumber listingRefusal
     listTill listingIn listingOf tallyIn tallyOf tableLengthOf
 day-holds = refl

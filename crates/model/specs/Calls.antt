@@ -2,18 +2,18 @@
 -- the lent buffers are afterwards: as they were, in a refusal. The heading of each call gives its refusals in their order.
 use Prim.Native.Nat.{ℕ, suc, _+_, _*_}
 use mathlib.Core.Bool.{Bool, true, false, cond, not, _&&_, _||_}
-use mathlib.Core.List.{List, [], _∷_, _++_}
+use mathlib.Core.List.{List, [], _∷_, _++_, map}
 use mathlib.Core.Option.{Option, none, some}
 use lib.ListN.{length, getD, set, take, drop, replicate}
 use lib.Dec.{eqb, ltb, leb}
 use Rattle.lists.specs.Lists.{count, total}
 use Rattle.model.specs.Measures.{Shape, inRange, tableWords, poolBytes}
-use Rattle.model.specs.State.{Block, Pointer, Shelf, Version, Till, State, Outcome, refused, done}
+use Rattle.model.specs.State.{Block, Pointer, nullPointer, direct, indirect, Shelf, Version, Till, State, Outcome, refused, done}
 use Rattle.model.specs.Image.{zeroBlock, imageBlocks, imageSegments}
 use Rattle.model.specs.Records.{freeSegment, isFree, namedCells, countOf}
 use Rattle.model.specs.Place.{Placed, placeAll}
 use Rattle.model.specs.Turn.{turn, turning}
-use Rattle.model.specs.Sweep.{release, sweep}
+use Rattle.model.specs.Sweep.{release, claim, sweep}
 use Rattle.model.specs.Trace.{imageOf, longestChain}
 use Rattle.model.specs.Table.{stateToWords, stateToBytes}
 use Rattle.model.specs.Sound.{Store, storeOf}
@@ -170,7 +170,7 @@ restoreIn (some store) t version output = restore (store .shape) (store .state) 
 unfoldable pub restoreOf : List ℕ → List ℕ → ℕ → ℕ → List ℕ → RestoreAnswer
 restoreOf pool table t version output = restoreIn (storeOf pool table) t version output
 
--- ---- retire: 10, 3, 15, 13. Answers the retired length.
+-- ---- retire: 10, 3, 15. Answers the retired length.
 
 pub record RetireAnswer : Type 0 where
   pub refusal : ℕ
@@ -178,28 +178,41 @@ pub record RetireAnswer : Type 0 where
   pub pool : List ℕ
   pub table : List ℕ
 
--- the oldest version goes: its direct pointers lower their counts, and step 3 is done
-unfoldable pub dropOldest : Shape → State → ℕ → ℕ → List Version → Outcome After
-dropOldest s st t last [] = refused 15
-dropOldest s st t last (v ∷ newer) = done (record {
-  state = withTill st t (record { last = last; versions = newer }) (sweep (s .measures) (release (st .shelf) (v .pointers)));
+-- the versions before that of the number
+unfoldable pub heldBefore : ℕ → List Version → List Version
+heldBefore n [] = []
+heldBefore n (v ∷ vs) = let r = heldBefore n vs in cond (eqb (v .number) n) [] (v ∷ r)
+
+-- A pointer of the older neighbour of a version with the pointers `gone`, once that version is retired: an indirect one takes over the pointer it named.
+abbrev pub takeOver : List Pointer → Pointer → Pointer
+takeOver gone nullPointer = nullPointer
+takeOver gone (direct k i) = direct k i
+takeOver gone (indirect n) = getD gone n nullPointer
+
+-- the pointer that it takes over; none, null, if it is not indirect
+abbrev pub taken : List Pointer → Pointer → Pointer
+taken gone nullPointer = nullPointer
+taken gone (direct k i) = nullPointer
+taken gone (indirect n) = getD gone n nullPointer
+
+-- the versions without `v`, which stood between the older and the newer ones
+unfoldable pub closeUp : List Version → Version → List Version → List Version
+closeUp older v newer = withNewestPointers older (map (takeOver (v .pointers)) (newestPointers older)) ++ newer
+
+-- The direct pointers taken over add 1 to their counts, then the retired version's lower theirs, and step 3 is done.
+unfoldable pub retireFrom : Shape → State → ℕ → Till → List Version → List Version → Outcome After
+retireFrom s st t till older [] = refused 15
+retireFrom s st t till older (v ∷ newer) = done (record {
+  state =
+      withTill st t (record { last = till .last; versions = closeUp older v newer })
+      (sweep (s .measures) (release (claim (st .shelf) (map (taken (v .pointers)) (newestPointers older))) (v .pointers)));
   answer = v .length;
 })
-
-unfoldable pub isOldest : ℕ → List Version → Bool
-isOldest n [] = false
-isOldest n (v ∷ vs) = eqb (v .number) n
-
-unfoldable pub isEmpty : List Version → Bool
-isEmpty [] = true
-isEmpty (v ∷ vs) = false
 
 unfoldable pub retire : Shape → State → ℕ → ℕ → Outcome After
 retire s st t version =
     cond (leb (s .capacities .tills) t) (refused 3)
-    (cond (isEmpty (heldFrom version (tillOf st t .versions))) (refused 15)
-    (cond (not (isOldest version (tillOf st t .versions))) (refused 13)
-    (dropOldest s st t (tillOf st t .last) (tillOf st t .versions))))
+    (retireFrom s st t (tillOf st t) (heldBefore version (tillOf st t .versions)) (heldFrom version (tillOf st t .versions)))
 
 unfoldable pub retireAnswer : List ℕ → List ℕ → Shape → Outcome After → RetireAnswer
 retireAnswer pool table s (refused n) = record { refusal = n; length = 0; pool = pool; table = table }

@@ -1,11 +1,11 @@
 -- "Sound means all of this", clause by clause, and the store that a pool and a table are.
-use Prim.Native.Nat.{ℕ, zero, suc, _-_, _*_}
+use Prim.Native.Nat.{ℕ, suc, _-_, _*_}
 use mathlib.Core.Bool.{Bool, true, false, cond, not, _||_, Bool·beq}
 use mathlib.Core.List.{List, [], _∷_, map}
 use mathlib.Core.Option.{Option, none, some}
 use lib.ListN.{length, getD, drop}
 use lib.Dec.{eqb, ltb, leb}
-use Rattle.lists.specs.Lists.{counted, every, allOf, count, sameNumbers, isIn, distinct, allZero}
+use Rattle.lists.specs.Lists.{every, allOf, count, sameNumbers, rises, isIn, distinct, allZero}
 use Rattle.lists.specs.Rows.{rows}
 use Rattle.model.specs.Measures.{Shape, isWithin, inRange, tableWords, poolBytes, partsFor}
 use Rattle.model.specs.State.{Block, Pointer, nullPointer, direct, indirect, Position, nullPosition, held, removed, Segment, Shelf, Version, Till, State}
@@ -31,14 +31,13 @@ unfoldable pub hasLength : ℕ → ℕ → Version → Bool
 hasLength bytes b v =
     allOf (isWithin 1 (bytes * b) (v .length) ∷ eqb (length (v .pointers)) (partsFor bytes (v .length)) ∷ [])
 
--- at most the till's versions, numbered without gaps from 1 or more up to the last number, which is at most 65,535
+-- at most the till's versions, with numbers that rise, each at least 1 and at most the last given, which is at most 65,535
 unfoldable pub isNumbered : ℕ → Till → Bool
 isNumbered v t =
     allOf
     (leb (length (t .versions)) v
-    ∷ leb (length (t .versions)) (t .last)
     ∷ leb (t .last) 65535
-    ∷ sameNumbers (map (λ (v : Version). v .number) (t .versions)) (counted (λ n. n) (suc (t .last) - length (t .versions)) (length (t .versions)))
+    ∷ rises 0 (t .last) (map (λ (v : Version). v .number) (t .versions))
     ∷ [])
 
 -- a record in use holds at least one position

@@ -1,5 +1,5 @@
--- Counts fall (backup, step 2, and retire), then step 3: positions whose count is 0 are removed.
-use Prim.Native.Nat.{ℕ, zero, suc, _+_, _-_, _*_, pred}
+-- Counts rise (retire) and fall (backup, step 2, and retire), then step 3: positions whose count is 0 are removed.
+use Prim.Native.Nat.{ℕ, zero, suc, _-_, _*_, pred}
 use mathlib.Core.Bool.{Bool, true, false, cond}
 use mathlib.Core.List.{List, [], _∷_, map}
 use mathlib.Core.Option.{Option, none, some}
@@ -12,25 +12,31 @@ use Rattle.model.specs.State.{Block, Pointer, nullPointer, direct, indir
 use Rattle.model.specs.Image.{zeroBlock}
 use Rattle.model.specs.Records.{freeSegment, isHeld, cellsOf, cellAt}
 use Rattle.model.specs.Runs.{Run, findRun}
+use Rattle.model.specs.Place.{oneMore}
 
--- ---- release: each direct pointer of a list lowers its position's count by 1
+-- ---- counts: each direct pointer of a list changes its position's
+
+unfoldable pub changeAt : (Position → Position) → List Segment → Pointer → List Segment
+changeAt f segs nullPointer = segs
+changeAt f segs (direct k i) = set segs k (set (getD segs k []) i (f (getD (getD segs k []) i nullPosition)))
+changeAt f segs (indirect n) = segs
+
+unfoldable pub changeAll : (Position → Position) → List Segment → List Pointer → List Segment
+changeAll f segs [] = segs
+changeAll f segs (p ∷ ps) = changeAll f (changeAt f segs p) ps
 
 abbrev pub oneLess : Position → Position
 oneLess nullPosition = nullPosition
 oneLess (held c n) = held c (pred n)
 oneLess removed = removed
 
-unfoldable pub lower : List Segment → Pointer → List Segment
-lower segs nullPointer = segs
-lower segs (direct k i) = set segs k (set (getD segs k []) i (oneLess (getD (getD segs k []) i nullPosition)))
-lower segs (indirect n) = segs
-
-unfoldable pub lowerAll : List Segment → List Pointer → List Segment
-lowerAll segs [] = segs
-lowerAll segs (p ∷ ps) = lowerAll (lower segs p) ps
-
+-- each lowers its position's count by 1
 unfoldable pub release : Shelf → List Pointer → Shelf
-release shelf ps = record { records = lowerAll (shelf .records) ps; cells = shelf .cells }
+release shelf ps = record { records = changeAll oneLess (shelf .records) ps; cells = shelf .cells }
+
+-- each adds 1 to its position's count
+unfoldable pub claim : Shelf → List Pointer → Shelf
+claim shelf ps = record { records = changeAll oneMore (shelf .records) ps; cells = shelf .cells }
 
 -- ---- the positions of one record
 

@@ -1,13 +1,15 @@
-// Release: each direct pointer of a list lowers its position's count by 1.
+// Release and claim: each direct pointer of a list lowers its position's count by 1, or adds 1 to it.
 ghost use mathlib.Core.Path.{_≡_};
 ghost use mathlib.Core.List.{List, map};
-ghost use Prim.Native.Nat.{ℕ, pred, _+_, _*_, _<_, _≤_};
+ghost use Prim.Native.Nat.{ℕ, pred, _+_, _*_, _^_, _<_, _≤_};
 ghost use lib.ListN.{length, getD, set};
 ghost use Rattle.model.specs.Measures.{recordWords};
 ghost use Rattle.model.specs.Table.{wordToPointer, recordsIn};
-ghost use Rattle.model.specs.Sweep.{lower as lowerOne, lowerAll};
-ghost use Rattle.shelf.specs.Stored.{RecordsTold};
-ghost use Rattle.shelf.specs.Fits.{Fits};
+ghost use Rattle.model.specs.Records.{countOf};
+ghost use Rattle.model.specs.Place.{oneMore};
+ghost use Rattle.model.specs.Sweep.{oneLess, changeAt, changeAll};
+ghost use Rattle.shelf.specs.Stored.{RecordsTold, positionIn};
+ghost use Rattle.shelf.specs.Fits.{Fits, NamesHeld};
 use numbers::RecordNumber;
 
 fn one_less(n: u32) -> u32
@@ -16,12 +18,20 @@ fn one_less(n: u32) -> u32
     if n == 0 { 0 } else { n - 1 }
 }
 
+// Where the count of a position stands, of n in a record.
+fn count_at(number: RecordNumber, position: u32, n: usize) -> usize
+    requires { ⌜ (n ≤ 16) × (position < n) ⌝ }
+    ensures { λ r. ⌜ r ≡ number .0 * recordWords n + (3 + n + position) ⌝ }
+{
+    number.word(n) + (3 + n + position as usize)
+}
+
 // One less at the count of a position, of n.
 pub fn lower_at(words: &mut [u32], number: RecordNumber, position: u32, n: usize)
     requires { ⌜ (n ≤ 16) × (number .0 * recordWords n + recordWords n ≤ length (now words)) × (position < n) ⌝ }
     ensures { λ _. ⌜ (let at = number .0 * recordWords n + (3 + n + position) in now (words .exit) ≡ set (now (words .entry)) at (pred (getD (now (words .entry)) at 0))) ⌝ }
 {
-    let at = number.word(n) + (3 + n + position as usize);
+    let at = count_at(number, position, n);
     let count = words[at];
     words[at] = one_less(count);
 }
@@ -30,7 +40,7 @@ pub fn lower_at(words: &mut [u32], number: RecordNumber, position: u32, n: usize
 pub fn lower(words: &mut [u32], pointer: u32, n: usize)
     requires { ⌜ (n ≤ 16) × RecordsTold n (now words) (recordsIn n (now words)) ⌝ }
     requires { ⌜ Fits n (length (now words)) (wordToPointer pointer) ⌝ }
-    ensures { λ _. ⌜ RecordsTold n (now (words .exit)) (lowerOne (recordsIn n (now (words .entry))) (wordToPointer pointer)) ⌝ }
+    ensures { λ _. ⌜ RecordsTold n (now (words .exit)) (changeAt oneLess (recordsIn n (now (words .entry))) (wordToPointer pointer)) ⌝ }
 {
     if pointer / 16777216 == 1 {
         let rest = pointer % 16777216;
@@ -42,11 +52,48 @@ pub fn lower(words: &mut [u32], pointer: u32, n: usize)
 pub fn release(words: &mut [u32], pointers: &[u32], n: usize)
     requires { ⌜ (n ≤ 16) × RecordsTold n (now words) (recordsIn n (now words)) ⌝ }
     requires { ⌜ ((i : ℕ) → i < length (now pointers) → Fits n (length (now words)) (wordToPointer (getD (now pointers) i 0))) ⌝ }
-    ensures { λ _. ⌜ RecordsTold n (now (words .exit)) (lowerAll (recordsIn n (now (words .entry))) (map wordToPointer (now (pointers .entry)))) ⌝ }
+    ensures { λ _. ⌜ RecordsTold n (now (words .exit)) (changeAll oneLess (recordsIn n (now (words .entry))) (map wordToPointer (now (pointers .entry)))) ⌝ }
 {
     let mut i: usize = 0;
     while i < pointers.len() {
         lower(words, pointers[i], n);
+        i = i + 1;
+    }
+}
+
+// One more at the count of a position, of n.
+fn raise_at(words: &mut [u32], number: RecordNumber, position: u32, n: usize)
+    requires { ⌜ (n ≤ 16) × (number .0 * recordWords n + recordWords n ≤ length (now words)) × (position < n) × (getD (now words) (number .0 * recordWords n + (3 + n + position)) 0 + 1 < 2 ^ 32) ⌝ }
+    ensures { λ _. ⌜ (let at = number .0 * recordWords n + (3 + n + position) in now (words .exit) ≡ set (now (words .entry)) at (getD (now (words .entry)) at 0 + 1)) ⌝ }
+{
+    let at = count_at(number, position, n);
+    let count = words[at];
+    words[at] = count + 1;
+}
+
+// The same for the position that a pointer's word names, if it is direct: it is held.
+fn raise(words: &mut [u32], pointer: u32, n: usize)
+    requires { ⌜ (n ≤ 16) × RecordsTold n (now words) (recordsIn n (now words)) ⌝ }
+    requires { ⌜ Fits n (length (now words)) (wordToPointer pointer) × NamesHeld (recordsIn n (now words)) (wordToPointer pointer) ⌝ }
+    requires { ⌜ ((k i : ℕ) → countOf (positionIn (recordsIn n (now words)) k i) + 1 < 2 ^ 32) ⌝ }
+    ensures { λ _. ⌜ RecordsTold n (now (words .exit)) (changeAt oneMore (recordsIn n (now (words .entry))) (wordToPointer pointer)) ⌝ }
+{
+    if pointer / 16777216 == 1 {
+        let rest = pointer % 16777216;
+        raise_at(words, RecordNumber(rest / 16), rest % 16, n);
+    }
+}
+
+// The counts for all pointers of a list.
+pub fn claim(words: &mut [u32], pointers: &[u32], n: usize)
+    requires { ⌜ (n ≤ 16) × RecordsTold n (now words) (recordsIn n (now words)) ⌝ }
+    requires { ⌜ ((i : ℕ) → i < length (now pointers) → Fits n (length (now words)) (wordToPointer (getD (now pointers) i 0)) × NamesHeld (recordsIn n (now words)) (wordToPointer (getD (now pointers) i 0))) ⌝ }
+    requires { ⌜ ((k i : ℕ) → countOf (positionIn (recordsIn n (now words)) k i) + length (now pointers) < 2 ^ 32) ⌝ }
+    ensures { λ _. ⌜ RecordsTold n (now (words .exit)) (changeAll oneMore (recordsIn n (now (words .entry))) (map wordToPointer (now (pointers .entry)))) ⌝ }
+{
+    let mut i: usize = 0;
+    while i < pointers.len() {
+        raise(words, pointers[i], n);
         i = i + 1;
     }
 }

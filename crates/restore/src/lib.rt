@@ -99,15 +99,10 @@ pub fn restore_version(
         return refused(3);
     }
     let head = tills::till_head(pool, table, till);
-    let end = head.last + 1;
-    let first = end - head.held;
-    if version < first {
+    let j = tills::place_of(pool, table, till, head, version);
+    if head.held as usize <= j {
         return refused(15);
     }
-    if end <= version {
-        return refused(15);
-    }
-    let j = (version - first) as usize;
     let m = layout::measures_in(table);
     restore_held(pool, table, till, head, j, output, m)
 }

@@ -1,41 +1,42 @@
 -- A retire, step by step and case by case.
-use mathlib.Core.Path.{_≡_, refl, sym, ap, _∙_, subst}
-use mathlib.Core.Bool.{true, false, cond, not}
+use mathlib.Core.Path.{_≡_, refl, sym, ap, ap₂, _∙_, subst}
 use mathlib.Core.List.{List, [], _∷_, _++_, map}
-use Prim.Native.Nat.{ℕ, suc, _+_, _*_, _-_, _/_, _≤_, _<_}
+use Prim.Native.Nat.{ℕ, zero, suc, _+_, _*_, _-_, _^_, _≤_, _<_, zero-le}
 use native.Mathlib.Nat.{mul-le-mul, mul-le-mul-right}
 use native.Mathlib.Omega.{arith}
-use lib.ListN.{length, getD, set, take, drop, replicate, length-take, length-drop, length-map, length-append, length-replicate}
+use lib.ListN.{length, getD, set, take, drop, replicate, length-take, length-drop, length-map, length-append, length-replicate, take-append-drop}
 use lib.Seq.{getD-take, getD-drop, take-take, drop-drop, take-at, length-take-le}
-use borrow.Author.Tests.{le-leb, lt-leb, eq-eqb, ne-eqb}
-use lib.Dec.{eqb}
+use borrow.Author.Tests.{le-leb, lt-leb}
 use Rattle.lists.specs.Rows.{rows}
-use Rattle.lists.proofs.Each.{each-at}
-use Rattle.lists.proofs.Slices.{drop-end, tail-all, part-part, part-get}
+use Rattle.lists.specs.Each.{Each}
+use Rattle.lists.proofs.Each.{each-at, each-take}
+use Rattle.lists.proofs.Slices.{drop-end, drop-next, take-next, tail-all, part-part, part-get}
 use Rattle.model.specs.Measures.{Measures, Shape, Capacities, partsFor, tillWords, recordWords, tableWords}
 use Rattle.model.specs.State.{Pointer, Version, Till, Shelf, State, Outcome, refused, done}
-use Rattle.model.specs.Sweep.{release, sweep}
-use Rattle.model.specs.Table.{pointerWord, wordToPointer, versionIn, versionToWords, tillToWords, recordToWords, recordsPart, shapeOf, stateIn, shelfIn, stateToWords, stateToBytes}
-use Rattle.model.specs.Calls.{After, emptyTill, tillOf, heldFrom, oldestNumber, withTill, isEmpty, isOldest, dropOldest, retire, retireIn, retireOf}
+use Rattle.model.specs.Records.{countOf}
+use Rattle.model.specs.Sweep.{release, claim, sweep}
+use Rattle.model.specs.Table.{pointerWord, wordToPointer, versionToWords, tillToWords, recordToWords, recordsPart, recordsIn, shapeOf, stateIn, shelfIn, stateToWords, stateToBytes}
+use Rattle.model.specs.Calls.{After, emptyTill, tillOf, newestPointers, withNewestPointers, taken, takeOver, closeUp, withTill, retireFrom, retire, retireIn, retireOf}
 use Rattle.model.specs.Calls as calls
-use Rattle.laws.proofs.Fits.{VersionFits}
+use Rattle.laws.proofs.Bounds.{count-bound}
+use Rattle.laws.proofs.Fits.{VersionFits, PointerFits}
 use Rattle.laws.proofs.Measures.{sizes, parts-enough}
-use Rattle.laws.proofs.RoundTrip.{length-till}
+use Rattle.laws.proofs.Newest.{newest-last}
+use Rattle.laws.proofs.RoundTrip.{length-till, held-word, pointers-back}
 use Rattle.laws.specs.Stores.{tillAt, recordsFrom, Sound}
-use Rattle.laws.proofs.Stores.{till-is, till-put, records-put, header, found, fits, long}
-use Rattle.laws.proofs.Tills.{From, there, till-words, few, given, last-most, numbers, in-words, before-held, held-drop, oldest-from}
+use Rattle.laws.proofs.Stores.{till-is, till-put, records-put, header, found, fits, fit, long}
+use Rattle.laws.proofs.Tills.{there, till-words, few, in-words, slot-in}
 use Rattle.meets.proofs.Records.{part-is, shelf-is}
 use Rattle.trace.specs.Versions.{noVersion}
-use Rattle.shelf.specs.Stored.{Told, Stored}
-use Rattle.shelf.specs.Fits.{Fits}
-use Rattle.slots.specs.Slots.{withoutOldest}
-use Rattle.slots.proofs.Slots.{till-long}
-use Rattle.meets.proofs.Shelf.{sound-stored}
+use Rattle.shelf.specs.Stored.{Told, Stored, positionIn}
+use Rattle.shelf.specs.Fits.{Fits, NamesHeld}
+use Rattle.slots.specs.Slots.{HasSlot}
 use Rattle.meets.proofs.Slots as slots
-use Rattle.meets.proofs.Pointers.{slot-row, version-words, version-pointers, version-fit}
+use Rattle.meets.proofs.Pointers.{null-word, slot-row, version-words, version-pointers, version-fit, version-held}
 use Rattle.tills.specs.declared.Head.{Head}
-use Rattle.tills.specs.Answers.{tillSize, HeadOf}
-use Rattle.retire.specs.Answers.{tillIn, oldestIn, Holds, Copied, released, Are, Placed, droppedFrom}
+use Rattle.tills.specs.Answers.{tillSize, HeadOf, versionsHeld, PlaceOf}
+use Rattle.retire.specs.Answers.{versionAt, Holds, Copied, takenWord, takeOverWord, exchanged, stateWithout, Are, Placed, retiredAt}
+use Rattle.retire.proofs.Words.{taken-pointers, taken-each, over-words}
 
 -- room for pointers
 pub zeros-long : (n : ℕ) → length (replicate {A = ℕ} n 0) ≡ n
@@ -58,14 +59,17 @@ table-most {pool} {table} h =
     let rows : getD table 3 0 * recordWords (shapeOf table .measures .segmentBlocks) ≤ 4096 * 35 = mul-le-mul (header h .records) w in
     (omega (arith, b, long h, rows), omega (arith, long h))
 
--- ---- the oldest version's slot
+-- ---- the slot of the version at place j
 
-module _ {pool table : List ℕ} {t at : ℕ} (h : Holds pool table t at) where
+module _ {pool table : List ℕ} {t at j : ℕ} (h : Holds pool table t at j) where
   abbrev caps : Capacities
   caps = shapeOf table .capacities
 
   abbrev state : State
   state = stateIn (shapeOf table) pool table
+
+  abbrev bytes : ℕ
+  bytes = shapeOf table .measures .blockBytes
 
   abbrev v : ℕ
   v = getD table 1 0
@@ -73,142 +77,176 @@ module _ {pool table : List ℕ} {t at : ℕ} (h : Holds pool table t at) where
   abbrev b : ℕ
   b = getD table 2 0
 
+  abbrev slot : ℕ
+  slot = at + (4 + j * (3 + b))
+
   ht : t < length (state .tills)
   ht = there (h .sound) t (h .inside)
 
-  oldest-fits : VersionFits (shapeOf table) (oldestIn pool table t)
+  version-fits : VersionFits (shapeOf table) (versionAt pool table t j)
   unfolding shapeOf tillOf emptyTill
-  oldest-fits =
-      each-at (VersionFits (shapeOf table)) noVersion (tillIn pool table t .versions)
-      (slots.till-fits (shapeOf table) state (found (h .sound) .sound) t ht .versions) 0 (h .some)
+  version-fits =
+      each-at (VersionFits (shapeOf table)) noVersion (versionsHeld pool table t)
+      (slots.till-fits (shapeOf table) state (found (h .sound) .sound) t ht .versions) j (h .held)
 
-  slot-fits : 7 + b ≤ tillWords v b
-  slot-fits =
-      let m : 1 * (3 + b) ≤ v * (3 + b) = mul-le-mul-right (3 + b) (omega (arith, h .some, few (h .sound) t (h .inside))) in
-      omega (arith, m)
+  slot-fits : 4 + j * (3 + b) + (3 + b) ≤ tillWords v b
+  slot-fits = slot-in (h .sound) t (h .inside) j (h .held)
 
-  slot : take (3 + b) (drop (at + 4) table) ≡ versionToWords b (oldestIn pool table t)
+  slot-words : take (3 + b) (drop slot table) ≡ versionToWords b (versionAt pool table t j)
   unfolding shapeOf tillOf emptyTill
-  slot =
-      let z : 4 + 0 * (3 + b) ≡ 4 = omega arith in
-      ap (λ (a : ℕ). take (3 + b) (drop (a + 4) table)) (h .begins)
-      ∙ sym (part-part table (tillAt (shapeOf table) t) (tillWords v b) 4 (3 + b) (omega (arith, slot-fits)))
-      ∙ ap (λ (ws : List ℕ). take (3 + b) (drop 4 ws)) (till-words (h .sound) t (h .inside))
-      ∙ ap (λ (k : ℕ). take (3 + b) (drop k (tillToWords v b (tillIn pool table t)))) (sym z)
-      ∙ slot-row (shapeOf table) state (found (h .sound) .sound) t ht 0 (h .some)
+  slot-words =
+      ap (λ (a : ℕ). take (3 + b) (drop (a + (4 + j * (3 + b))) table)) (h .begins)
+      ∙ sym (part-part table (tillAt (shapeOf table) t) (tillWords v b) (4 + j * (3 + b)) (3 + b) slot-fits)
+      ∙ ap (λ (ws : List ℕ). take (3 + b) (drop (4 + j * (3 + b)) ws)) (till-words (h .sound) t (h .inside))
+      ∙ slot-row (shapeOf table) state (found (h .sound) .sound) t ht j (h .held)
 
-  pub length-word : getD table (at + 5) 0 ≡ oldestIn pool table t .length
+  pub length-word : getD table (slot + 1) 0 ≡ versionAt pool table t j .length
   unfolding versionToWords
-  length-word =
-      let z : at + 5 ≡ at + 4 + 1 = omega arith in
-      ap (λ (i : ℕ). getD table i 0) z ∙ sym (part-get table (at + 4) (3 + b) 1 0 (omega arith)) ∙ ap (λ (ws : List ℕ). getD ws 1 0) slot
+  length-word = sym (part-get table slot (3 + b) 1 0 (omega arith)) ∙ ap (λ (ws : List ℕ). getD ws 1 0) slot-words
 
-  parts-are : partsFor (shapeOf table .measures .blockBytes) (getD table (at + 5) 0) ≡ length (oldestIn pool table t .pointers)
+  parts-are : partsFor bytes (getD table (slot + 1) 0) ≡ length (versionAt pool table t j .pointers)
   unfolding shapeOf
-  parts-are = ap (partsFor (shapeOf table .measures .blockBytes)) length-word ∙ sym (oldest-fits .blocks)
+  parts-are = ap (partsFor bytes) length-word ∙ sym (version-fits .blocks)
 
-  parts-most : partsFor (shapeOf table .measures .blockBytes) (getD table (at + 5) 0) ≤ b
+  parts-most : partsFor bytes (getD table (slot + 1) 0) ≤ b
   unfolding shapeOf
-  parts-most = omega (arith, parts-are, oldest-fits .most)
+  parts-most = omega (arith, parts-are, version-fits .most)
 
-  pub pointer-words : take (partsFor (shapeOf table .measures .blockBytes) (getD table (at + 5) 0)) (drop (at + 7) table) ≡ map pointerWord (oldestIn pool table t .pointers)
+  pointer-words : take (partsFor bytes (getD table (slot + 1) 0)) (drop (slot + 3) table) ≡ map pointerWord (versionAt pool table t j .pointers)
   unfolding shapeOf tillOf emptyTill versionToWords
   pointer-words =
-      let z : at + 7 ≡ at + 4 + 3 = omega arith in
-      ap (λ (i : ℕ). take (partsFor (shapeOf table .measures .blockBytes) (getD table (at + 5) 0)) (drop i table)) z
-      ∙ sym (part-part table (at + 4) (3 + b) 3 (partsFor (shapeOf table .measures .blockBytes) (getD table (at + 5) 0)) (omega (arith, parts-most)))
-      ∙ ap (λ (ws : List ℕ). take (partsFor (shapeOf table .measures .blockBytes) (getD table (at + 5) 0)) (drop 3 ws)) slot
-      ∙ ap (λ (n : ℕ). take (partsFor (shapeOf table .measures .blockBytes) n) (drop 3 (versionToWords b (oldestIn pool table t)))) length-word
-      ∙ version-words (shapeOf table) state (found (h .sound) .sound) t ht 0 (h .some)
+      sym (part-part table slot (3 + b) 3 (partsFor bytes (getD table (slot + 1) 0)) (omega (arith, parts-most)))
+      ∙ ap (λ (ws : List ℕ). take (partsFor bytes (getD table (slot + 1) 0)) (drop 3 ws)) slot-words
+      ∙ ap (λ (n : ℕ). take (partsFor bytes n) (drop 3 (versionToWords b (versionAt pool table t j)))) length-word
+      ∙ version-words (shapeOf table) state (found (h .sound) .sound) t ht j (h .held)
 
   -- all that is read lies in the table
-  pub room : (at + 7 + partsFor (shapeOf table .measures .blockBytes) (getD table (at + 5) 0) ≤ length table) × (partsFor (shapeOf table .measures .blockBytes) (getD table (at + 5) 0) ≤ 1024) × (getD table (at + 5) 0 ≤ 65536) × (length table ≤ 1195080)
+  pub room : (slot + 3 + partsFor bytes (getD table (slot + 1) 0) ≤ length table) × (slot + 3 ≤ length table) × (partsFor bytes (getD table (slot + 1) 0) ≤ 1024) × (getD table (slot + 1) 0 ≤ 65536)
+      × (length table ≤ 1195080) × (b ≤ 1024) × (8 ≤ length table)
   room =
       let k = parts-most in
       let d = header (h .sound) in
-      let some : 0 < shapeOf table .measures .blockBytes = omega (arith, d .measured .someBytes) in
-      let all : partsFor (shapeOf table .measures .blockBytes) (getD table (at + 5) 0) * shapeOf table .measures .blockBytes ≤ b * shapeOf table .measures .blockBytes =
-      mul-le-mul-right (shapeOf table .measures .blockBytes) k in (
+      let some : 0 < bytes = omega (arith, d .measured .someBytes) in
+      let all : partsFor bytes (getD table (slot + 1) 0) * bytes ≤ b * bytes = mul-le-mul-right bytes k in (
         omega (arith, k, h .begins, slot-fits, in-words (h .sound) t (h .inside)),
+        omega (arith, h .begins, slot-fits, in-words (h .sound) t (h .inside)),
         omega (arith, k, d .blocks),
-        omega (arith, parts-enough (shapeOf table .measures .blockBytes) (getD table (at + 5) 0) some, all, d .image),
+        omega (arith, parts-enough bytes (getD table (slot + 1) 0) some, all, d .image),
         table-most (h .sound) .0,
+        d .blocks,
+        d .eight,
       )
 
   -- with the number of pointers as the code has it
-  module _ (k : ℕ) (ek : k ≡ partsFor (shapeOf table .measures .blockBytes) (getD table (at + 5) 0)) where
-    copied-length : length (take (at + 7 + k - (at + 7)) (drop (at + 7) table)) ≡ k
+  module _ (k : ℕ) (ek : k ≡ partsFor bytes (getD table (slot + 1) 0)) where
+    copied-length : length (take (slot + 3 + k - (slot + 3)) (drop (slot + 3) table)) ≡ k
     copied-length =
-        let z : at + 7 + k - (at + 7) ≡ k = omega arith in
-        rw (z, ek) (ap length pointer-words ∙ length-map (oldestIn pool table t .pointers) pointerWord ∙ sym parts-are)
+        let z : slot + 3 + k - (slot + 3) ≡ k = omega arith in
+        rw (z, ek) (ap length pointer-words ∙ length-map (versionAt pool table t j .pointers) pointerWord ∙ sym parts-are)
 
-    pub copy-in-table : at + 7 + k ≤ length table
+    pub copy-in-table : slot + 3 + k ≤ length table
     copy-in-table = omega (arith, room .0, ek)
 
-    pub copy-room : (d : List ℕ) → length d ≡ 1024 → length (take (at + 7 + k - (at + 7)) (drop (at + 7) table)) ≤ length d
-    copy-room d l = omega (arith, l, room .1, ek, copied-length)
+    pub copy-room : (d : List ℕ) → length d ≡ 1024 → length (take (slot + 3 + k - (slot + 3)) (drop (slot + 3) table)) ≤ length d
+    copy-room d l = omega (arith, l, room .2, ek, copied-length)
 
     pub copied : (d ws : List ℕ) → length d ≡ 1024
-        → ws ≡ take (at + 7 + k - (at + 7)) (drop (at + 7) table) ++ drop (length (take (at + 7 + k - (at + 7)) (drop (at + 7) table))) d
-        → Copied pool table t (getD table (at + 5) 0) ws
+        → ws ≡ take (slot + 3 + k - (slot + 3)) (drop (slot + 3) table) ++ drop (length (take (slot + 3 + k - (slot + 3)) (drop (slot + 3) table))) d
+        → Copied pool table t j (getD table (slot + 1) 0) ws
     copied d ws l e =
-        let src : List ℕ = take (at + 7 + k - (at + 7)) (drop (at + 7) table) in
-        let z : at + 7 + k - (at + 7) ≡ k = omega arith in
-        let front : take k ws ≡ map pointerWord (oldestIn pool table t .pointers) =
-        ap (take k) e ∙ take-at src (drop (length src) d) k copied-length ∙ ap (λ (j : ℕ). take j (drop (at + 7) table)) z
-        ∙ ap (λ (j : ℕ). take j (drop (at + 7) table)) ek ∙ pointer-words in
+        let src : List ℕ = take (slot + 3 + k - (slot + 3)) (drop (slot + 3) table) in
+        let z : slot + 3 + k - (slot + 3) ≡ k = omega arith in
+        let front : take k ws ≡ map pointerWord (versionAt pool table t j .pointers) =
+        ap (take k) e ∙ take-at src (drop (length src) d) k copied-length ∙ ap (λ (i : ℕ). take i (drop (slot + 3) table)) z
+        ∙ ap (λ (i : ℕ). take i (drop (slot + 3) table)) ek ∙ pointer-words in
         record {
           bytes = length-word;
-          words = ap (λ (j : ℕ). take j ws) (sym ek) ∙ front;
+          words = ap (λ (i : ℕ). take i ws) (sym ek) ∙ front;
           room = omega (arith, ek, ap length e, length-append src (drop (length src) d), copied-length);
         }
 
-  -- the copied words are the oldest version's pointers, which can be followed
   -- what counting its pointers requires
-  pub length-most : (n : ℕ) (ws : List ℕ) → Copied pool table t n ws → (m : Measures) → m ≡ shapeOf table .measures → (0 < m .blockBytes) × (m .blockBytes ≤ 512) × (n ≤ 4294967295)
+  pub length-most : (n : ℕ) (ws : List ℕ) → Copied pool table t j n ws → (m : ℕ) → m ≡ bytes → (0 < m) × (m ≤ 512) × (n ≤ 4294967295)
   length-most n ws o m em =
       let d = header (h .sound) .measured in
-      (rw em (omega (arith, d .someBytes)), rw em (d .mostBytes), omega (arith, o .bytes, length-word, room .2))
+      (rw em (omega (arith, d .someBytes)), rw em (d .mostBytes), omega (arith, o .bytes, length-word, room .3))
 
-  module _ (n : ℕ) (ws : List ℕ) (o : Copied pool table t n ws) (k : ℕ) (ek : k ≡ partsFor (shapeOf table .measures .blockBytes) n) where
-    front : take k ws ≡ map pointerWord (oldestIn pool table t .pointers)
-    front = ap (λ (j : ℕ). take j ws) ek ∙ o .words
+  -- the copied words are the version's pointers
+  module _ (n : ℕ) (ws : List ℕ) (o : Copied pool table t j n ws) (k : ℕ) (ek : k ≡ partsFor bytes n) where
+    pub front-words : take k ws ≡ map pointerWord (versionAt pool table t j .pointers)
+    front-words = ap (λ (i : ℕ). take i ws) ek ∙ o .words
 
-    pub pointers-are : map wordToPointer (take k ws) ≡ oldestIn pool table t .pointers
+    pub front-pointers : map wordToPointer (take k ws) ≡ versionAt pool table t j .pointers
     unfolding shapeOf tillOf emptyTill
-    pointers-are = ap (map wordToPointer) front ∙ version-pointers (shapeOf table) state (found (h .sound) .sound) t ht 0 (h .some)
+    front-pointers = ap (map wordToPointer) front-words ∙ version-pointers (shapeOf table) state (found (h .sound) .sound) t ht j (h .held)
 
-    pub front-room : k ≤ length ws
-    front-room = omega (arith, ek, o .room)
+    pub front-room : (k ≤ length ws) × (k ≤ b)
+    unfolding shapeOf
+    front-room = (omega (arith, ek, o .room), omega (arith, ek, ap (partsFor bytes) (o .bytes), version-fits .blocks, version-fits .most))
 
-    pub front-long : k ≡ length (take k ws)
-    front-long = sym (length-take-le k ws front-room)
+    pub front-long : length (take k ws) ≡ k
+    front-long = length-take-le k ws (front-room .0)
 
-    pub pointers-fit : (i : ℕ) → i < length (take k ws) → Fits (shapeOf table .measures .segmentBlocks) (length (drop (recordsFrom (shapeOf table)) table)) (wordToPointer (getD (take k ws) i 0))
-    unfolding shapeOf tillOf emptyTill
-    pointers-fit i l =
-        rw front
-        (subst (λ (w : List ℕ). Fits (shapeOf table .measures .segmentBlocks) (length (recordsPart caps w)) (wordToPointer (getD (map pointerWord (oldestIn pool table t .pointers)) i 0))) (found (h .sound) .words)
-        (version-fit (shapeOf table) state (found (h .sound) .sound) t ht 0 (h .some) i))
+  -- its pointers can be followed, and name held positions
+  pub gone-fit : (i : ℕ) → Fits (shapeOf table .measures .segmentBlocks) (length (drop (recordsFrom (shapeOf table)) table)) (wordToPointer (getD (map pointerWord (versionAt pool table t j .pointers)) i 0))
+  unfolding shapeOf tillOf emptyTill
+  gone-fit i =
+      subst (λ (w : List ℕ). Fits (shapeOf table .measures .segmentBlocks) (length (recordsPart caps w)) (wordToPointer (getD (map pointerWord (versionAt pool table t j .pointers)) i 0))) (found (h .sound) .words)
+      (version-fit (shapeOf table) state (found (h .sound) .sound) t ht j (h .held) i)
 
--- ---- pointers let go
+  pub gone-held : (i : ℕ) → NamesHeld (recordsIn (shapeOf table .measures .segmentBlocks) (drop (recordsFrom (shapeOf table)) table)) (wordToPointer (getD (map pointerWord (versionAt pool table t j .pointers)) i 0))
+  unfolding shapeOf tillOf emptyTill stateIn shelfIn
+  gone-held i = version-held (shapeOf table) state (found (h .sound) .sound) t ht j (h .held) i
+
+-- ---- the older neighbour
+
+older-is : (vs : List Version) (j : ℕ) → (j ≡ 0 → ⊥) → j ≤ length vs → newestPointers (take j vs) ≡ getD vs (j - 1) noVersion .pointers
+older-is vs j z h =
+    let e : j ≡ j - 1 + 1 = omega (arith, z) in
+    ap (λ (k : ℕ). newestPointers (take k vs)) e ∙ ap newestPointers (take-next vs (j - 1) noVersion (omega (arith, z, h))) ∙ newest-last (take (j - 1) vs) (getD vs (j - 1) noVersion)
+
+module _ {pool table : List ℕ} {t at j : ℕ} (h : Holds pool table t at j) where
+  pub holds-older : (j ≡ 0 → ⊥) → Holds pool table t at (j - 1)
+  holds-older z = record { sound = h .sound; inside = h .inside; begins = h .begins; held = omega (arith, h .held) }
+
+  pub older-none : j ≡ 0 → (ws : List ℕ) → take 0 ws ≡ map pointerWord (newestPointers (take j (versionsHeld pool table t)))
+  unfolding newestPointers
+  older-none z ws = rw z refl
+
+  pub older-some : (z : j ≡ 0 → ⊥) (n : ℕ) (ws : List ℕ) → Copied pool table t (j - 1) n ws → (k : ℕ) → k ≡ partsFor (shapeOf table .measures .blockBytes) n
+      → (take k ws ≡ map pointerWord (newestPointers (take j (versionsHeld pool table t)))) × (k ≤ 1024)
+  older-some z n ws o k ek = (
+    front-words (holds-older z) n ws o k ek ∙ ap (map pointerWord) (sym (older-is (versionsHeld pool table t) j z (omega (arith, h .held)))),
+    omega (arith, front-room (holds-older z) n ws o k ek .1, header (h .sound) .blocks),
+  )
+
+  pointers-each : (vs : List Version) → Each (VersionFits (shapeOf table)) vs → Each PointerFits (newestPointers vs)
+  unfolding newestPointers
+  pointers-each [] e = tt
+  pointers-each (v ∷ []) e = e .0 .pointers
+  pointers-each (v ∷ w ∷ vs) e = pointers-each (w ∷ vs) (e .1)
+
+  pub older-fit : Each PointerFits (newestPointers (take j (versionsHeld pool table t)))
+  unfolding shapeOf tillOf emptyTill
+  older-fit =
+      pointers-each (take j (versionsHeld pool table t))
+      (each-take (VersionFits (shapeOf table)) j (versionsHeld pool table t) (slots.till-fits (shapeOf table) (stateIn (shapeOf table) pool table) (found (h .sound) .sound) t (there (h .sound) t (h .inside)) .versions))
+
+-- ---- counts that rise and fall
 
 module _ {pool table : List ℕ} (h : Sound pool table) (r : ℕ) (e : r ≡ recordsFrom (shapeOf table)) where
   pub records-in : (r ≤ length table) × (length table ≤ 1195080)
   records-in = let (a, b) = table-most h in (omega (arith, e, b), a)
 
-  fit-there : (ps : List ℕ) → ((i : ℕ) → i < length ps → Fits (shapeOf table .measures .segmentBlocks) (length (drop (recordsFrom (shapeOf table)) table)) (wordToPointer (getD ps i 0)))
-      → (i : ℕ) → i < length ps → Fits (shapeOf table .measures .segmentBlocks) (length (take (length table - r) (drop r table))) (wordToPointer (getD ps i 0))
-  fit-there ps f i l = subst (λ (w : List ℕ). Fits (shapeOf table .measures .segmentBlocks) (length w) (wordToPointer (getD ps i 0))) (sym (part-is h r e)) (f i l)
-
-  swept : (p w : List ℕ) (ps : List Pointer) → Told (shapeOf table .measures) p w (sweep (shapeOf table .measures) (release (shelfIn (shapeOf table .measures) pool (take (length table - r) (drop r table))) ps))
-      → Are (shapeOf table) (released pool table ps) p (take r table ++ (w ++ drop (length table - r) (drop r table)))
+  exchanges : (p w : List ℕ) (ts gs : List Pointer)
+      → Told (shapeOf table .measures) p w (sweep (shapeOf table .measures) (release (claim (shelfIn (shapeOf table .measures) pool (take (length table - r) (drop r table))) ts) gs))
+      → Are (shapeOf table) (exchanged pool table ts gs) p (take r table ++ (w ++ drop (length table - r) (drop r table)))
   unfolding stateToBytes
-  swept p w ps o =
+  exchanges p w ts gs o =
       let s : Shape = shapeOf table in
       let st : State = stateIn (shapeOf table) pool table in
-      let to : Shelf = sweep (shapeOf table .measures) (release (st .shelf) ps) in
-      let q : Told (shapeOf table .measures) p w to = subst (λ (x : Shelf). Told (shapeOf table .measures) p w (sweep (shapeOf table .measures) (release x ps))) (shelf-is h r e) o in
+      let to : Shelf = sweep (shapeOf table .measures) (release (claim (st .shelf) ts) gs) in
+      let q : Told (shapeOf table .measures) p w to = subst (λ (x : Shelf). Told (shapeOf table .measures) p w (sweep (shapeOf table .measures) (release (claim x ts) gs))) (shelf-is h r e) o in
       record {
         bytes = q .cells .joins;
         words =
@@ -218,15 +256,24 @@ module _ {pool table : List ℕ} (h : Sound pool table) (r : ℕ) (e : r ≡ rec
             (found h .words) (records-put s st (fits h .tillCount) (to .records) (to .cells));
       }
 
+  counts-few : (k i : ℕ) → countOf (positionIn (recordsIn (shapeOf table .measures .segmentBlocks) (take (length table - r) (drop r table))) k i) ≤ 1048576
+  unfolding shelfIn
+  counts-few k i =
+      subst (λ (x : Shelf). countOf (positionIn (x .records) k i) ≤ 1048576) (sym (shelf-is h r e))
+      (count-bound (shapeOf table) (fit h) (stateIn (shapeOf table) pool table) (found h .sound) k i)
+
   -- with the measures as the code read them
   module _ (m : Measures) (em : m ≡ shapeOf table .measures) where
-    pub fit-read : (ps : List ℕ) → ((i : ℕ) → i < length ps → Fits (shapeOf table .measures .segmentBlocks) (length (drop (recordsFrom (shapeOf table)) table)) (wordToPointer (getD ps i 0)))
-        → (i : ℕ) → i < length ps → Fits (m .segmentBlocks) (length (take (length table - r) (drop r table))) (wordToPointer (getD ps i 0))
-    fit-read ps f = rw em (fit-there ps f)
+    pub there-read : (P : ℕ → List ℕ → Pointer → Type 0) (ps : List ℕ) → ((i : ℕ) → i < length ps → P (shapeOf table .measures .segmentBlocks) (drop (recordsFrom (shapeOf table)) table) (wordToPointer (getD ps i 0)))
+        → (i : ℕ) → i < length ps → P (m .segmentBlocks) (take (length table - r) (drop r table)) (wordToPointer (getD ps i 0))
+    there-read P ps f i l = rw em (subst (λ (w : List ℕ). P (shapeOf table .measures .segmentBlocks) w (wordToPointer (getD ps i 0))) (sym (part-is h r e)) (f i l))
 
-    pub swept-read : (p w : List ℕ) (ps : List Pointer) → Told m p w (sweep m (release (shelfIn m pool (take (length table - r) (drop r table))) ps))
-        → Are (shapeOf table) (released pool table ps) p (take r table ++ (w ++ drop (length table - r) (drop r table)))
-    swept-read p w ps o = swept p w ps (subst (λ (n : Measures). Told n p w (sweep n (release (shelfIn n pool (take (length table - r) (drop r table))) ps))) em o)
+    pub counts-read : (n : ℕ) → n ≤ 1024 → (k i : ℕ) → countOf (positionIn (recordsIn (m .segmentBlocks) (take (length table - r) (drop r table))) k i) + n < 2 ^ 32
+    counts-read n l k i = rw em (omega (arith, counts-few k i, l))
+
+    pub exchanged-read : (p w : List ℕ) (ts gs : List Pointer) → Told m p w (sweep m (release (claim (shelfIn m pool (take (length table - r) (drop r table))) ts) gs))
+        → Are (shapeOf table) (exchanged pool table ts gs) p (take r table ++ (w ++ drop (length table - r) (drop r table)))
+    exchanged-read p w ts gs o = exchanges p w ts gs (subst (λ (n : Measures). Told n p w (sweep n (release (claim (shelfIn n pool (take (length table - r) (drop r table))) ts) gs))) em o)
 
 -- ---- the slot goes
 
@@ -234,43 +281,63 @@ module _ (s : Shape) (st : State) (t at n b : ℕ) (p : Placed s st t at n b) (w
   till-part : take n (drop at ws) ≡ tillToWords (s .capacities .versions) b (tillOf st t)
   till-part = rw (e, p .begins, p .size, p .blocks) (till-is s st t (p .there))
 
-  pub slot-room : b ≤ 1024 → 0 < length (tillOf st t .versions) → (at + n ≤ length ws) × (7 + b ≤ n) × (b ≤ 1024) × (0 < getD ws (at + 1) 0)
-  slot-room most some =
-      let (a, c) = till-long (s .capacities .versions) b (tillOf st t) (take n (drop at ws)) some (p .few) till-part in
-      let l : length (take n (drop at ws)) ≡ n = ap length till-part ∙ length-till (s .capacities .versions) b (tillOf st t) ∙ ap (tillWords (s .capacities .versions)) (p .blocks) ∙ sym (p .size) in
-      (omega (arith, a, l, length-take n (drop at ws), length-drop at ws), omega (arith, a, l), most, subst (λ (x : ℕ). 0 < x) (part-get ws at n 1 0 (omega (arith, a, l))) c)
+  part-long : length (take n (drop at ws)) ≡ n
+  part-long = ap length till-part ∙ length-till (s .capacities .versions) b (tillOf st t) ∙ ap (tillWords (s .capacities .versions)) (p .blocks) ∙ sym (p .size)
 
-  pub slot-dropped : (ys : List ℕ)
-      → ((v : ℕ) (x : Till) → length (x .versions) ≤ v → take (at + n - at) (drop at ws) ≡ tillToWords v b x → ys ≡ tillToWords v b (withoutOldest x))
-      → take at ws ++ (ys ++ drop (at + n - at) (drop at ws)) ≡ stateToWords s (record { tills = set (st .tills) t (withoutOldest (tillOf st t)); shelf = st .shelf })
-  slot-dropped ys f =
+  pub part-in : at + n ≤ length ws
+  part-in = omega (arith, part-long, p .size, length-take n (drop at ws), length-drop at ws)
+
+  pub slot-there : (j : ℕ) → j < length (tillOf st t .versions) → b ≤ 1024 → n ≤ 65732 → HasSlot b j (take n (drop at ws))
+  slot-there j l small most =
+      let w : getD (take n (drop at ws)) 1 0 ≡ length (tillOf st t .versions) = ap (λ (x : List ℕ). getD x 1 0) till-part ∙ held-word (s .capacities .versions) b (tillOf st t) in
+      let m : length (tillOf st t .versions) * (3 + b) ≤ s .capacities .versions * (3 + b) = mul-le-mul-right (3 + b) (p .few) in
+      record {
+        small = small;
+        long = omega (arith, part-long, most);
+        held = omega (arith, w, l);
+        slots = rw w (omega (arith, m, ap length till-part, length-till (s .capacities .versions) b (tillOf st t)));
+      }
+
+  pub slot-closed : (j : ℕ) (older : List Version) (u : Version) (newer : List Version) (ps : List Pointer) (pws ys : List ℕ) → tillOf st t .versions ≡ older ++ (u ∷ newer)
+      → ((v last : ℕ) (os : List Version) (x : Version) (ns : List Version) (qs : List Pointer) → length os ≡ j → length (os ++ (x ∷ ns)) ≤ v
+      → take (at + n - at) (drop at ws) ≡ tillToWords v b (record { last = last; versions = os ++ (x ∷ ns) }) → pws ≡ map pointerWord qs → length qs ≡ length (newestPointers os)
+      → ys ≡ tillToWords v b (record { last = last; versions = withNewestPointers os qs ++ ns }))
+      → length older ≡ j → pws ≡ map pointerWord ps → length ps ≡ length (newestPointers older)
+      → take at ws ++ (ys ++ drop (at + n - at) (drop at ws)) ≡ stateToWords s (record { tills = set (st .tills) t (record { last = tillOf st t .last; versions = withNewestPointers older ps ++ newer }); shelf = st .shelf })
+  slot-closed j older u newer ps pws ys ev f lo ep lp =
       let k : at + n - at ≡ n = omega arith in
-      let y : ys ≡ tillToWords (s .capacities .versions) b (withoutOldest (tillOf st t)) =
-      f (s .capacities .versions) (tillOf st t) (p .few) (ap (λ (m : ℕ). take m (drop at ws)) k ∙ till-part) in
-      rw (y, k, e, p .begins, p .size, p .blocks) (till-put s st t (p .there) (withoutOldest (tillOf st t)))
-
-pub slot-meets : (ws : List ℕ) (at n b : ℕ) → (at + n ≤ length ws) × (7 + b ≤ n) × (b ≤ 1024) × (0 < getD ws (at + 1) 0)
-    → (7 + b ≤ length (take (at + n - at) (drop at ws))) × (0 < getD (take (at + n - at) (drop at ws)) 1 0) × (b ≤ 1024)
-slot-meets ws at n b (a, c, d, f) =
-    let k : at + n - at ≡ n = omega arith in
-    rw k (omega (arith, a, c, length-take n (drop at ws), length-drop at ws), subst (λ (x : ℕ). 0 < x) (sym (part-get ws at n 1 0 (omega (arith, c)))) f, d)
+      let new : Till = record { last = tillOf st t .last; versions = withNewestPointers older ps ++ newer } in
+      let part : take (at + n - at) (drop at ws) ≡ tillToWords (s .capacities .versions) b (record { last = tillOf st t .last; versions = older ++ (u ∷ newer) }) =
+      ap (λ (m : ℕ). take m (drop at ws)) k ∙ till-part ∙ ap (λ (vs : List Version). tillToWords (s .capacities .versions) b (record { last = tillOf st t .last; versions = vs })) ev in
+      let y : ys ≡ tillToWords (s .capacities .versions) b new = f (s .capacities .versions) (tillOf st t .last) older u newer ps lo (subst (λ (vs : List Version). length vs ≤ s .capacities .versions) ev (p .few)) part ep lp in
+      rw (y, k, e, p .begins, p .size, p .blocks) (till-put s st t (p .there) new)
 
 -- ---- the whole
 
-drop-is : (s : Shape) (st : State) (t last : ℕ) (vs : List Version) (d : Version) → 0 < length vs
-    → dropOldest s st t last vs
-    ≡ done (record {
-      state = withTill st t (record { last = last; versions = drop 1 vs }) (sweep (s .measures) (release (st .shelf) (getD vs 0 d .pointers)));
-      answer = getD vs 0 d .length;
-    })
-unfolding dropOldest
-drop-is s st t last [] d h = absurd (omega arith)
-drop-is s st t last (v ∷ vs) d h = refl
+module _ {pool table : List ℕ} {t at j : ℕ} (h : Holds pool table t at j) where
+  abbrev vs : List Version
+  vs = versionsHeld pool table t
 
-module _ {pool table : List ℕ} {t at : ℕ} (h : Holds pool table t at) where
-  pub placed : (ps : List Pointer) (n : ℕ) → n ≡ tillSize table → Placed (shapeOf table) (released pool table ps) t at n (getD table 2 0)
+  abbrev gonePointers : List Pointer
+  gonePointers = versionAt pool table t j .pointers
+
+  abbrev olderPointers : List Pointer
+  olderPointers = newestPointers (take j (versionsHeld pool table t))
+
+  from-here : drop j (versionsHeld pool table t) ≡ versionAt pool table t j ∷ drop (suc j) (versionsHeld pool table t)
+  from-here =
+      drop-next (versionsHeld pool table t) j noVersion (h .held)
+      ∙ ap (λ (k : ℕ). versionAt pool table t j ∷ drop k (versionsHeld pool table t)) (let e : j + 1 ≡ suc j = omega arith in e)
+
+  pub split : versionsHeld pool table t ≡ take j (versionsHeld pool table t) ++ (versionAt pool table t j ∷ drop (suc j) (versionsHeld pool table t))
+  split = sym (take-append-drop j (versionsHeld pool table t)) ∙ ap (λ (l : List Version). take j (versionsHeld pool table t) ++ l) from-here
+
+  pub before-long : length (take j (versionsHeld pool table t)) ≡ j
+  before-long = length-take-le j (versionsHeld pool table t) (omega (arith, h .held))
+
+  pub placed : (ts gs : List Pointer) (n : ℕ) → n ≡ tillSize table → Placed (shapeOf table) (exchanged pool table ts gs) t at n (getD table 2 0)
   unfolding shapeOf tillOf
-  placed ps n e = record {
+  placed ts gs n e = record {
     there = there (h .sound) t (h .inside);
     begins = h .begins;
     blocks = refl;
@@ -278,108 +345,130 @@ module _ {pool table : List ℕ} {t at : ℕ} (h : Holds pool table t at) where
     few = few (h .sound) t (h .inside);
   }
 
-  pub still-held : (ps : List Pointer) → 0 < length (tillOf (released pool table ps) t .versions)
-  unfolding tillOf
-  still-held ps = h .some
+  pub size-most : (n : ℕ) → n ≡ tillSize table → (n ≤ 65732) × (getD table 2 0 ≤ 1024)
+  size-most n e =
+      let d = header (h .sound) in
+      let (a, b) = sizes 16 (getD table 1 0) (getD table 2 0) (omega arith) (d .versions) (d .blocks) in
+      (omega (arith, e, a), d .blocks)
 
-  pub dropped : (n : ℕ) (ws p w w′ : List ℕ) → Copied pool table t n ws → (k : ℕ) → k ≡ partsFor (shapeOf table .measures .blockBytes) n → Are (shapeOf table) (released pool table (map wordToPointer (take k ws))) p w
+  newest-most : (us : List Version) → Each (VersionFits (shapeOf table)) us → length (newestPointers us) ≤ getD table 2 0
+  unfolding newestPointers shapeOf
+  newest-most [] e = zero-le
+  newest-most (u ∷ []) e = e .0 .most
+  newest-most (u ∷ w ∷ us) e = newest-most (w ∷ us) (e .1)
+
+  pub older-most : length olderPointers ≤ getD table 2 0
+  unfolding shapeOf tillOf emptyTill
+  older-most =
+      newest-most (take j (versionsHeld pool table t))
+      (each-take (VersionFits (shapeOf table)) j (versionsHeld pool table t)
+      (slots.till-fits (shapeOf table) (stateIn (shapeOf table) pool table) (found (h .sound) .sound) t (there (h .sound) t (h .inside)) .versions))
+
+  -- what is taken over can be followed too
+  pub taken-there : (gone older : List ℕ) → gone ≡ map pointerWord gonePointers → (i : ℕ)
+      → Fits (shapeOf table .measures .segmentBlocks) (length (drop (recordsFrom (shapeOf table)) table)) (wordToPointer (getD (map (takenWord gone) older) i 0))
+      × NamesHeld (recordsIn (shapeOf table .measures .segmentBlocks) (drop (recordsFrom (shapeOf table)) table)) (wordToPointer (getD (map (takenWord gone) older) i 0))
+  taken-there gone older e i =
+      let segs = recordsIn (shapeOf table .measures .segmentBlocks) (drop (recordsFrom (shapeOf table)) table) in
+      let l : ℕ = length (drop (recordsFrom (shapeOf table)) table) in
+      taken-each (λ (w : ℕ). Fits (shapeOf table .measures .segmentBlocks) l (wordToPointer w) × NamesHeld segs (wordToPointer w)) gone older
+      (rw null-word (unfold Fits NamesHeld in (tt, tt))) (λ n. rw e (gone-fit h n, gone-held h n)) i
+
+  pub taken-words : (gone older : List ℕ) → gone ≡ map pointerWord gonePointers → older ≡ map pointerWord olderPointers → map wordToPointer (map (takenWord gone) older) ≡ map (taken gonePointers) olderPointers
+  unfolding shapeOf tillOf emptyTill
+  taken-words gone older eg eo =
+      taken-pointers gone older
+      ∙ ap (λ (ps : List Pointer). map (taken ps) (map wordToPointer older)) (ap (map wordToPointer) eg ∙ version-pointers (shapeOf table) (stateIn (shapeOf table) pool table) (found (h .sound) .sound) t (there (h .sound) t (h .inside)) j (h .held))
+      ∙ ap (map (taken gonePointers)) (ap (map wordToPointer) eo ∙ pointers-back olderPointers (older-fit h))
+
+  pub gone-pointers : (gone : List ℕ) → gone ≡ map pointerWord gonePointers → map wordToPointer gone ≡ gonePointers
+  unfolding shapeOf tillOf emptyTill
+  gone-pointers gone eg = ap (map wordToPointer) eg ∙ version-pointers (shapeOf table) (stateIn (shapeOf table) pool table) (found (h .sound) .sound) t (there (h .sound) t (h .inside)) j (h .held)
+
+  pub over-pointers : (gone older : List ℕ) → gone ≡ map pointerWord gonePointers → older ≡ map pointerWord olderPointers → map (takeOverWord gone) older ≡ map pointerWord (map (takeOver gonePointers) olderPointers)
+  over-pointers gone older eg eo = rw (eg, eo) (over-words gonePointers olderPointers (older-fit h))
+
+  without : (ts gs : List Pointer) → ts ≡ map (taken gonePointers) olderPointers → gs ≡ gonePointers → (p w w′ : List ℕ) → Are (shapeOf table) (exchanged pool table ts gs) p w
       → w′ ≡ stateToWords (shapeOf table) (record {
-        tills = set (stateIn (shapeOf table) pool table .tills) t (withoutOldest (tillOf (released pool table (map wordToPointer (take k ws))) t));
-        shelf = released pool table (map wordToPointer (take k ws)) .shelf;
+        tills = set (exchanged pool table ts gs .tills) t (record {
+          last = tillOf (exchanged pool table ts gs) t .last;
+          versions = withNewestPointers (take j (versionsHeld pool table t)) (map (takeOver gonePointers) olderPointers) ++ drop (suc j) (versionsHeld pool table t);
+        });
+        shelf = exchanged pool table ts gs .shelf;
       })
-      → record { refusal = 0; length = n; pool = p; table = w′ } ≡ droppedFrom pool table t
-  unfolding calls.retireAnswer withTill stateToBytes tillOf shapeOf
-  dropped n ws p w w′ o k ek a e =
-      let s : Shape = shapeOf table in
+      → Are (shapeOf table) (stateWithout pool table t j) p w′
+  unfolding withTill closeUp tillOf stateToBytes
+  without ts gs et eg p w w′ a e =
       let st : State = stateIn (shapeOf table) pool table in
-      let f = pointers-are h n ws o k ek in
-      let e₁ : n ≡ oldestIn pool table t .length = o .bytes in
-      let e₂ : p ≡ stateToBytes (withTill st t (withoutOldest (tillOf st t)) (sweep (shapeOf table .measures) (release (st .shelf) (oldestIn pool table t .pointers)))) =
-      a .bytes ∙ ap (λ (ps : List Pointer). stateToBytes (released pool table ps)) f in
-      let e₃ : w′ ≡ stateToWords s (withTill st t (withoutOldest (tillOf st t)) (sweep (shapeOf table .measures) (release (st .shelf) (oldestIn pool table t .pointers)))) =
-      e ∙ ap (λ (ps : List Pointer). stateToWords s (withTill st t (withoutOldest (tillOf st t)) (sweep (shapeOf table .measures) (release (st .shelf) ps)))) f in
-      (λ i. record { refusal = 0; length = e₁ i; pool = e₂ i; table = e₃ i })
-      ∙ ap (calls.retireAnswer pool table s) (sym (drop-is s st t (tillOf st t .last) (tillOf st t .versions) noVersion (h .some)))
+      let cells : State = exchanged pool table (map (taken gonePointers) olderPointers) gonePointers in
+      record {
+        bytes = a .bytes ∙ ap₂ (λ (x y : List Pointer). stateToBytes (exchanged pool table x y)) et eg;
+        words = e ∙ ap₂ (λ (x y : List Pointer). stateToWords (shapeOf table) (record { tills = set (st .tills) t (record { last = tillOf st t .last; versions = withNewestPointers (take j (versionsHeld pool table t)) (map (takeOver gonePointers) olderPointers) ++ drop (suc j) (versionsHeld pool table t) }); shelf = exchanged pool table x y .shelf })) et eg;
+      }
+
+  -- the steps of the call, with the words as they pass them on
+  module _ (gone older over took : List ℕ) (eg : gone ≡ map pointerWord gonePointers) (eo : older ≡ map pointerWord olderPointers) (ev : over ≡ map (takeOverWord gone) older)
+      (et : took ≡ map (takenWord gone) older) where
+    pub taken-few : length took ≤ 1024
+    taken-few =
+        omega (
+          arith,
+          ap length et,
+          length-map older (takenWord gone),
+          ap length eo,
+          length-map olderPointers pointerWord,
+          older-most,
+          header (h .sound) .blocks,
+        )
+
+    module _ (n : ℕ) (en : n ≡ tillSize table) (p w : List ℕ) (a : Are (shapeOf table) (exchanged pool table (map wordToPointer took) (map wordToPointer gone)) p w) where
+      pub close-meets : (at + n ≤ length w) × HasSlot (getD table 2 0) j (take n (drop at w)) × (length over ≤ getD table 2 0)
+      unfolding tillOf
+      close-meets =
+          let pl = placed (map wordToPointer took) (map wordToPointer gone) n en in
+          let (most, small) = size-most n en in (
+            part-in _ _ _ _ _ _ pl w (a .words),
+            slot-there _ _ _ _ _ _ pl w (a .words) j (h .held) small most,
+            omega (arith, ap length ev, length-map older (takeOverWord gone), ap length eo, length-map olderPointers pointerWord, older-most),
+          )
+
+      pub finished : (w′ : List ℕ)
+          → ((s : Shape) (st : State) (u : ℕ) (before : List Version) (x : Version) (newer : List Version) (ps : List Pointer) → Placed s st u at n (getD table 2 0) → tillOf st u .versions ≡ before ++ (x ∷ newer) → length before ≡ j
+          → w ≡ stateToWords s st → over ≡ map pointerWord ps → length ps ≡ length (newestPointers before)
+          → w′ ≡ stateToWords s (record { tills = set (st .tills) u (record { last = tillOf st u .last; versions = withNewestPointers before ps ++ newer }); shelf = st .shelf }))
+          → Are (shapeOf table) (stateWithout pool table t j) p w′
+      unfolding tillOf
+      finished w′ f =
+          let ts : List Pointer = map wordToPointer took in
+          let gs : List Pointer = map wordToPointer gone in
+          without ts gs (ap (map wordToPointer) et ∙ taken-words gone older eg eo) (gone-pointers gone eg) p w w′ a
+          (f (shapeOf table) (exchanged pool table ts gs) t (take j (versionsHeld pool table t)) (versionAt pool table t j) (drop (suc j) (versionsHeld pool table t)) (map (takeOver gonePointers) olderPointers)
+          (placed ts gs n en) split before-long (a .words) (ev ∙ over-pointers gone older eg eo) (length-map olderPointers (takeOver gonePointers)))
+
+  pub answered : (n : ℕ) (p w : List ℕ) → n ≡ versionAt pool table t j .length → Are (shapeOf table) (stateWithout pool table t j) p w
+      → record { refusal = 0; length = n; pool = p; table = w } ≡ retiredAt pool table t j
+  unfolding calls.retireAnswer retireFrom
+  answered n p w en a =
+      (λ i. record { refusal = 0; length = en i; pool = a .bytes i; table = a .words i })
+      ∙ ap (λ (l : List Version). calls.retireAnswer pool table (shapeOf table) (retireFrom (shapeOf table) (stateIn (shapeOf table) pool table) t (tillOf (stateIn (shapeOf table) pool table) t) (take j (versionsHeld pool table t)) l)) (sym from-here)
 
 -- ---- the refusals
-
-abbrev checked : ℕ → List Version → Outcome After → Outcome After
-checked n vs o = cond (isEmpty (heldFrom n vs)) (refused 15) (cond (not (isOldest n vs)) (refused 13) o)
-
-empty-none : (vs : List Version) → vs ≡ [] → isEmpty vs ≡ true
-unfolding isEmpty
-empty-none vs e = rw e
-
-empty-some : (vs : List Version) → 0 < length vs → isEmpty vs ≡ false
-unfolding isEmpty
-empty-some [] h = absurd (omega arith)
-empty-some (v ∷ vs) h = refl
-
-oldest-test : (n : ℕ) (vs : List Version) → 0 < length vs → isOldest n vs ≡ eqb (oldestNumber vs) n
-unfolding isOldest oldestNumber
-oldest-test n [] h = absurd (omega arith)
-oldest-test n (v ∷ vs) h = refl
-
-module _ (a : ℕ) (vs : List Version) (f : From a vs) (n : ℕ) (o : Outcome After) where
-  too-old : n < a → checked n vs o ≡ refused 15
-  too-old h = rw (empty-none (heldFrom n vs) (before-held a n vs f h))
-
-  at-place : a ≤ n → heldFrom n vs ≡ drop (n - a) vs
-  at-place h = let e : n ≡ a + (n - a) = omega (arith, h) in ap (λ (k : ℕ). heldFrom k vs) e ∙ held-drop a vs f (n - a)
-
-  too-new : a + length vs ≤ n → checked n vs o ≡ refused 15
-  too-new h = rw (empty-none (heldFrom n vs) (at-place (omega (arith, h)) ∙ drop-end vs (n - a) (omega (arith, h))))
-
-  not-empty : a ≤ n → n < a + length vs → isEmpty (heldFrom n vs) ≡ false
-  not-empty l h = ap isEmpty (at-place l) ∙ empty-some (drop (n - a) vs) (omega (arith, l, h, length-drop (n - a) vs))
-
-  not-first : a < n → n < a + length vs → checked n vs o ≡ refused 13
-  not-first l h =
-      let q : isOldest n vs ≡ false = oldest-test n vs (omega (arith, l, h)) ∙ ne-eqb (oldestNumber vs) n (λ z. omega (arith, z, l, oldest-from a vs f (omega (arith, l, h)))) in
-      rw (not-empty (omega (arith, l)) h, q)
-
-  is-first : n ≡ a → 0 < length vs → checked n vs o ≡ o
-  is-first l h =
-      let q : isOldest n vs ≡ true = oldest-test n vs h ∙ eq-eqb (oldestNumber vs) n (oldest-from a vs f h ∙ sym l) in
-      rw (not-empty (omega (arith, l)) (omega (arith, l, h)), q)
 
 module _ {pool table : List ℕ} (h : Sound pool table) (t n : ℕ) where
   pub no-till : getD table 0 0 ≤ t → record { refusal = 3; length = 0; pool = pool; table = table } ≡ retireOf pool table t n
   unfolding retireOf retireIn retire calls.retireAnswer shapeOf
   no-till l = rw (h .is, le-leb _ _ l)
 
-  module _ (in-table : t < getD table 0 0) (r : Head) (o : HeadOf pool table t r) where
-    drops : Outcome After
-    drops = dropOldest (shapeOf table) (stateIn (shapeOf table) pool table) t (tillIn pool table t .last) (tillIn pool table t .versions)
+  module _ (in-table : t < getD table 0 0) (r : Head) (o : HeadOf pool table t r) (j : ℕ) (p : PlaceOf pool table t n j) where
+    pub held-at : retiredAt pool table t j ≡ retireOf pool table t n
+    unfolding retireOf retireIn retire shapeOf
+    held-at = sym (rw (h .is, lt-leb _ _ in-table, p .from, p .before))
 
-    inside : retireOf pool table t n ≡ calls.retireAnswer pool table (shapeOf table) (checked n (tillIn pool table t .versions) drops)
-    unfolding retireOf retireIn retire shapeOf drops
-    inside = rw (h .is, lt-leb _ _ in-table)
+    pub not-held : r .held ≤ j → record { refusal = 15; length = 0; pool = pool; table = table } ≡ retireOf pool table t n
+    unfolding calls.retireAnswer retireFrom
+    not-held l =
+        ap (λ (vs : List Version). calls.retireAnswer pool table (shapeOf table) (retireFrom (shapeOf table) (stateIn (shapeOf table) pool table) t (tillOf (stateIn (shapeOf table) pool table) t) (take j (versionsHeld pool table t)) vs))
+        (sym (drop-end (versionsHeld pool table t) j (omega (arith, l, o .held)))) ∙ held-at
 
-    abbrev a : ℕ
-    a = suc (tillIn pool table t .last) - length (tillIn pool table t .versions)
-
-    pub bounded : (r .held ≤ r .last) × (r .last ≤ 65535)
-    bounded = rw (o .held, o .last) (given h t in-table, last-most h t in-table)
-
-    refusal : (k : ℕ) → checked n (tillIn pool table t .versions) drops ≡ refused k → record { refusal = k; length = 0; pool = pool; table = table } ≡ retireOf pool table t n
-    unfolding calls.retireAnswer
-    refusal k e = sym (inside ∙ ap (calls.retireAnswer pool table (shapeOf table)) e)
-
-    pub above : r .last < n → record { refusal = 15; length = 0; pool = pool; table = table } ≡ retireOf pool table t n
-    above l = refusal 15 (too-new a (tillIn pool table t .versions) (numbers h t in-table) n drops (omega (arith, l, o .last, given h t in-table)))
-
-    pub below : n + r .held ≤ r .last → record { refusal = 15; length = 0; pool = pool; table = table } ≡ retireOf pool table t n
-    below l = refusal 15 (too-old a (tillIn pool table t .versions) (numbers h t in-table) n drops (omega (arith, l, o .last, o .held)))
-
-    pub newer : n ≤ r .last → r .last < n + r .held → (n + r .held ≡ r .last + 1 → ⊥) → record { refusal = 13; length = 0; pool = pool; table = table } ≡ retireOf pool table t n
-    newer l m q = refusal 13 (not-first a (tillIn pool table t .versions) (numbers h t in-table) n drops (omega (arith, l, m, q, o .last, o .held, given h t in-table)) (omega (arith, l, o .last, given h t in-table)))
-
-    pub holds : n ≤ r .last → r .last < n + r .held → Holds pool table t (r .at)
-    holds l m = record { sound = h; inside = in-table; begins = o .at; some = omega (arith, l, m, o .held) }
-
-    pub oldest : n + r .held ≡ r .last + 1 → n ≤ r .last → retireOf pool table t n ≡ droppedFrom pool table t
-    unfolding drops
-    oldest q l =
-        inside ∙ ap (calls.retireAnswer pool table (shapeOf table))
-        (is-first a (tillIn pool table t .versions) (numbers h t in-table) n drops (omega (arith, q, o .last, o .held)) (omega (arith, q, l, o .last, o .held)))
+    pub holds : j < r .held → Holds pool table t (r .at) j
+    holds l = record { sound = h; inside = in-table; begins = o .at; held = omega (arith, l, o .held) }

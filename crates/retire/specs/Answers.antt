@@ -1,49 +1,65 @@
 -- What the steps of a retire require and do, and what its answer says.
 use mathlib.Core.Path.{_≡_}
+use mathlib.Core.Bool.{cond}
 use mathlib.Core.List.{List, [], map}
-use Prim.Native.Nat.{ℕ, _≤_, _<_}
-use lib.ListN.{length, getD, take}
+use Prim.Native.Nat.{ℕ, suc, _/_, _%_, _≤_, _<_}
+use lib.ListN.{length, getD, take, drop}
+use lib.Dec.{eqb}
 use Rattle.model.specs.Measures.{Shape, partsFor, tillWords}
-use Rattle.model.specs.State.{Pointer, Version, Till, State}
-use Rattle.model.specs.Sweep.{release, sweep}
-use Rattle.model.specs.Table.{pointerWord, versionIn, shapeOf, stateIn, stateToWords, stateToBytes}
+use Rattle.model.specs.State.{Pointer, Version, State}
+use Rattle.model.specs.Sweep.{release, claim, sweep}
+use Rattle.model.specs.Table.{kindUnit, pointerWord, shapeOf, stateIn, stateToWords, stateToBytes}
 use Rattle.model.specs.Calls as calls
 use Rattle.laws.specs.Stores.{tillAt, Sound}
+use Rattle.tills.specs.Answers.{versionsHeld}
 use Rattle.trace.specs.Versions.{noVersion}
 use Rattle.retire.specs.declared.Retired.{Retired}
 
-abbrev pub tillIn : List ℕ → List ℕ → ℕ → Till
-tillIn pool table t = calls.tillOf (stateIn (shapeOf table) pool table) t
+abbrev pub versionAt : List ℕ → List ℕ → ℕ → ℕ → Version
+versionAt pool table t j = getD (versionsHeld pool table t) j noVersion
 
-abbrev pub oldestIn : List ℕ → List ℕ → ℕ → Version
-oldestIn pool table t = getD (tillIn pool table t .versions) 0 noVersion
-
--- till t of a sound store, which begins at a word, holds a version
-pub record Holds (pool table : List ℕ) (t at : ℕ) : Type 0 where
+-- till t of a sound store, which begins at a word, holds a version at place j, the oldest first
+pub record Holds (pool table : List ℕ) (t at j : ℕ) : Type 0 where
   pub sound : Sound pool table
   pub inside : t < getD table 0 0
   pub begins : at ≡ tillAt (shapeOf table) t
-  pub some : 0 < length (tillIn pool table t .versions)
+  pub held : j < length (versionsHeld pool table t)
 
--- the oldest version's length, and its pointer words at the front of others
-pub record Copied (pool table : List ℕ) (t n : ℕ) (ws : List ℕ) : Type 0 where
-  pub bytes : n ≡ oldestIn pool table t .length
-  pub words : take (partsFor (shapeOf table .measures .blockBytes) n) ws ≡ map pointerWord (oldestIn pool table t .pointers)
+-- that version's length, and its pointer words at the front of others
+pub record Copied (pool table : List ℕ) (t j n : ℕ) (ws : List ℕ) : Type 0 where
+  pub bytes : n ≡ versionAt pool table t j .length
+  pub words : take (partsFor (shapeOf table .measures .blockBytes) n) ws ≡ map pointerWord (versionAt pool table t j .pointers)
   pub room : partsFor (shapeOf table .measures .blockBytes) n ≤ length ws
 
--- pointers have let go of their blocks
-abbrev pub released : List ℕ → List ℕ → List Pointer → State
-released pool table ps = record {
+-- `taken` and `takeOver` on words
+unfoldable pub takenWord : List ℕ → ℕ → ℕ
+takenWord gone w = cond (eqb (w / kindUnit) 2) (getD gone (w % kindUnit) 0) 0
+
+unfoldable pub takeOverWord : List ℕ → ℕ → ℕ
+takeOverWord gone w = cond (eqb (w / kindUnit) 2) (getD gone (w % kindUnit) 0) w
+
+-- pointers have claimed their blocks, and others have let go of theirs
+abbrev pub exchanged : List ℕ → List ℕ → List Pointer → List Pointer → State
+exchanged pool table taken gone = record {
   tills = stateIn (shapeOf table) pool table .tills;
-  shelf = sweep (shapeOf table .measures) (release (stateIn (shapeOf table) pool table .shelf) ps);
+  shelf = sweep (shapeOf table .measures) (release (claim (stateIn (shapeOf table) pool table .shelf) taken) gone);
 }
+
+-- the version at place j has gone from between its neighbours
+abbrev pub stateWithout : List ℕ → List ℕ → ℕ → ℕ → State
+stateWithout pool table t j =
+    let st = stateIn (shapeOf table) pool table in
+    let older = take j (versionsHeld pool table t) in
+    let gone = versionAt pool table t j in
+    calls.withTill st t (record { last = calls.tillOf st t .last; versions = calls.closeUp older gone (drop (suc j) (versionsHeld pool table t)) })
+    (sweep (shapeOf table .measures) (release (claim (st .shelf) (map (calls.taken (gone .pointers)) (calls.newestPointers older))) (gone .pointers)))
 
 -- the buffers are those of a state
 pub record Are (s : Shape) (st : State) (pool table : List ℕ) : Type 0 where
   pub bytes : pool ≡ stateToBytes st
   pub words : table ≡ stateToWords s st
 
--- the place and the size of till t of a state, which holds a version
+-- the place and the size of till t of a state
 pub record Placed (s : Shape) (st : State) (t at n b : ℕ) : Type 0 where
   pub there : t < length (st .tills)
   pub begins : at ≡ tillAt s t
@@ -54,8 +70,8 @@ pub record Placed (s : Shape) (st : State) (t at n b : ℕ) : Type 0 where
 abbrev pub retireAnswer : Retired → List ℕ → List ℕ → calls.RetireAnswer
 retireAnswer r pool table = record { refusal = r .refusal; length = r .length; pool = pool; table = table }
 
--- the answer of a call that drops the oldest version
-abbrev pub droppedFrom : List ℕ → List ℕ → ℕ → calls.RetireAnswer
-droppedFrom pool table t =
+-- the answer of a call that retires the version at place j
+abbrev pub retiredAt : List ℕ → List ℕ → ℕ → ℕ → calls.RetireAnswer
+retiredAt pool table t j =
     calls.retireAnswer pool table (shapeOf table)
-    (calls.dropOldest (shapeOf table) (stateIn (shapeOf table) pool table) t (tillIn pool table t .last) (tillIn pool table t .versions))
+    (calls.retireFrom (shapeOf table) (stateIn (shapeOf table) pool table) t (calls.tillOf (stateIn (shapeOf table) pool table) t) (take j (versionsHeld pool table t)) (drop j (versionsHeld pool table t)))

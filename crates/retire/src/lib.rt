@@ -1,17 +1,18 @@
-// Retiring a till's oldest version: its pointers let go of their blocks, and its slot goes.
+// Retiring a version: its older neighbour takes over the pointers that it named, counts rise and fall, step 3 is done, and its slot goes.
 ghost use mathlib.Core.Path.{_≡_};
-ghost use mathlib.Core.List.{map};
-ghost use Prim.Native.Nat.{ℕ, _+_, _≤_, _<_};
-ghost use lib.ListN.{length, getD, set, drop};
+ghost use mathlib.Core.List.{List, _∷_, _++_, map};
+ghost use Prim.Native.Nat.{ℕ, _+_, _-_, _≤_, _<_};
+ghost use lib.ListN.{length, getD, set, take, drop};
 ghost use Rattle.model.specs.Measures.{Shape};
-ghost use Rattle.model.specs.State.{State};
-ghost use Rattle.model.specs.Table.{wordToPointer, shapeOf, stateToWords};
-ghost use Rattle.model.specs.Calls.{tillOf, retireOf};
+ghost use Rattle.model.specs.State.{Pointer, Version, State};
+ghost use Rattle.model.specs.Table.{pointerWord, wordToPointer, recordsIn, shapeOf, stateToWords};
+ghost use Rattle.model.specs.Calls.{tillOf, newestPointers, withNewestPointers, retireOf};
 ghost use Rattle.laws.specs.Stores.{recordsFrom, Sound};
 ghost use Rattle.numbers.specs.Measures.{measuresOf};
-ghost use Rattle.shelf.specs.Fits.{Fits};
-ghost use Rattle.slots.specs.Slots.{withoutOldest};
-ghost use Rattle.retire.specs.Answers.{Holds, Copied, released, Are, Placed, retireAnswer, droppedFrom};
+ghost use Rattle.shelf.specs.Fits.{Fits, NamesHeld};
+ghost use Rattle.slots.specs.Slots.{HasSlot};
+ghost use Rattle.tills.specs.Answers.{versionsHeld};
+ghost use Rattle.retire.specs.Answers.{versionAt, Holds, Copied, takenWord, takeOverWord, exchanged, stateWithout, Are, Placed, retireAnswer, retiredAt};
 use numbers::Measures;
 
 // Refusal 0 is an accepted call.
@@ -21,69 +22,182 @@ pub struct Retired {
     pub length: u32,
 }
 
-// The oldest version's pointer words are copied; its length.
-fn copy_oldest(
+// The pointer words of the version at place j are copied; its length.
+fn copy_version(
     pool: &[u8],
     table: &[u32],
     till: u32,
     at: usize,
+    j: usize,
     pointers: &mut [u32],
     bytes: usize,
 ) -> u32
-    requires { ⌜ Holds (now pool) (now table) till at × (length (now pointers) ≡ 1024) × (bytes ≡ shapeOf (now table) .measures .blockBytes) ⌝ }
-    ensures { λ r. ⌜ Copied (now (pool .entry)) (now (table .entry)) till r (now (pointers .exit)) ⌝ }
+    requires { ⌜ Holds (now pool) (now table) till at j × (length (now pointers) ≡ 1024) × (bytes ≡ shapeOf (now table) .measures .blockBytes) ⌝ }
+    ensures { λ r. ⌜ Copied (now (pool .entry)) (now (table .entry)) till j r (now (pointers .exit)) ⌝ }
 {
-    let length = table[at + 5];
+    let width = 3 + table[2] as usize;
+    let slot = at + (4 + j * width);
+    let length = table[slot + 1];
     let count = numbers::parts_for(bytes, length as usize);
-    words::copy_in(&table[at + 7..at + 7 + count], pointers);
+    words::copy_in(&table[slot + 3..slot + 3 + count], pointers);
     length
 }
 
-// Pointers let go of their blocks.
-fn let_go(pool: &mut [u8], table: &mut [u32], pointers: &[u32], m: Measures)
-    requires { ⌜ Sound (now pool) (now table) × (measuresOf m ≡ shapeOf (now table) .measures) ⌝ }
-    requires { ⌜ ((i : ℕ) → i < length (now pointers) → Fits (shapeOf (now table) .measures .segmentBlocks) (length (drop (recordsFrom (shapeOf (now table))) (now table))) (wordToPointer (getD (now pointers) i 0))) ⌝ }
-    ensures { λ _. ⌜ Are (shapeOf (now (table .entry))) (released (now (pool .entry)) (now (table .entry)) (map wordToPointer (now (pointers .entry)))) (now (pool .exit)) (now (table .exit)) ⌝ }
+// Those of its older neighbour; how many. The oldest version has none.
+fn copy_older(
+    pool: &[u8],
+    table: &[u32],
+    till: u32,
+    at: usize,
+    j: usize,
+    older: &mut [u32],
+    bytes: usize,
+) -> usize
+    requires { ⌜ Holds (now pool) (now table) till at j × (length (now older) ≡ 1024) × (bytes ≡ shapeOf (now table) .measures .blockBytes) ⌝ }
+    ensures { λ r. ⌜ (take r (now (older .exit)) ≡ map pointerWord (newestPointers (take j (versionsHeld (now (pool .entry)) (now (table .entry)) till)))) × (r ≤ 1024) ⌝ }
+{
+    if j == 0 {
+        return 0;
+    }
+    let length = copy_version(pool, table, till, at, j - 1, older, bytes);
+    numbers::parts_for(bytes, length as usize)
+}
+
+// The word that an indirect pointer's word names, among a version's; 0 for any other pointer.
+fn taken_word(word: u32, gone: &[u32]) -> u32
+    ensures { λ r. ⌜ r ≡ takenWord (now (gone .entry)) word ⌝ }
+{
+    if word / 0x100_0000 != 2 {
+        return 0;
+    }
+    let n = (word % 0x100_0000) as usize;
+    if gone.len() <= n {
+        return 0;
+    }
+    gone[n]
+}
+
+// The word of a pointer that has taken over what it named.
+fn word_after(word: u32, taken: u32) -> u32
+    ensures { λ r. ⌜ ((gone : List ℕ) → taken ≡ takenWord gone word → r ≡ takeOverWord gone word) ⌝ }
+{
+    if word / 0x100_0000 == 2 { taken } else { word }
+}
+
+// The older neighbour's pointers take over, and what each has taken is listed.
+fn take_over(older: &mut [u32], gone: &[u32], taken: &mut [u32])
+    requires { ⌜ length (now taken) ≡ length (now older) ⌝ }
+    ensures { λ _. ⌜ (now (older .exit) ≡ map (takeOverWord (now (gone .entry))) (now (older .entry))) × (now (taken .exit) ≡ map (takenWord (now (gone .entry))) (now (older .entry))) ⌝ }
+{
+    let mut i: usize = 0;
+    while i < taken.len() {
+        let word = older[i];
+        let named = taken_word(word, gone);
+        taken[i] = named;
+        older[i] = word_after(word, named);
+        i = i + 1;
+    }
+}
+
+// Pointers taken over claim their blocks, before the others let go of theirs.
+fn exchange(pool: &mut [u8], table: &mut [u32], taken: &[u32], gone: &[u32], m: Measures)
+    requires { ⌜ Sound (now pool) (now table) × (measuresOf m ≡ shapeOf (now table) .measures) × (length (now taken) ≤ 1024) ⌝ }
+    requires { ⌜ ((i : ℕ) → i < length (now taken) → Fits (shapeOf (now table) .measures .segmentBlocks) (length (drop (recordsFrom (shapeOf (now table))) (now table))) (wordToPointer (getD (now taken) i 0)) × NamesHeld (recordsIn (shapeOf (now table) .measures .segmentBlocks) (drop (recordsFrom (shapeOf (now table))) (now table))) (wordToPointer (getD (now taken) i 0))) ⌝ }
+    requires { ⌜ ((i : ℕ) → i < length (now gone) → Fits (shapeOf (now table) .measures .segmentBlocks) (length (drop (recordsFrom (shapeOf (now table))) (now table))) (wordToPointer (getD (now gone) i 0))) ⌝ }
+    ensures { λ _. ⌜ Are (shapeOf (now (table .entry))) (exchanged (now (pool .entry)) (now (table .entry)) (map wordToPointer (now (taken .entry))) (map wordToPointer (now (gone .entry)))) (now (pool .exit)) (now (table .exit)) ⌝ }
 {
     let records = tills::records_at(table);
-    sweep::let_go(pool, &mut table[records..], pointers, m);
+    sweep::exchange(pool, &mut table[records..], taken, gone, m);
 }
 
-// The till loses its oldest version's slot.
-fn drop_slot(table: &mut [u32], at: usize, size: usize, blocks: usize)
-    requires { ⌜ (at + size ≤ length (now table)) × (7 + blocks ≤ size) × (blocks ≤ 1024) × (0 < getD (now table) (at + 1) 0) ⌝ }
-    ensures { λ _. ⌜ ((s : Shape) (st : State) (t : ℕ) → Placed s st t at size blocks → now (table .entry) ≡ stateToWords s st → now (table .exit) ≡ stateToWords s (record { tills = set (st .tills) t (withoutOldest (tillOf st t)); shelf = st .shelf })) ⌝ }
+// The till loses the version at place j, and its older neighbour has other pointers.
+fn close_up(table: &mut [u32], at: usize, size: usize, blocks: usize, j: usize, pointers: &[u32])
+    requires { ⌜ (at + size ≤ length (now table)) × HasSlot blocks j (take size (drop at (now table))) × (length (now pointers) ≤ blocks) ⌝ }
+    ensures { λ _. ⌜ ((s : Shape) (st : State) (t : ℕ) (older : List Version) (u : Version) (newer : List Version) (ps : List Pointer) → Placed s st t at size blocks → tillOf st t .versions ≡ older ++ (u ∷ newer) → length older ≡ j → now (table .entry) ≡ stateToWords s st → now (pointers .entry) ≡ map pointerWord ps → length ps ≡ length (newestPointers older) → now (table .exit) ≡ stateToWords s (record { tills = set (st .tills) t (record { last = tillOf st t .last; versions = withNewestPointers older ps ++ newer }); shelf = st .shelf })) ⌝ }
 {
-    slots::drop_oldest(&mut table[at..at + size], blocks);
+    slots::close_up(&mut table[at..at + size], blocks, j, pointers);
 }
 
-// A till that holds a version loses its oldest one, with room for its pointers; its length.
+// The version at place j goes: its pointers' words, and its older neighbour's, are given.
+fn retire_slot(
+    pool: &mut [u8],
+    table: &mut [u32],
+    till: u32,
+    at: usize,
+    j: usize,
+    older: &mut [u32],
+    gone: &[u32],
+    taken: &mut [u32],
+    m: Measures,
+)
+    requires { ⌜ Holds (now pool) (now table) till at j × (measuresOf m ≡ shapeOf (now table) .measures) × (length (now taken) ≡ length (now older)) ⌝ }
+    requires { ⌜ (now gone ≡ map pointerWord (versionAt (now pool) (now table) till j .pointers)) × (now older ≡ map pointerWord (newestPointers (take j (versionsHeld (now pool) (now table) till)))) ⌝ }
+    ensures { λ _. ⌜ Are (shapeOf (now (table .entry))) (stateWithout (now (pool .entry)) (now (table .entry)) till j) (now (pool .exit)) (now (table .exit)) ⌝ }
+{
+    let blocks = table[2] as usize;
+    let size = tills::till_words(table);
+    take_over(older, gone, taken);
+    exchange(pool, table, taken, gone, m);
+    close_up(table, at, size, blocks, j, older);
+}
+
+// The same, with room for the pointers' words; its length.
 fn retire_with(
     pool: &mut [u8],
     table: &mut [u32],
     till: u32,
     at: usize,
-    pointers: &mut [u32],
+    j: usize,
+    gone: &mut [u32],
+    older: &mut [u32],
+    taken: &mut [u32],
     m: Measures,
 ) -> u32
-    requires { ⌜ Holds (now pool) (now table) till at × (length (now pointers) ≡ 1024) × (measuresOf m ≡ shapeOf (now table) .measures) ⌝ }
-    ensures { λ r. ⌜ retireAnswer (record { refusal = 0; length = r }) (now (pool .exit)) (now (table .exit)) ≡ droppedFrom (now (pool .entry)) (now (table .entry)) till ⌝ }
+    requires { ⌜ Holds (now pool) (now table) till at j × (length (now gone) ≡ 1024) × (length (now older) ≡ 1024) × (length (now taken) ≡ 1024) × (measuresOf m ≡ shapeOf (now table) .measures) ⌝ }
+    ensures { λ r. ⌜ retireAnswer (record { refusal = 0; length = r }) (now (pool .exit)) (now (table .exit)) ≡ retiredAt (now (pool .entry)) (now (table .entry)) till j ⌝ }
 {
-    let blocks = table[2] as usize;
-    let size = tills::till_words(table);
-    let length = copy_oldest(pool, table, till, at, pointers, m.bytes);
+    let length = copy_version(pool, table, till, at, j, gone, m.bytes);
     let count = numbers::parts_for(m.bytes, length as usize);
-    let_go(pool, table, &pointers[..count], m);
-    drop_slot(table, at, size, blocks);
+    let n = copy_older(pool, table, till, at, j, older, m.bytes);
+    retire_slot(
+        pool,
+        table,
+        till,
+        at,
+        j,
+        &mut older[..n],
+        &gone[..count],
+        &mut taken[..n],
+        m,
+    );
     length
 }
 
-fn retire_oldest(pool: &mut [u8], table: &mut [u32], till: u32, at: usize, m: Measures) -> u32
-    requires { ⌜ Holds (now pool) (now table) till at × (measuresOf m ≡ shapeOf (now table) .measures) ⌝ }
-    ensures { λ r. ⌜ retireAnswer (record { refusal = 0; length = r }) (now (pool .exit)) (now (table .exit)) ≡ droppedFrom (now (pool .entry)) (now (table .entry)) till ⌝ }
+fn retire_held(
+    pool: &mut [u8],
+    table: &mut [u32],
+    till: u32,
+    at: usize,
+    j: usize,
+    m: Measures,
+) -> u32
+    requires { ⌜ Holds (now pool) (now table) till at j × (measuresOf m ≡ shapeOf (now table) .measures) ⌝ }
+    ensures { λ r. ⌜ retireAnswer (record { refusal = 0; length = r }) (now (pool .exit)) (now (table .exit)) ≡ retiredAt (now (pool .entry)) (now (table .entry)) till j ⌝ }
 {
-    let mut pointers = [0u32; 1024];
-    retire_with(pool, table, till, at, &mut pointers, m)
+    let mut gone = [0u32; 1024];
+    let mut older = [0u32; 1024];
+    let mut taken = [0u32; 1024];
+    retire_with(
+        pool,
+        table,
+        till,
+        at,
+        j,
+        &mut gone,
+        &mut older,
+        &mut taken,
+        m,
+    )
 }
 
 pub fn retire_version(pool: &mut [u8], table: &mut [u32], till: u32, version: u32) -> Retired
@@ -97,26 +211,15 @@ pub fn retire_version(pool: &mut [u8], table: &mut [u32], till: u32, version: u3
         };
     }
     let head = tills::till_head(pool, table, till);
-    if version > head.last {
+    let j = tills::place_of(pool, table, till, head, version);
+    if head.held as usize <= j {
         return Retired {
             refusal: 15,
-            length: 0,
-        };
-    }
-    if version + head.held <= head.last {
-        return Retired {
-            refusal: 15,
-            length: 0,
-        };
-    }
-    if version + head.held != head.last + 1 {
-        return Retired {
-            refusal: 13,
             length: 0,
         };
     }
     let m = layout::measures_in(table);
-    let length = retire_oldest(pool, table, till, head.at, m);
+    let length = retire_held(pool, table, till, head.at, j, m);
     Retired {
         refusal: 0,
         length: length,

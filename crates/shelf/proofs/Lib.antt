@@ -1,4 +1,4 @@
 pub mod Read
-pub mod Lowers
+pub mod Changes
 pub mod Inside
 pub mod Along

@@ -1,6 +1,15 @@
--- A till without its oldest version.
-use lib.ListN.{drop}
-use Rattle.model.specs.State.{Till}
+-- A till's words with the slot of a held version, and a version with other pointers.
+use mathlib.Core.List.{List}
+use Prim.Native.Nat.{ℕ, _+_, _*_, _≤_, _<_}
+use lib.ListN.{length, getD}
+use Rattle.model.specs.State.{Pointer, Version}
 
-abbrev pub withoutOldest : Till → Till
-withoutOldest t = record { last = t .last; versions = drop 1 (t .versions) }
+-- place j is that of a held version, and the slots, for images of b blocks, are there
+pub record HasSlot (b j : ℕ) (till : List ℕ) : Type 0 where
+  pub small : b ≤ 1024
+  pub long : length till ≤ 65732
+  pub held : j < getD till 1 0
+  pub slots : 4 + getD till 1 0 * (3 + b) ≤ length till
+
+abbrev pub repointed : Version → List Pointer → Version
+repointed u ps = record { number = u .number; length = u .length; pointers = ps }

@@ -1,10 +1,12 @@
-// A till loses its oldest version: the later slots move down.
+// A till's slots: pointers over those of a version, and a version that goes from between its neighbours.
 ghost use mathlib.Core.Path.{_≡_};
+ghost use mathlib.Core.List.{List, _∷_, _++_, map};
 ghost use Prim.Native.Nat.{ℕ, _+_, _-_, _≤_, _<_};
 ghost use lib.ListN.{length, getD, set};
-ghost use Rattle.model.specs.State.{Till};
-ghost use Rattle.model.specs.Table.{tillToWords};
-ghost use Rattle.slots.specs.Slots.{withoutOldest};
+ghost use Rattle.model.specs.State.{Pointer, Version};
+ghost use Rattle.model.specs.Table.{pointerWord, tillToWords};
+ghost use Rattle.model.specs.Calls.{newestPointers, withNewestPointers};
+ghost use Rattle.slots.specs.Slots.{HasSlot, repointed};
 
 // One less in the count of held versions.
 fn one_held_less(till: &mut [u32])
@@ -15,11 +17,35 @@ fn one_held_less(till: &mut [u32])
     till[1] = held - 1;
 }
 
-// A till that holds a version, for images of b blocks, loses its oldest one.
-pub fn drop_oldest(till: &mut [u32], b: usize)
-    requires { ⌜ (7 + b ≤ length (now till)) × (0 < getD (now till) 1 0) × (b ≤ 1024) ⌝ }
-    ensures { λ _. ⌜ ((v : ℕ) (t : Till) → length (t .versions) ≤ v → now (till .entry) ≡ tillToWords v b t → now (till .exit) ≡ tillToWords v b (withoutOldest t)) ⌝ }
+// Pointer words over those of the version at place j of those held, the oldest first, for images of b blocks.
+fn put_pointers(till: &mut [u32], b: usize, j: usize, pointers: &[u32])
+    requires { ⌜ HasSlot b j (now till) × (length (now pointers) ≤ b) ⌝ }
+    ensures { λ _. ⌜ ((v last : ℕ) (older : List Version) (u : Version) (newer : List Version) (ps : List Pointer) → length older ≡ j → length (older ++ (u ∷ newer)) ≤ v → now (till .entry) ≡ tillToWords v b (record { last = last; versions = older ++ (u ∷ newer) }) → now (pointers .entry) ≡ map pointerWord ps → length ps ≡ length (u .pointers) → now (till .exit) ≡ tillToWords v b (record { last = last; versions = older ++ (repointed u ps ∷ newer) })) × (getD (now (till .exit)) 1 0 ≡ getD (now (till .entry)) 1 0) ⌝ }
+{
+    let start = 4 + j * (3 + b) + 3;
+    let end = start + b;
+    words::copy_in(pointers, &mut till[start..end]);
+}
+
+// The version at place j goes, and the later slots move down.
+fn drop_slot(till: &mut [u32], b: usize, j: usize)
+    requires { ⌜ HasSlot b j (now till) ⌝ }
+    ensures { λ _. ⌜ ((v last : ℕ) (older : List Version) (u : Version) (newer : List Version) → length older ≡ j → length (older ++ (u ∷ newer)) ≤ v → now (till .entry) ≡ tillToWords v b (record { last = last; versions = older ++ (u ∷ newer) }) → now (till .exit) ≡ tillToWords v b (record { last = last; versions = older ++ newer })) ⌝ }
 {
     one_held_less(till);
-    words::shift(&mut till[4..], 3 + b);
+    let start = 4 + j * (3 + b);
+    words::shift(&mut till[start..], 3 + b);
+}
+
+// The version at place j goes, and its older neighbour has other pointers; with none there are no pointers to put.
+pub fn close_up(till: &mut [u32], b: usize, j: usize, pointers: &[u32])
+    requires { ⌜ HasSlot b j (now till) × (length (now pointers) ≤ b) ⌝ }
+    ensures { λ _. ⌜ ((v last : ℕ) (older : List Version) (u : Version) (newer : List Version) (ps : List Pointer) → length older ≡ j → length (older ++ (u ∷ newer)) ≤ v → now (till .entry) ≡ tillToWords v b (record { last = last; versions = older ++ (u ∷ newer) }) → now (pointers .entry) ≡ map pointerWord ps → length ps ≡ length (newestPointers older) → now (till .exit) ≡ tillToWords v b (record { last = last; versions = withNewestPointers older ps ++ newer })) ⌝ }
+{
+    if j == 0 {
+        drop_slot(till, b, j);
+        return;
+    }
+    put_pointers(till, b, j - 1, pointers);
+    drop_slot(till, b, j);
 }

@@ -1,17 +1,17 @@
-// Counts fall, then step 3: positions whose count is 0 are removed, record by record in rising number.
+// Counts rise and fall, then step 3: positions whose count is 0 are removed, record by record in rising number.
 ghost use mathlib.Core.Path.{_≡_};
 ghost use mathlib.Core.Bool.{false};
 ghost use mathlib.Core.List.{map};
-ghost use Prim.Native.Nat.{ℕ, _*_, _/_, _≤_, _<_};
+ghost use Prim.Native.Nat.{ℕ, _+_, _*_, _/_, _^_, _≤_, _<_};
 ghost use lib.ListN.{length, getD, replicate};
 ghost use Rattle.lists.specs.Marks.{marked};
 ghost use Rattle.numbers.specs.Measures.{measuresOf};
 ghost use Rattle.model.specs.Measures.{recordWords};
-ghost use Rattle.model.specs.Records.{cellsOf, namedCells};
+ghost use Rattle.model.specs.Records.{cellsOf, namedCells, countOf};
 ghost use Rattle.model.specs.Table.{wordToPointer, recordsIn, shelfIn};
-ghost use Rattle.model.specs.Sweep.{release, sweep};
-ghost use Rattle.shelf.specs.Stored.{Told, Stored};
-ghost use Rattle.shelf.specs.Fits.{Fits};
+ghost use Rattle.model.specs.Sweep.{release, claim, sweep};
+ghost use Rattle.shelf.specs.Stored.{Told, Stored, positionIn};
+ghost use Rattle.shelf.specs.Fits.{Fits, NamesHeld};
 ghost use Rattle.kept.specs.Kept.{Coded, Kept, NamedIn};
 ghost use Rattle.kept.specs.Ways.{segmentAt};
 use numbers::Measures;
@@ -86,4 +86,15 @@ pub fn let_go(pool: &mut [u8], words: &mut [u32], pointers: &[u32], m: Measures)
 {
     release::release(words, pointers, m.blocks);
     sweep_all(pool, words, m);
+}
+
+// Pointers taken over claim their blocks, before others let go of theirs.
+pub fn exchange(pool: &mut [u8], words: &mut [u32], taken: &[u32], gone: &[u32], m: Measures)
+    requires { ⌜ Stored (measuresOf m) (now pool) (now words) ⌝ }
+    requires { ⌜ ((i : ℕ) → i < length (now taken) → Fits (m .blocks) (length (now words)) (wordToPointer (getD (now taken) i 0)) × NamesHeld (recordsIn (m .blocks) (now words)) (wordToPointer (getD (now taken) i 0))) × ((i : ℕ) → i < length (now gone) → Fits (m .blocks) (length (now words)) (wordToPointer (getD (now gone) i 0))) ⌝ }
+    requires { ⌜ ((k i : ℕ) → countOf (positionIn (recordsIn (m .blocks) (now words)) k i) + length (now taken) < 2 ^ 32) ⌝ }
+    ensures { λ _. ⌜ Told (measuresOf m) (now (pool .exit)) (now (words .exit)) (sweep (measuresOf m) (release (claim (shelfIn (measuresOf m) (now (pool .entry)) (now (words .entry))) (map wordToPointer (now (taken .entry)))) (map wordToPointer (now (gone .entry))))) ⌝ }
+{
+    release::claim(words, taken, m.blocks);
+    let_go(pool, words, gone, m);
 }

@@ -1,19 +1,21 @@
--- The listing, case by case; and how large a till is.
+-- How large a till is; the listing, case by case; and where a version is.
 use mathlib.Core.Path.{_≡_, refl, sym, ap, _∙_}
-use mathlib.Core.List.{List, [], _∷_}
+use mathlib.Core.Bool.{Bool, true, false}
+use mathlib.Core.List.{List, [], _∷_, map}
 use Prim.Native.Nat.{ℕ, suc, _+_, _*_, _-_, _≤_, _<_}
 use native.Mathlib.Omega.{arith}
 use lib.ListN.{length, getD}
-use borrow.Author.Tests.{le-leb, lt-leb}
+use lib.Dec.{leb}
+use borrow.Author.Tests.{le-leb, lt-leb, leb-true, leb-false}
 use Rattle.model.specs.State.{Version, Till}
 use Rattle.model.specs.Table.{shapeOf, stateIn}
 use Rattle.model.specs.Calls.{ListingAnswer, tillOf, oldestNumber, newestNumber, listingRefusal, listTill, listingIn, listingOf}
 use Rattle.laws.proofs.Measures.{sizes}
 use Rattle.laws.specs.Stores.{tillAt, Sound, Header}
 use Rattle.laws.proofs.Stores.{header}
-use Rattle.laws.proofs.Tills.{From, till, given, last-most, numbers, in-words, last-word, held-word, oldest-from, newest-from}
+use Rattle.laws.proofs.Tills.{till, in-words, last-word, held-word, held-place, oldest-at, newest-at, slot-in, number-word}
 use Rattle.tills.specs.declared.Head.{Head}
-use Rattle.tills.specs.Answers.{tillSize, HeadOf}
+use Rattle.tills.specs.Answers.{tillSize, HeadOf, versionsHeld, numbersHeld, PlaceOf}
 use Rattle.lists.proofs.Slices.{none-left}
 
 pub small : (table : List ℕ) → Header table → (t : ℕ) → t ≤ 16 → (tillSize table ≤ 65732) × (t * tillSize table ≤ 1051712)
@@ -55,17 +57,53 @@ module _ {pool table : List ℕ} (h : Sound pool table) (t : ℕ) where
         go : (x : Till) → length (x .versions) ≡ 0 → r .last ≡ x .last → record { refusal = 0; oldest = 0; newest = 0; last = r .last } ≡ listTill x
         go x z l = rw (l, none-left (x .versions) z)
 
-    pub some-held : (r .held ≡ 0 → ⊥) → record { refusal = 0; oldest = r .last - r .held + 1; newest = r .last; last = r .last } ≡ listingOf pool table t
+    pub some-held : (r .held ≡ 0 → ⊥) → (a b : ℕ) → a ≡ getD (numbersHeld pool table t) 0 0 → b ≡ getD (numbersHeld pool table t) (r .held - 1) 0
+        → record { refusal = 0; oldest = a; newest = b; last = r .last } ≡ listingOf pool table t
     unfolding listTill
-    some-held e = go (till h t in-table) (numbers h t in-table) (given h t in-table) (o .held) (o .last) ∙ sym answer
+    some-held e a b ea eb = go (till h t in-table) ea eb (o .held) (o .last) ∙ sym answer
       where
-        go : (x : Till) → From (suc (x .last) - length (x .versions)) (x .versions) → length (x .versions) ≤ x .last → r .held ≡ length (x .versions) → r .last ≡ x .last
-            → record { refusal = 0; oldest = r .last - r .held + 1; newest = r .last; last = r .last } ≡ listTill x
-        go x f g n l =
-            let p : 0 < length (x .versions) = omega (arith, n, e) in
-            let a : r .last - r .held + 1 ≡ oldestNumber (x .versions) = omega (arith, n, l, g, oldest-from (suc (x .last) - length (x .versions)) (x .versions) f p) in
-            let b : r .last ≡ newestNumber (x .versions) = omega (arith, n, l, g, newest-from (suc (x .last) - length (x .versions)) (x .versions) f p) in
-            λ i. record { refusal = 0; oldest = a i; newest = b i; last = l i }
+        newest : (vs : List Version) → (length vs ≡ 0 → ⊥) → getD (map (λ (v : Version). v .number) vs) (length vs - 1) 0 ≡ newestNumber vs
+        newest [] z = absurd (z refl)
+        newest (v ∷ vs) z = let k : length (v ∷ vs) - 1 ≡ length vs = omega arith in ap (λ (i : ℕ). getD (map (λ (w : Version). w .number) (v ∷ vs)) i 0) k ∙ sym (newest-at v vs)
 
-    pub bounded : (r .held ≤ r .last) × (r .last ≤ 65535)
-    bounded = rw (o .held, o .last) (given h t in-table, last-most h t in-table)
+        go : (x : Till) → a ≡ getD (map (λ (v : Version). v .number) (x .versions)) 0 0 → b ≡ getD (map (λ (v : Version). v .number) (x .versions)) (r .held - 1) 0
+            → r .held ≡ length (x .versions) → r .last ≡ x .last → record { refusal = 0; oldest = a; newest = b; last = r .last } ≡ listTill x
+        go x p q n l =
+            let first : a ≡ oldestNumber (x .versions) = p ∙ sym (oldest-at (x .versions)) in
+            let last : b ≡ newestNumber (x .versions) = q ∙ ap (λ (k : ℕ). getD (map (λ (v : Version). v .number) (x .versions)) (k - 1) 0) n ∙ newest (x .versions) (λ z. e (n ∙ z)) in
+            λ i. record { refusal = 0; oldest = first i; newest = last i; last = l i }
+
+-- ---- the slots of the held versions
+
+-- none of the numbers before place j is n
+abbrev pub NoneBefore : List ℕ → ℕ → ℕ → Type 0
+NoneBefore ns n j = (i : ℕ) → i < j → getD ns i 0 ≡ n → ⊥
+
+pub none-next : (ns : List ℕ) (n j : ℕ) → NoneBefore ns n j → (getD ns j 0 ≡ n → ⊥) → NoneBefore ns n (j + 1)
+none-next ns n j f z i l e = go (leb j i) refl
+  where
+    go : (b : Bool) → leb j i ≡ b → ⊥
+    go true q = let k : i ≡ j = omega (arith, leb-true j i q, l) in z (ap (λ (x : ℕ). getD ns x 0) (sym k) ∙ e)
+    go false q = f i (leb-false j i q) e
+
+module _ {pool table : List ℕ} (h : Sound pool table) (t : ℕ) (in-table : t < getD table 0 0) where
+  -- the slot at place j, its start as the code computes it
+  pub slot-within : (at j : ℕ) → at ≡ tillAt (shapeOf table) t → j < length (versionsHeld pool table t)
+      → (at + (4 + j * (3 + getD table 2 0)) < length table) × (j * (3 + getD table 2 0) ≤ 65732) × (at ≤ 1051720)
+  unfolding shapeOf
+  slot-within at j e l =
+      let b : t ≤ 16 = omega (arith, in-table, header h .tills) in
+      let (size, all) = small table (header h) t b in
+      (omega (arith, e, slot-in h t in-table j l, in-words h t in-table), omega (arith, slot-in h t in-table j l, size), omega (arith, e, all))
+
+  pub number-is : (at j : ℕ) → at ≡ tillAt (shapeOf table) t → j < length (versionsHeld pool table t)
+      → getD table (at + (4 + j * (3 + getD table 2 0))) 0 ≡ getD (numbersHeld pool table t) j 0
+  number-is at j e l = ap (λ (a : ℕ). getD table (a + (4 + j * (3 + getD table 2 0))) 0) e ∙ number-word h t in-table j l
+
+  pub place-here : (n j : ℕ) → j < length (versionsHeld pool table t) → NoneBefore (numbersHeld pool table t) n j → getD (numbersHeld pool table t) j 0 ≡ n → PlaceOf pool table t n j
+  place-here n j l f e = let q = held-place n (versionsHeld pool table t) j (omega (arith, l)) f (λ k. e) in record { most = omega (arith, l); from = q .0; before = q .1 }
+
+  pub place-none : (n j : ℕ) → j ≡ length (versionsHeld pool table t) → NoneBefore (numbersHeld pool table t) n j → PlaceOf pool table t n j
+  place-none n j e f =
+      let q = held-place n (versionsHeld pool table t) j (omega (arith, e)) f (λ k. absurd (omega (arith, k, e))) in
+      record { most = omega (arith, e); from = q .0; before = q .1 }

@@ -1,9 +1,10 @@
--- A till's head, and what the answers say.
-use Prim.Native.Nat.{ℕ}
+-- A till's head, the place of a version among those held, and what the answers say.
+use Prim.Native.Nat.{ℕ, _≤_}
 use mathlib.Core.Path.{_≡_}
-use mathlib.Core.List.{List}
-use lib.ListN.{length, getD}
+use mathlib.Core.List.{List, map}
+use lib.ListN.{length, getD, take, drop}
 use Rattle.model.specs.Measures.{tillWords}
+use Rattle.model.specs.State.{Version}
 use Rattle.model.specs.Table.{shapeOf, stateIn}
 use Rattle.model.specs.Calls as calls
 use Rattle.laws.specs.Stores.{tillAt}
@@ -17,6 +18,19 @@ pub record HeadOf (pool table : List ℕ) (t : ℕ) (r : Head) : Type 0 where
   pub at : r .at ≡ tillAt (shapeOf table) t
   pub last : r .last ≡ calls.tillOf (stateIn (shapeOf table) pool table) t .last
   pub held : r .held ≡ length (calls.tillOf (stateIn (shapeOf table) pool table) t .versions)
+
+-- the versions that a till holds, the oldest first, and their numbers
+abbrev pub versionsHeld : List ℕ → List ℕ → ℕ → List Version
+versionsHeld pool table t = calls.tillOf (stateIn (shapeOf table) pool table) t .versions
+
+abbrev pub numbersHeld : List ℕ → List ℕ → ℕ → List ℕ
+numbersHeld pool table t = map (λ (v : Version). v .number) (versionsHeld pool table t)
+
+-- place r is that of version n; past the last if it is not held
+pub record PlaceOf (pool table : List ℕ) (t n r : ℕ) : Type 0 where
+  pub most : r ≤ length (versionsHeld pool table t)
+  pub from : calls.heldFrom n (versionsHeld pool table t) ≡ drop r (versionsHeld pool table t)
+  pub before : calls.heldBefore n (versionsHeld pool table t) ≡ take r (versionsHeld pool table t)
 
 abbrev pub listingAnswer : Listing → calls.ListingAnswer
 listingAnswer r = record { refusal = r .refusal; oldest = r .oldest; newest = r .newest; last = r .last }

@@ -1,11 +1,11 @@
-// A till of a sound store: where its words are, and its listing.
+// A till of a sound store: where its words are, the place of a version, and its listing.
 ghost use mathlib.Core.Path.{_≡_};
 ghost use Prim.Native.Nat.{ℕ, _<_};
 ghost use lib.ListN.{length, getD};
 ghost use Rattle.model.specs.Table.{shapeOf};
 ghost use Rattle.model.specs.Calls.{listingOf};
-ghost use Rattle.laws.specs.Stores.{recordsFrom, Sound, Header};
-ghost use Rattle.tills.specs.Answers.{tillSize, HeadOf, listingAnswer};
+ghost use Rattle.laws.specs.Stores.{tillAt, recordsFrom, Sound, Header};
+ghost use Rattle.tills.specs.Answers.{tillSize, HeadOf, versionsHeld, numbersHeld, PlaceOf, listingAnswer};
 
 // Refusal 0 is an accepted call.
 #[repr(C)]
@@ -52,6 +52,31 @@ pub fn till_head(pool: &[u8], table: &[u32], till: u32) -> Head
     }
 }
 
+// The number of the version at place j of those held, the oldest first.
+fn number_at(pool: &[u8], table: &[u32], till: u32, at: usize, j: usize) -> u32
+    requires { ⌜ Sound (now pool) (now table) × (till < getD (now table) 0 0) × (at ≡ tillAt (shapeOf (now table)) till) × (j < length (versionsHeld (now pool) (now table) till)) ⌝ }
+    ensures { λ r. ⌜ r ≡ getD (numbersHeld (now (pool .entry)) (now (table .entry)) till) j 0 ⌝ }
+{
+    let width = 3 + table[2] as usize;
+    table[at + (4 + j * width)]
+}
+
+// The place of a version among those held, the oldest first; past the last if it is not held.
+pub fn place_of(pool: &[u8], table: &[u32], till: u32, head: Head, version: u32) -> usize
+    requires { ⌜ Sound (now pool) (now table) × (till < getD (now table) 0 0) × HeadOf (now pool) (now table) till head ⌝ }
+    ensures { λ r. ⌜ PlaceOf (now (pool .entry)) (now (table .entry)) till version r ⌝ }
+{
+    let held = head.held as usize;
+    let mut j: usize = 0;
+    while j < held {
+        if number_at(pool, table, till, head.at, j) == version {
+            return j;
+        }
+        j = j + 1;
+    }
+    held
+}
+
 pub fn list_till(pool: &[u8], table: &[u32], till: u32) -> Listing
     requires { ⌜ Sound (now pool) (now table) ⌝ }
     ensures { λ r. ⌜ listingAnswer r ≡ listingOf (now (pool .entry)) (now (table .entry)) till ⌝ }
@@ -75,8 +100,8 @@ pub fn list_till(pool: &[u8], table: &[u32], till: u32) -> Listing
     }
     Listing {
         refusal: 0,
-        oldest: head.last - head.held + 1,
-        newest: head.last,
+        oldest: number_at(pool, table, till, head.at, 0),
+        newest: number_at(pool, table, till, head.at, head.held as usize - 1),
         last: head.last,
     }
 }

@@ -22,7 +22,7 @@ use Rattle.model.specs.Table.{recordToWords, shelfIn, recordsIn, wordToPointer,
 use Rattle.model.specs.Trace.{blockAt, endOf, tracedBlock, tracedBlocks, imageOf, longestChain, hops}
 use Rattle.shelf.specs.Fits.{Fits}
 use Rattle.shelf.specs.Stored.{RecordsTold, Stored}
-use Rattle.shelf.proofs.Lowers.{fits-direct, direct-word}
+use Rattle.shelf.proofs.Changes.{fits-direct, direct-word}
 use Rattle.shelf.proofs.Read.{row-inside, wide-of, count-at, cells-length, stored-records}
 use Rattle.lists.proofs.Places.{row-room}
 use Rattle.lists.proofs.Joins.{row-joined}

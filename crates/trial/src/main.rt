@@ -1,4 +1,4 @@
-// The page's unstarred cases, and long drawn histories on small stores beside a keeper of whole images. Prints what was counted.
+// The page's cases 6 and 11, and long drawn histories on small stores beside a keeper of whole images. Prints what was counted.
 use layout::Capacities;
 use numbers::Measures;
 use trial_report::tell;
@@ -45,7 +45,7 @@ fn histories(count: u32, pool: &mut [u8], table: &mut [u32], counts: &mut [u64])
 }
 
 fn trial(pool: &mut [u8], table: &mut [u32], counts: &mut [u64]) {
-    trial_cases::unstarred();
+    trial_cases::cases();
     trial_refusals::measures(counts);
     trial_refusals::layouts(pool, table, counts);
     trial_refusals::last_number(counts);
@@ -56,6 +56,6 @@ fn trial(pool: &mut [u8], table: &mut [u32], counts: &mut [u64]) {
 fn main() {
     let mut pool = [0u8; 4096];
     let mut table = [0u32; 600];
-    let mut counts = [0u64; 34];
+    let mut counts = [0u64; 36];
     trial(&mut pool, &mut table, &mut counts);
 }

@@ -1,8 +1,9 @@
-// The page's case 11, on fresh stores of 1 till, 4 versions, 16 blocks per image, 8 records and 32 cells.
+// The page's case 6 as its fourth request changes it, and case 11, on fresh stores of 1 till, 4 versions, 16 blocks per image, 8 records and 32 cells.
 use backup::BackedUp;
 use layout::Capacities;
 use numbers::Measures;
 use restore::Restored;
+use retire::Retired;
 use tally::Tally;
 use trial_draw::images;
 use trial_report::tell;
@@ -108,13 +109,65 @@ fn outputs_tried(image: &[u8]) {
     short_output(image, 512, &mut enough);
 }
 
+// The version, the retire's number and length, the cells left.
+fn print_retired(version: u32, gone: Retired, cells: u32) {
+    tell::text(b"retire");
+    tell::number(version as u64);
+    tell::number(gone.refusal as u64);
+    tell::number(gone.length as u64);
+    tell::number(cells as u64);
+    tell::end();
+}
+
+fn retire_one(pool: &mut [u8], table: &mut [u32], version: u32) {
+    let gone = store::retire(pool, table, 0, version);
+    let kept = store::tally(pool, table);
+    print_retired(version, gone, kept.cells);
+}
+
+// Cases 1 to 4.
+fn four_taken(pool: &mut [u8], table: &mut [u32], first: &[u8], second: &[u8]) {
+    taken(pool, table, first);
+    store::backup(pool, table, 0, second);
+    store::backup(pool, table, 0, first);
+    store::backup(pool, table, 0, first);
+}
+
+// From the middle, gone already, the oldest.
+fn three_retired(pool: &mut [u8], table: &mut [u32]) {
+    tell::text(b"retire version refusal length cells\n");
+    retire_one(pool, table, 3);
+    retire_one(pool, table, 3);
+    retire_one(pool, table, 1);
+}
+
+fn retires_on(pool: &mut [u8], table: &mut [u32], first: &[u8], second: &[u8]) {
+    four_taken(pool, table, first, second);
+    three_retired(pool, table);
+}
+
+fn retires_of(first: &mut [u8], second: &mut [u8]) {
+    let mut pool = [0u8; 2048];
+    let mut table = [0u32; 240];
+    images::spell(first, b"ABCDEFGH");
+    images::spell(second, b"ABCDEFGZ");
+    retires_on(&mut pool, &mut table, first, second);
+}
+
+fn retires_tried() {
+    let mut first = [0u8; 512];
+    let mut second = [0u8; 512];
+    retires_of(&mut first, &mut second);
+}
+
 fn all(image: &mut [u8]) {
     images::spell(image, b"ABCDEFGHIJKLMNOPQRSTUV");
     images_tried(image);
     outputs_tried(image);
 }
 
-pub fn unstarred() {
+pub fn cases() {
+    retires_tried();
     let mut image = [0u8; 1408];
     all(&mut image);
 }

@@ -1,7 +1,24 @@
 // Every held version of every till restored and compared, the tills listed, the store tallied.
 use layout::Capacities;
 
-// Every held version of a till.
+// With just enough room; 0 is no version.
+fn restored(
+    c: Capacities,
+    till: u32,
+    version: u32,
+    pool: &[u8],
+    table: &[u32],
+    images: &[u8],
+    notes: &[u32],
+    counts: &mut [u64],
+) {
+    if version != 0 {
+        let room = trial_keeper::length(notes, till, version) as usize;
+        trial_calls::restore(c, till, version, room, pool, table, images, notes, counts);
+    }
+}
+
+// Every held version of a till, place by place.
 fn each_version(
     c: Capacities,
     till: u32,
@@ -11,12 +28,11 @@ fn each_version(
     notes: &[u32],
     counts: &mut [u64],
 ) {
-    let newest = trial_keeper::last(notes, till);
-    let mut version = trial_keeper::retired(notes, till);
-    while version < newest {
-        version += 1;
-        let room = trial_keeper::length(notes, till, version) as usize;
-        trial_calls::restore(c, till, version, room, pool, table, images, notes, counts);
+    let mut place = 0;
+    while place < trial_keeper::PLACES {
+        let version = trial_keeper::number_at(notes, till, place);
+        restored(c, till, version, pool, table, images, notes, counts);
+        place += 1;
     }
 }
 

@@ -1,4 +1,7 @@
 // Images made from letters. A letter is a block: 0 is the null block, 1 is null up to its last byte, and 2k and 2k + 1 differ in their last byte only.
+ghost use mathlib.Core.Path.{_≡_};
+ghost use Prim.Native.Nat.{ℕ, _≤_, _<_, _/_};
+ghost use lib.ListN.{length, getD};
 use crate::dice::Dice;
 use crate::dice::mixed;
 
@@ -10,7 +13,9 @@ pub struct Plan {
     pub repeats: bool,
 }
 
-pub fn plan_of(d: Dice) -> Plan {
+pub fn plan_of(d: Dice) -> Plan
+    ensures { λ r. ⌜ (1 ≤ r .seed) × (r .seed ≤ 4) × (r .changed < 24) × (r .letter ≤ 8) ⌝ }
+{
     Plan {
         seed: 1 + d.drawn(16, 4),
         changed: d.drawn(24, 24) as usize,
@@ -20,7 +25,9 @@ pub fn plan_of(d: Dice) -> Plan {
 }
 
 // Letters 0 to 8; one in four is 0.
-fn letter_of(x: u64) -> u8 {
+fn letter_of(x: u64) -> u8
+    ensures { λ r. ⌜ r ≤ 8 ⌝ }
+{
     let n = x % 11;
     if n < 9 {
         return n as u8;
@@ -28,7 +35,9 @@ fn letter_of(x: u64) -> u8 {
     0
 }
 
-fn letter_at(p: Plan, block: usize) -> u8 {
+fn letter_at(p: Plan, block: usize) -> u8
+    ensures { λ r. ⌜ (p .letter ≤ 8 → r ≤ 8) ⌝ }
+{
     if block == p.changed {
         return p.letter;
     }
@@ -39,14 +48,18 @@ fn letter_at(p: Plan, block: usize) -> u8 {
     letter_of(mixed(mixed(p.seed ^ (n << 20))))
 }
 
-fn byte_of(letter: u8, at: usize) -> u8 {
+fn byte_of(letter: u8, at: usize) -> u8
+    ensures { λ r. ⌜ r ≤ letter ⌝ }
+{
     if at == 63 {
         return letter;
     }
     letter / 2
 }
 
-pub fn fill(image: &mut [u8], p: Plan) {
+pub fn fill(image: &mut [u8], p: Plan)
+    ensures { λ _. ⌜ ((k : ℕ) → k < length (now (image .entry)) → p .letter ≤ 8 → getD (now (image .exit)) k 0 ≤ 8) ⌝ }
+{
     let mut i = 0;
     while i < image.len() {
         image[i] = byte_of(letter_at(p, i / 64), i % 64);
@@ -55,7 +68,9 @@ pub fn fill(image: &mut [u8], p: Plan) {
 }
 
 // Each letter fills a block with itself; blocks past the last letter are null.
-pub fn spell(image: &mut [u8], letters: &[u8]) {
+pub fn spell(image: &mut [u8], letters: &[u8])
+    ensures { λ _. ⌜ ((k : ℕ) → k < length (now (image .entry)) → getD (now (image .exit)) k 0 ≡ getD (now (letters .entry)) (k / 64) 0) ⌝ }
+{
     let mut i = 0;
     while i < image.len() {
         image[i] = letter_or_null(letters, i / 64);
@@ -63,7 +78,9 @@ pub fn spell(image: &mut [u8], letters: &[u8]) {
     }
 }
 
-fn letter_or_null(letters: &[u8], block: usize) -> u8 {
+fn letter_or_null(letters: &[u8], block: usize) -> u8
+    ensures { λ r. ⌜ r ≡ getD (now (letters .entry)) block 0 ⌝ }
+{
     if block < letters.len() {
         return letters[block];
     }

@@ -81,6 +81,25 @@ fn retire_number(
     counts::answered(counts, counts::RETIRES, refusal, expected);
 }
 
+fn count_retired(till: u32, version: u32, notes: &[u32], counts: &mut [u64]) {
+    if version == trial_keeper::oldest(notes, till) {
+        return;
+    }
+    if version == trial_keeper::newest(notes, till) {
+        counts::add(counts, counts::NEWEST, 1);
+        return;
+    }
+    counts::add(counts, counts::BETWEEN, 1);
+}
+
+// A retired version is struck.
+fn retired_version(length: u32, till: u32, version: u32, notes: &mut [u32], counts: &mut [u64]) {
+    let kept = trial_keeper::length(notes, till, version);
+    counts::expect(counts, length == kept);
+    count_retired(till, version, notes, counts);
+    trial_keeper::strike(notes, till, version);
+}
+
 pub fn retired(
     a: Retired,
     c: Capacities,
@@ -91,11 +110,7 @@ pub fn retired(
 ) {
     retire_number(c, till, version, a.refusal, notes, counts);
     if a.refusal == 0 {
-        counts::expect(
-            counts,
-            a.length == trial_keeper::length(notes, till, version),
-        );
-        trial_keeper::strike(notes, till, version);
+        retired_version(a.length, till, version, notes, counts);
     } else {
         counts::expect(counts, a.length == 0);
     }
@@ -116,7 +131,7 @@ fn restored_bytes(
     counts::add(counts, counts::WRONG_BYTES, wrong as u64);
 }
 
-// The chain is no longer than there are newer versions.
+// The chain is no longer than there are newer versions held: 0 for the newest.
 fn restored_chain(a: Restored, till: u32, version: u32, notes: &[u32], counts: &mut [u64]) {
     let bytes = trial_keeper::length(notes, till, version);
     let newer = trial_keeper::newer(notes, till, version);

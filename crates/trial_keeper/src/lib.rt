@@ -1,20 +1,20 @@
 // The keeper of whole images: told the arguments of each call and whether it was accepted, and nothing out of pool or table.
-// Its notes: each till's last number given, the last number retired, then a length for each image kept.
+// Its notes are eleven for each till: the last number given, the number held at each of five places (0 at a free one), the length of the image there.
 ghost use mathlib.Core.Path.{_≡_};
-ghost use Prim.Native.Nat.{_+_, _*_, _%_, _≤_};
+ghost use Prim.Native.Nat.{_+_, _*_, _≤_, _<_, min};
 ghost use lib.ListN.{getD, set};
+ghost use Rattle.trial_keeper.specs.Notes.{lastGiven, numberAt, newerThan, placeOf, newestOf, oldestOf, lengthOf, isHeld, struck, mostBytes, backupRefusal, restoreRefusal, retireRefusal};
 use layout::Capacities;
 use numbers::Block;
 
-// At most so many tills, versions per till and bytes per image.
-const TILLS: usize = 3;
+// So many versions at most are kept of a till.
+pub const PLACES: u32 = 5;
 
-const VERSIONS: usize = 5;
-
+// An image has a place of so many bytes.
 const BYTES: usize = 1280;
 
-// So many notes and bytes of images are enough for all.
-pub const NOTES: usize = 21;
+// Enough notes and bytes of images for three tills.
+pub const NOTES: usize = 33;
 
 pub const IMAGES: usize = 19200;
 
@@ -35,64 +35,148 @@ pub fn put_note(notes: &mut [u32], at: usize, note: u32)
     }
 }
 
-pub fn last(notes: &[u32], till: u32) -> u32 {
-    note_at(notes, till as usize)
-}
-
-pub fn retired(notes: &[u32], till: u32) -> u32 {
-    note_at(notes, TILLS + till as usize)
-}
-
-// The held versions of a till have different places.
-fn place(till: u32, version: u32) -> usize
-    ensures { λ r. ⌜ (r ≡ till * 5 + version % 5) × (r ≤ till * 5 + 4) ⌝ }
+fn number_note(till: u32, place: u32) -> usize
+    ensures { λ r. ⌜ r ≡ till * 11 + 1 + place ⌝ }
 {
-    till as usize * VERSIONS + version as usize % VERSIONS
+    till as usize * 11 + 1 + place as usize
 }
 
-pub fn length(notes: &[u32], till: u32, version: u32) -> u32 {
-    note_at(notes, 2 * TILLS + place(till, version))
+fn length_note(till: u32, place: u32) -> usize
+    ensures { λ r. ⌜ r ≡ till * 11 + 6 + place ⌝ }
+{
+    till as usize * 11 + 6 + place as usize
 }
 
-pub fn held(notes: &[u32], till: u32) -> u32 {
-    let newest = last(notes, till);
-    let gone = retired(notes, till);
-    if gone < newest {
-        return newest - gone;
+pub fn last(notes: &[u32], till: u32) -> u32
+    ensures { λ r. ⌜ r ≡ lastGiven (now (notes .entry)) till ⌝ }
+{
+    note_at(notes, till as usize * 11)
+}
+
+// The number held at a place, 0 if it is free.
+pub fn number_at(notes: &[u32], till: u32, place: u32) -> u32
+    ensures { λ r. ⌜ r ≡ numberAt (now (notes .entry)) till place ⌝ }
+{
+    note_at(notes, number_note(till, place))
+}
+
+fn one_if_above(floor: u32, n: u32) -> u32
+    ensures { λ r. ⌜ (floor < n → r ≡ 1) × (n ≤ floor → r ≡ 0) × (r ≤ 1) ⌝ }
+{
+    if floor < n {
+        return 1;
     }
     0
 }
 
-pub fn oldest(notes: &[u32], till: u32) -> u32 {
-    let gone = retired(notes, till);
-    if gone < last(notes, till) {
-        return gone + 1;
+// How many held versions of the till are newer.
+pub fn newer(notes: &[u32], till: u32, version: u32) -> u32
+    ensures { λ r. ⌜ (r ≡ newerThan (now (notes .entry)) till version) × (r ≤ 5) ⌝ }
+{
+    let mut n = 0;
+    let mut place = PLACES;
+    while 0 < place {
+        place -= 1;
+        n += one_if_above(version, number_at(notes, till, place));
     }
-    0
+    n
 }
 
-pub fn newest(notes: &[u32], till: u32) -> u32 {
-    let newest = last(notes, till);
-    if retired(notes, till) < newest {
-        return newest;
-    }
-    0
+pub fn held(notes: &[u32], till: u32) -> u32
+    ensures { λ r. ⌜ r ≡ newerThan (now (notes .entry)) till 0 ⌝ }
+{
+    newer(notes, till, 0)
 }
 
-pub fn holds(notes: &[u32], till: u32, version: u32) -> bool {
-    if version <= retired(notes, till) {
+fn larger(a: u32, b: u32) -> u32
+    ensures { λ r. ⌜ (a ≤ b → r ≡ b) × (b < a → r ≡ a) ⌝ }
+{
+    if b < a {
+        return a;
+    }
+    b
+}
+
+pub fn newest(notes: &[u32], till: u32) -> u32
+    ensures { λ r. ⌜ r ≡ newestOf (now (notes .entry)) till ⌝ }
+{
+    let mut most = 0;
+    let mut place = PLACES;
+    while 0 < place {
+        place -= 1;
+        most = larger(number_at(notes, till, place), most);
+    }
+    most
+}
+
+// The lesser of two, where 0 is none.
+fn lesser(a: u32, b: u32) -> u32
+    ensures { λ r. ⌜ (a ≡ 0 → r ≡ b) × (0 < a → b ≡ 0 → r ≡ a) × (0 < a → 0 < b → a ≤ b → r ≡ a) × (0 < a → 0 < b → b < a → r ≡ b) ⌝ }
+{
+    if a == 0 {
+        return b;
+    }
+    if b == 0 {
+        return a;
+    }
+    if b < a {
+        return b;
+    }
+    a
+}
+
+pub fn oldest(notes: &[u32], till: u32) -> u32
+    ensures { λ r. ⌜ r ≡ oldestOf (now (notes .entry)) till ⌝ }
+{
+    let mut least = 0;
+    let mut place = PLACES;
+    while 0 < place {
+        place -= 1;
+        least = lesser(number_at(notes, till, place), least);
+    }
+    least
+}
+
+fn place_if(n: u32, number: u32, place: u32, later: u32) -> u32
+    ensures { λ r. ⌜ (n ≡ number → r ≡ place) × (n < number → r ≡ later) × (number < n → r ≡ later) × (place ≤ 5 → later ≤ 5 → r ≤ 5) ⌝ }
+{
+    if n == number {
+        return place;
+    }
+    later
+}
+
+// The first place with this number, or 5. The first free place has the number 0.
+fn place_of(notes: &[u32], till: u32, number: u32) -> u32
+    ensures { λ r. ⌜ (r ≡ placeOf (now (notes .entry)) till number) × (r ≤ 5) ⌝ }
+{
+    let mut found = PLACES;
+    let mut place = PLACES;
+    while 0 < place {
+        place -= 1;
+        found = place_if(number_at(notes, till, place), number, place, found);
+    }
+    found
+}
+
+// No version has the number 0.
+pub fn holds(notes: &[u32], till: u32, version: u32) -> bool
+    ensures { λ r. ⌜ r ≡ isHeld (now (notes .entry)) till version ⌝ }
+{
+    if version == 0 {
         return false;
     }
-    version <= last(notes, till)
+    place_of(notes, till, version) < PLACES
 }
 
-// How many versions of the till are newer.
-pub fn newer(notes: &[u32], till: u32, version: u32) -> u32 {
-    let newest = last(notes, till);
-    if version < newest {
-        return newest - version;
+// 0 for a version not held.
+pub fn length(notes: &[u32], till: u32, version: u32) -> u32
+    ensures { λ r. ⌜ r ≡ lengthOf (now (notes .entry)) till version ⌝ }
+{
+    if !holds(notes, till, version) {
+        return 0;
     }
-    0
+    note_at(notes, length_note(till, place_of(notes, till, version)))
 }
 
 fn short(n: usize) -> u32 {
@@ -100,6 +184,13 @@ fn short(n: usize) -> u32 {
         return n as u32;
     }
     65536
+}
+
+// Where the image of a place starts.
+fn image_at(till: u32, place: u32) -> usize
+    ensures { λ r. ⌜ r ≡ (till * 5 + place) * 1280 ⌝ }
+{
+    (till as usize * 5 + place as usize) * BYTES
 }
 
 fn copy(images: &mut [u8], at: usize, image: &[u8]) {
@@ -112,37 +203,56 @@ fn copy(images: &mut [u8], at: usize, image: &[u8]) {
     }
 }
 
-// An image without room is not copied, and shows as wrong bytes later.
+fn note_version(notes: &mut [u32], till: u32, place: u32, version: u32, bytes: usize) {
+    put_note(notes, number_note(till, place), version);
+    put_note(notes, length_note(till, place), short(bytes));
+}
+
+// An image takes the first free place. One without is not kept, and shows as a wrong answer.
 pub fn file(images: &mut [u8], notes: &mut [u32], till: u32, image: &[u8]) {
     let version = std::num::wrapping_add_u32(last(notes, till), 1);
-    let at = place(till, version);
-    put_note(notes, till as usize, version);
-    put_note(notes, 2 * TILLS + at, short(image.len()));
-    copy(images, at * BYTES, image);
+    let place = place_of(notes, till, 0);
+    put_note(notes, till as usize * 11, version);
+    if place < PLACES {
+        note_version(notes, till, place, version, image.len());
+        copy(images, image_at(till, place), image);
+    }
 }
 
-pub fn strike(notes: &mut [u32], till: u32, version: u32) {
-    put_note(notes, TILLS + till as usize, version);
+// The version's place is free again.
+pub fn strike(notes: &mut [u32], till: u32, version: u32)
+    ensures { λ _. ⌜ now (notes .exit) ≡ struck (now (notes .entry)) till version ⌝ }
+{
+    if holds(notes, till, version) {
+        let at = number_note(till, place_of(notes, till, version));
+        put_note(notes, at, 0);
+    }
 }
 
-// How many bytes of an output are not the kept image's, or not as they were marked after it.
-pub fn wrong_in(images: &[u8], notes: &[u32], till: u32, version: u32, output: &[u8]) -> usize {
-    let n = length(notes, till, version) as usize;
-    let at = place(till, version) * BYTES;
-    let end = at + n;
-    if images.len() < end {
+// How many bytes of an output are not the image's that starts there, or not as they were marked after it.
+fn wrong_from(images: &[u8], at: usize, bytes: usize, output: &[u8]) -> usize {
+    if images.len() < at {
         return output.len();
     }
-    if output.len() < n {
-        return n;
+    if images.len() - at < bytes {
+        return output.len();
     }
-    let wrong = trial_compare::wrong_bytes(&images[at..end], &output[0..n]);
-    std::num::wrapping_add_usize(wrong, trial_compare::unmarked(&output[n..]))
+    if output.len() < bytes {
+        return bytes;
+    }
+    let end = at + bytes;
+    let wrong = trial_compare::wrong_bytes(&images[at..end], &output[0..bytes]);
+    std::num::wrapping_add_usize(wrong, trial_compare::unmarked(&output[bytes..]))
+}
+
+pub fn wrong_in(images: &[u8], notes: &[u32], till: u32, version: u32, output: &[u8]) -> usize {
+    let at = image_at(till, place_of(notes, till, version));
+    wrong_from(images, at, length(notes, till, version) as usize, output)
 }
 
 // Of a store in range, a block's bytes.
 pub fn block_bytes(c: Capacities) -> usize
-    ensures { λ r. ⌜ r ≤ 512 ⌝ }
+    ensures { λ r. ⌜ (r ≡ min (c .measures .bytes) 512) × (r ≤ 512) ⌝ }
 {
     let m = c.measures;
     if m.bytes < Block::MOST_BYTES {
@@ -153,7 +263,7 @@ pub fn block_bytes(c: Capacities) -> usize
 
 // An image's most bytes.
 pub fn image_bytes(c: Capacities) -> usize
-    ensures { λ r. ⌜ r ≤ 65536 ⌝ }
+    ensures { λ r. ⌜ (r ≡ mostBytes (c .blocks) (c .measures .bytes)) × (r ≤ 65536) ⌝ }
 {
     let bytes = Block(c.blocks).byte(block_bytes(c));
     if bytes < 65536 {
@@ -163,7 +273,9 @@ pub fn image_bytes(c: Capacities) -> usize
 }
 
 // The number that the page's order gives a backup, 14 and 16 apart.
-pub fn backup_refusal(c: Capacities, notes: &[u32], till: u32, bytes: usize) -> u32 {
+pub fn backup_refusal(c: Capacities, notes: &[u32], till: u32, bytes: usize) -> u32
+    ensures { λ r. ⌜ r ≡ backupRefusal (c .tills) (c .versions) (mostBytes (c .blocks) (c .measures .bytes)) (now (notes .entry)) till bytes ⌝ }
+{
     if c.tills <= till {
         return 3;
     }
@@ -182,7 +294,9 @@ pub fn backup_refusal(c: Capacities, notes: &[u32], till: u32, bytes: usize) -> 
     0
 }
 
-pub fn restore_refusal(c: Capacities, notes: &[u32], till: u32, version: u32, room: usize) -> u32 {
+pub fn restore_refusal(c: Capacities, notes: &[u32], till: u32, version: u32, room: usize) -> u32
+    ensures { λ r. ⌜ r ≡ restoreRefusal (c .tills) (now (notes .entry)) till version room ⌝ }
+{
     if c.tills <= till {
         return 3;
     }
@@ -195,15 +309,14 @@ pub fn restore_refusal(c: Capacities, notes: &[u32], till: u32, version: u32, ro
     0
 }
 
-pub fn retire_refusal(c: Capacities, notes: &[u32], till: u32, version: u32) -> u32 {
+pub fn retire_refusal(c: Capacities, notes: &[u32], till: u32, version: u32) -> u32
+    ensures { λ r. ⌜ r ≡ retireRefusal (c .tills) (now (notes .entry)) till version ⌝ }
+{
     if c.tills <= till {
         return 3;
     }
     if !holds(notes, till, version) {
         return 15;
-    }
-    if version != oldest(notes, till) {
-        return 13;
     }
     0
 }

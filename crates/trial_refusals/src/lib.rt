@@ -2,6 +2,7 @@
 ghost use Prim.Native.Nat.{_≤_};
 use layout::Capacities;
 use numbers::Measures;
+use trial_report::counts;
 
 // The n-th of the first five capacities is `value`, the others 1.
 fn with_one(n: u32, value: u32) -> Capacities {
@@ -138,93 +139,57 @@ pub fn layouts(pool: &mut [u8], table: &mut [u32], counts: &mut [u64]) {
     too_long(pool, table, counts);
 }
 
-// On a store of ones.
-fn back_up(
-    pool: &mut [u8],
-    table: &mut [u32],
-    images: &mut [u8],
-    notes: &mut [u32],
-    counts: &mut [u64],
-) {
-    let image = [65u8; 50];
-    trial_calls::back_up(
-        with_one(0, 1),
-        0,
-        &image,
-        pool,
-        table,
-        images,
-        notes,
-        counts,
-    );
+// Version n comes to a store of ones.
+fn come(n: u32, image: &[u8], pool: &mut [u8], table: &mut [u32], counts: &mut [u64]) {
+    let a = store::backup(pool, table, 0, image);
+    counts::answered(counts, counts::BACKUPS, a.refusal, 0);
+    counts::expect(counts, a.version == n);
 }
 
-// A version comes and goes.
-fn come_and_go(
-    pool: &mut [u8],
-    table: &mut [u32],
-    images: &mut [u8],
-    notes: &mut [u32],
-    counts: &mut [u64],
-) {
-    back_up(pool, table, images, notes, counts);
-    let version = trial_keeper::last(notes, 0);
-    trial_calls::retire(with_one(0, 1), 0, version, pool, table, notes, counts);
+fn go(n: u32, pool: &mut [u8], table: &mut [u32], counts: &mut [u64]) {
+    let a = store::retire(pool, table, 0, n);
+    counts::answered(counts, counts::RETIRES, a.refusal, 0);
+    counts::expect(counts, a.length == 50);
 }
 
-fn many(
-    count: u32,
-    pool: &mut [u8],
-    table: &mut [u32],
-    images: &mut [u8],
-    notes: &mut [u32],
-    counts: &mut [u64],
-) {
-    let mut i = 0;
-    while i < count {
-        come_and_go(pool, table, images, notes, counts);
-        i += 1;
+fn come_and_go(n: u32, image: &[u8], pool: &mut [u8], table: &mut [u32], counts: &mut [u64]) {
+    come(n, image, pool, table, counts);
+    go(n, pool, table, counts);
+}
+
+fn every_number(image: &[u8], pool: &mut [u8], table: &mut [u32], counts: &mut [u64]) {
+    let mut n = 0;
+    while n < 65535 {
+        n += 1;
+        come_and_go(n, image, pool, table, counts);
     }
 }
 
-fn from_the_first(
-    pool: &mut [u8],
-    table: &mut [u32],
-    images: &mut [u8],
-    notes: &mut [u32],
-    counts: &mut [u64],
-) {
-    trial_calls::lay_out(with_one(0, 1), pool, table, counts, 0);
-    many(65535, pool, table, images, notes, counts);
+fn no_more(image: &[u8], pool: &mut [u8], table: &mut [u32], counts: &mut [u64]) {
+    let before = trial_compare::sum_of(pool, table);
+    let a = store::backup(pool, table, 0, image);
+    counts::answered(counts, counts::BACKUPS, a.refusal, 12);
+    trial_judge::buffers(a.refusal, before, pool, table, counts);
 }
 
-fn one_more(
-    pool: &mut [u8],
-    table: &mut [u32],
-    images: &mut [u8],
-    notes: &mut [u32],
-    counts: &mut [u64],
-) {
-    back_up(pool, table, images, notes, counts);
-    trial_calls::list(with_one(0, 1), 0, pool, table, notes, counts);
+fn none_held(pool: &[u8], table: &[u32], counts: &mut [u64]) {
+    let a = store::listing(pool, table, 0);
+    counts::answered(counts, counts::LISTINGS, a.refusal, 0);
+    counts::expect(counts, a.newest == 0);
+    counts::expect(counts, a.last == 65535);
 }
 
 // All 65,535 numbers are given, and no more.
-fn to_the_last(
-    pool: &mut [u8],
-    table: &mut [u32],
-    images: &mut [u8],
-    notes: &mut [u32],
-    counts: &mut [u64],
-) {
-    from_the_first(pool, table, images, notes, counts);
-    one_more(pool, table, images, notes, counts);
+fn to_the_last(image: &[u8], pool: &mut [u8], table: &mut [u32], counts: &mut [u64]) {
+    trial_calls::lay_out(with_one(0, 1), pool, table, counts, 0);
+    every_number(image, pool, table, counts);
+    no_more(image, pool, table, counts);
+    none_held(pool, table, counts);
 }
 
 pub fn last_number(counts: &mut [u64]) {
+    let image = [65u8; 50];
     let mut pool = [0u8; 64];
     let mut table = [0u32; 35];
-    let mut images = [0u8; trial_keeper::IMAGES];
-    let mut notes = [0u32; trial_keeper::NOTES];
-    to_the_last(&mut pool, &mut table, &mut images, &mut notes, counts);
+    to_the_last(&image, &mut pool, &mut table, counts);
 }

@@ -30,6 +30,11 @@ pub const WRONG_ANSWERS: usize = 32;
 
 pub const ALTERED: usize = 33;
 
+// Retired with an older one held: the newest, or one between.
+pub const NEWEST: usize = 34;
+
+pub const BETWEEN: usize = 35;
+
 pub fn count_at(counts: &[u64], at: usize) -> u64
     ensures { λ r. ⌜ r ≡ getD (now (counts .entry)) at 0 ⌝ }
 {

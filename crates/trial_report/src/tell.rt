@@ -30,10 +30,20 @@ fn refusals(counts: &[u64]) {
     line(b"refused with 10:", counts::count_at(counts, 10));
     line(b"refused with 11:", counts::count_at(counts, 11));
     line(b"refused with 12:", counts::count_at(counts, 12));
-    line(b"refused with 13:", counts::count_at(counts, 13));
     line(b"refused with 14:", counts::count_at(counts, 14));
     line(b"refused with 15:", counts::count_at(counts, 15));
     line(b"refused with 16:", counts::count_at(counts, 16));
+}
+
+fn retires(counts: &[u64]) {
+    line(
+        b"newest retired, an older one held:",
+        counts::count_at(counts, counts::NEWEST),
+    );
+    line(
+        b"retired from between two held:",
+        counts::count_at(counts, counts::BETWEEN),
+    );
 }
 
 fn accepted(counts: &[u64]) {
@@ -91,6 +101,7 @@ fn verdict(counts: &[u64]) {
 
 pub fn report(counts: &[u64]) {
     accepted(counts);
+    retires(counts);
     refusals(counts);
     verdict(counts);
 }

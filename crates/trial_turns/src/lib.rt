@@ -88,7 +88,36 @@ fn back_up(
     );
 }
 
-// Mostly the oldest.
+// That at a drawn place, or the oldest if the place is free: 0 if none is held.
+fn held_of(d: Dice, till: u32, notes: &[u32]) -> u32 {
+    let version = trial_keeper::number_at(notes, till, d.pick(24, trial_keeper::PLACES));
+    if version == 0 {
+        return trial_keeper::oldest(notes, till);
+    }
+    version
+}
+
+// 0, one above the last given, or a number given before and mostly gone.
+fn other_of(d: Dice, till: u32, notes: &[u32]) -> u32 {
+    let last = trial_keeper::last(notes, till);
+    let kind = d.pick(36, 4);
+    if kind == 0 {
+        return 0;
+    }
+    if kind == 1 {
+        return std::num::wrapping_add_u32(last, 1);
+    }
+    std::num::wrapping_add_u32(d.pick(40, last), 1)
+}
+
+// Mostly a held version.
+fn version_of(d: Dice, till: u32, notes: &[u32]) -> u32 {
+    if d.pick(32, 8) == 0 {
+        return other_of(d, till, notes);
+    }
+    held_of(d, till, notes)
+}
+
 fn retire(
     c: Capacities,
     d: Dice,
@@ -98,17 +127,13 @@ fn retire(
     counts: &mut [u64],
 ) {
     let till = till_of(c, d);
-    let mut step = 1;
-    if d.pick(24, 4) == 0 {
-        step = d.pick(32, 4);
-    }
-    let version = std::num::wrapping_add_u32(trial_keeper::retired(notes, till), step);
+    let version = version_of(d, till, notes);
     trial_calls::retire(c, till, version, pool, table, notes, counts);
 }
 
 // The whole output, a byte too few, or just enough.
 fn room_of(d: Dice, bytes: u32) -> usize {
-    let kind = d.pick(32, 4);
+    let kind = d.pick(20, 4);
     if kind == 0 {
         return trial_calls::ROOM;
     }
@@ -130,7 +155,7 @@ fn restore(
     counts: &mut [u64],
 ) {
     let till = till_of(c, d);
-    let version = std::num::wrapping_add_u32(trial_keeper::retired(notes, till), d.pick(24, 7));
+    let version = version_of(d, till, notes);
     let room = room_of(d, trial_keeper::length(notes, till, version));
     trial_calls::restore(c, till, version, room, pool, table, images, notes, counts);
 }

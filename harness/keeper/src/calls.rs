@@ -38,16 +38,27 @@ pub struct Style {
     pub kinds: usize,
 }
 
+/// Which versions a list mostly retires.
+#[derive(Clone, Copy, Debug)]
+enum Habit {
+    Oldest,
+    /// One after the other from the newest down, where retires follow each other.
+    Newest,
+    AnyHeld,
+}
+
 /// Random calls, most of them such as a box makes, some with wrong arguments.
 pub struct List {
     capacities: Capacities,
     style: Style,
+    habit: Habit,
     images: Images,
 }
 
 impl List {
     pub fn new(random: &mut Random, capacities: Capacities, style: Style) -> List {
-        List { capacities, style, images: Images::new(random, capacities, style.kinds) }
+        let habit = *random.pick(&[Habit::Oldest, Habit::Newest, Habit::AnyHeld, Habit::AnyHeld]);
+        List { capacities, style, habit, images: Images::new(random, capacities, style.kinds) }
     }
 
     pub fn next(&self, random: &mut Random, keeper: &Keeper) -> Call {
@@ -63,10 +74,20 @@ impl List {
             9 => self.refused_lay_out(random),
             10..=29 => self.restore(random, till_number, till, wrong),
             _ if random.percent(retire) => {
-                let version = if wrong || random.percent(5) { any_version(random, till) } else { till.oldest() };
+                let version = self.retired_version(random, till, wrong);
                 Call::Retire { till: till_number, version }
             }
             _ => Call::Backup { till: till_number, image: self.image(random, keeper, till, wrong) },
+        }
+    }
+
+    fn retired_version(&self, random: &mut Random, till: &Till, wrong: bool) -> u32 {
+        match self.habit {
+            _ if wrong || random.percent(5) => any_version(random, till),
+            _ if random.percent(15) => held_version(random, till),
+            Habit::Oldest => till.oldest(),
+            Habit::Newest => till.newest(),
+            Habit::AnyHeld => held_version(random, till),
         }
     }
 
@@ -84,7 +105,7 @@ impl List {
 
     fn restore(&self, random: &mut Random, number: u32, till: &Till, wrong: bool) -> Call {
         let version = if wrong { any_version(random, till) } else { held_version(random, till) };
-        let length = till.held.get(&version).map_or(0, Vec::len);
+        let length = till.image(version).map_or(0, <[u8]>::len);
         let block = self.capacities.block_bytes as usize;
         let room = match random.below(6) {
             0 => length.saturating_sub(1 + random.below(block)),
@@ -124,15 +145,21 @@ impl List {
     }
 }
 
+/// 0 if none is held.
 fn held_version(random: &mut Random, till: &Till) -> u32 {
-    till.oldest() + random.below(till.held.len().max(1)) as u32
+    till.held.keys().nth(random.below(till.held.len().max(1))).copied().unwrap_or(0)
 }
 
+/// Held or not: beside what is held, in its gaps, given once or never.
 fn any_version(random: &mut Random, till: &Till) -> u32 {
-    let near = [0, till.oldest().wrapping_sub(1), till.newest(), till.last + 1, LAST_NUMBER, u32::MAX];
-    if random.percent(50) {
-        *random.pick(&near)
-    } else {
-        held_version(random, till)
+    let held = held_version(random, till);
+    let near = [0, till.oldest().wrapping_sub(1), till.newest(), till.newest() + 1, till.last, till.last + 1];
+    match random.below(8) {
+        0..=2 => *random.pick(&near),
+        3 => *random.pick(&[LAST_NUMBER, u32::MAX]),
+        4 => random.below(till.last as usize + 2) as u32,
+        5 => held + 1,
+        6 => held.saturating_sub(1),
+        _ => held,
     }
 }

@@ -2,6 +2,7 @@
 //! have left the same pool, table and output, and both must be what the keeper knows.
 
 use crate::events::Events;
+use crate::words::Words;
 use crate::{Call, Keeper};
 use std::collections::BTreeSet;
 use terms::{Calls, Capacities, Refusal, LAST_NUMBER};
@@ -79,13 +80,24 @@ impl Course {
         self.made += 1;
         self.accepted += accepted as usize;
         if accepted && matches!(call, Call::Backup { .. } | Call::Retire { .. }) {
-            self.events += Events::between(&self.table, &self.lanes[0].table, self.capacities);
+            self.events += self.events_of(call);
             self.pool.copy_from_slice(&self.lanes[0].pool);
             self.table.copy_from_slice(&self.lanes[0].table);
         }
         self.lanes_agree(call);
         self.judge(call, first, &output);
         first
+    }
+
+    /// What an accepted backup or retire has done, with the table before it still at hand.
+    fn events_of(&self, call: &Call) -> Events {
+        let mut events = Events::between(&self.table, &self.lanes[0].table, self.capacities);
+        if let Call::Retire { till, version } = *call {
+            // Counts rise by pointers taken over, and not by a new segment.
+            events.shared = 0;
+            events += Events::taken_over(&self.table, self.capacities, till as usize, version);
+        }
+        events
     }
 
     /// All stores have the buffers that the last accepted call left.
@@ -137,7 +149,7 @@ impl Course {
 
     fn judge_restore(&self, call: &Call, number: u32, version: u32, answer: [u32; 4], output: &[u8]) {
         let till = &self.keeper.tills()[number as usize];
-        let image = &till.held[&version];
+        let image = till.image(version).expect("the keeper holds it");
         assert_eq!(answer[1] as usize, image.len(), "{}", self.place(call));
         assert!(output[..image.len()] == image[..], "{}: another image", self.place(call));
         let later = &output[image.len()..];
@@ -157,17 +169,12 @@ impl Course {
             Call::Backup { till, image } => self.backup_refusal(*till, image.len()),
             Call::Restore { till, version, room } => {
                 let Some(till) = self.keeper.till(*till) else { return Some(Refusal::NoSuchTill) };
-                let Some(image) = till.held.get(version) else { return Some(Refusal::NotHeld) };
+                let Some(image) = till.image(*version) else { return Some(Refusal::NotHeld) };
                 (*room < image.len()).then_some(Refusal::ShortOutput)
             }
             Call::Retire { till, version } => {
                 let Some(till) = self.keeper.till(*till) else { return Some(Refusal::NoSuchTill) };
-                let is_held = till.held.contains_key(version);
-                if is_held {
-                    (*version != till.oldest()).then_some(Refusal::NotOldest)
-                } else {
-                    Some(Refusal::NotHeld)
-                }
+                till.image(*version).is_none().then_some(Refusal::NotHeld)
             }
         }
     }
@@ -196,12 +203,12 @@ fn lane(store: Box<dyn Calls>, capacities: Capacities) -> Lane {
 fn keeper_of(store: &dyn Calls, pool: &[u8], table: &[u32], capacities: Capacities) -> Keeper {
     let mut keeper = Keeper::new(capacities.tills);
     for till in 0..capacities.tills {
-        let [0, oldest, newest, last] = store.listing(pool, table, till) else { panic!("an unsound store") };
-        keeper.begin(till, if newest == 0 { last } else { oldest - 1 });
-        for version in (oldest..=newest).filter(|&version| version != 0) {
+        let [0, .., last] = store.listing(pool, table, till) else { panic!("an unsound store") };
+        keeper.begin(till, last);
+        for version in Words::new(table, capacities).numbers(till as usize) {
             let mut image = vec![0; capacities.image_bytes()];
             let [0, length, _] = store.restore(pool, table, till, version, &mut image) else { panic!("not restored") };
-            keeper.file(till, &image[..length as usize]);
+            keeper.find(till, version, &image[..length as usize]);
         }
     }
     keeper

@@ -27,10 +27,13 @@ pub fn days_of(store: &dyn Calls, bytes: u32) {
     let mut output = vec![0; 8 * bytes as usize];
     assert_eq!(one.restore(1, &mut output), [0, 8 * bytes, 3]);
     assert_eq!(output, letters("ABCDEFGH", bytes));
-    assert_eq!(one.retire(3), [13, 0]);
+    let mut other = one.clone();
     assert_eq!(one.retire(1), [0, 8 * bytes]);
     assert_eq!((one.tally(), one.picture()), ([0, 9, 2, 9], "ABCDEFGH.........Z".into()));
     assert_eq!(one.listing(), [0, 2, 4, 4]);
+    assert_eq!(other.retire(3), [0, 8 * bytes]);
+    assert_eq!((other.tally(), other.picture()), ([0, 10, 3, 10], "ABCDEFGH........HZ".into()));
+    assert_eq!(other.listing(), [0, 1, 4, 4]);
 }
 
 /// The table of docs/FORMAT.md's example, with blocks of so many bytes.

@@ -1,6 +1,7 @@
 //! What happened to the records in a call, told from the table before and after it: so that a test can show that its
 //! lists went every way of the method.
 
+use crate::words::{kind, Kind, Words};
 use std::ops::AddAssign;
 use terms::Capacities;
 
@@ -18,6 +19,10 @@ pub struct Events {
     pub stuck: usize,
     /// Records that lost all positions.
     pub freed: usize,
+    /// Direct pointers that the older neighbour of a retired version has taken over.
+    pub direct: usize,
+    /// Indirect ones likewise.
+    pub indirect: usize,
 }
 
 impl AddAssign for Events {
@@ -28,12 +33,15 @@ impl AddAssign for Events {
         self.rebuilt += other.rebuilt;
         self.stuck += other.stuck;
         self.freed += other.freed;
+        self.direct += other.direct;
+        self.indirect += other.indirect;
     }
 }
 
 impl Events {
-    pub fn each(&self) -> [usize; 6] {
-        [self.taken, self.shared, self.cleared, self.rebuilt, self.stuck, self.freed]
+    pub fn each(&self) -> [usize; 8] {
+        let Events { taken, shared, cleared, rebuilt, stuck, freed, direct, indirect } = *self;
+        [taken, shared, cleared, rebuilt, stuck, freed, direct, indirect]
     }
 
     /// From the table before and after a call.
@@ -45,6 +53,22 @@ impl Events {
             events += one(old, new, capacities);
         }
         events
+    }
+
+    /// What a held version's older neighbour takes over when it is retired, from the table before.
+    pub fn taken_over(before: &[u32], capacities: Capacities, till: usize, version: u32) -> Events {
+        let words = Words::new(before, capacities);
+        let slot = words.numbers(till).iter().position(|&number| number == version).unwrap_or(0);
+        let (older, retired) = match slot {
+            0 => return Events::default(),
+            _ => (words.pointers(till, slot - 1), words.pointers(till, slot)),
+        };
+        let named = |pointer: &u32| match kind(*pointer) {
+            Kind::Indirect(block) => Some(kind(retired[block])),
+            _ => None,
+        };
+        let direct = older.iter().filter_map(named).filter(|&kind| kind == Kind::Direct).count();
+        Events { direct, indirect: older.iter().filter_map(named).count() - direct, ..Events::default() }
     }
 }
 
@@ -62,5 +86,6 @@ fn one(old: &[u32], new: &[u32], capacities: Capacities) -> Events {
         rebuilt: (r > 0 && kept != 0 && moved) as usize,
         stuck: (r > 0 && kept != 0 && !few && !moved) as usize,
         freed: (held != 0 && new[0] == 0) as usize,
+        ..Events::default()
     }
 }

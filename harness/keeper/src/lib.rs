@@ -9,10 +9,12 @@ pub mod dense;
 pub mod events;
 pub mod images;
 pub mod inspect;
+pub mod retires;
 pub mod settings;
 pub mod sketch;
 pub mod trial;
 pub mod whole;
+pub mod words;
 
 mod random;
 

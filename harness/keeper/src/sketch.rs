@@ -1,5 +1,5 @@
 //! Any sound stores, most of them such as no list of calls leads to: records of equal content, cells in any order,
-//! direct pointers where indirect ones would do, numbers that begin anywhere.
+//! direct pointers where indirect ones would do, numbers that begin anywhere and have gaps.
 
 use crate::Random;
 use terms::{Capacities, LAST_NUMBER};
@@ -19,6 +19,7 @@ enum Pointer {
 }
 
 struct Version {
+    number: u32,
     length: usize,
     pointers: Vec<Pointer>,
 }
@@ -76,15 +77,19 @@ impl Sketch {
         let last = *random.pick(&[0, 1, 2, 3, 4, 9, 1_000, LAST_NUMBER - 1, LAST_NUMBER]);
         let held = random.below(1 + self.capacities.versions.min(last) as usize);
         let mut versions: Vec<Version> = Vec::new();
-        for _ in 0..held {
+        let mut above = last as usize + 1;
+        for older in (0..held).rev() {
+            // Each older one needs a number too.
+            let number = if random.percent(50) { above - 1 } else { random.between(older + 1, above - 1) };
             let newer = versions.last().map_or(&[][..], |newer| &newer.pointers);
-            let version = self.draw_version(random, newer);
+            let version = self.draw_version(random, number as u32, newer);
             versions.push(version);
+            above = number;
         }
         Till { last, versions }
     }
 
-    fn draw_version(&self, random: &mut Random, newer: &[Pointer]) -> Version {
+    fn draw_version(&self, random: &mut Random, number: u32, newer: &[Pointer]) -> Version {
         let length = random.between(1, self.capacities.image_bytes());
         let length = if random.percent(50) { length.next_multiple_of(self.bytes()) } else { length };
         let (directs, indirects) = (random.below(101), random.below(101));
@@ -100,7 +105,7 @@ impl Sketch {
                 Pointer::Null
             }
         };
-        Version { length, pointers: (0..length.div_ceil(self.bytes())).map(|_| draw()).collect() }
+        Version { number, length, pointers: (0..length.div_ceil(self.bytes())).map(|_| draw()).collect() }
     }
 
     /// Counts every direct pointer.
@@ -165,14 +170,14 @@ impl Sketch {
         let [_, versions, blocks, ..] = self.capacities.to_array().map(|one| one as usize);
         let mut words = self.capacities.header().to_vec();
         for till in &self.tills {
-            let held = till.versions.len() as u32;
-            words.extend([till.last, held, 0, 0]);
-            for (version, number) in till.versions.iter().rev().zip(till.last + 1 - held..) {
-                words.extend([number, version.length as u32, 0]);
+            let held = till.versions.len();
+            words.extend([till.last, held as u32, 0, 0]);
+            for version in till.versions.iter().rev() {
+                words.extend([version.number, version.length as u32, 0]);
                 words.extend(version.pointers.iter().map(pointer_word));
                 words.extend(vec![0; blocks - version.pointers.len()]);
             }
-            words.extend(vec![0; (versions - held as usize) * (3 + blocks)]);
+            words.extend(vec![0; (versions - held) * (3 + blocks)]);
         }
         self.records.iter().for_each(|record| words.extend(record_words(record)));
         words

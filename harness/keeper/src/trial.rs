@@ -2,6 +2,7 @@
 
 use terms::{Calls, Capacities};
 
+#[derive(Clone)]
 pub struct Trial<'a> {
     store: &'a dyn Calls,
     capacities: Capacities,
@@ -41,6 +42,17 @@ impl<'a> Trial<'a> {
         self.store.restore(&self.pool, &self.table, 0, version, output)
     }
 
+    /// A version's image, in letters, and the longest chain.
+    pub fn shown(&self, version: u32) -> (String, u32) {
+        let bytes = self.capacities.block_bytes as usize;
+        let mut output = vec![0; self.capacities.image_bytes()];
+        let [refusal, length, hops] = self.restore(version, &mut output);
+        assert_eq!(refusal, 0, "restore of {version}");
+        let text: String = output[..length as usize].chunks(bytes).map(|block| block[0] as char).collect();
+        assert_eq!(letters(&text, bytes as u32), output[..length as usize], "version {version}");
+        (text, hops)
+    }
+
     pub fn retire(&mut self, version: u32) -> [u32; 2] {
         self.store.retire(&mut self.pool, &mut self.table, 0, version)
     }
@@ -58,6 +70,12 @@ impl<'a> Trial<'a> {
         let shown = |cell: &[u8]| if cell[0] == 0 { '.' } else { cell[0] as char };
         let cells = self.pool.chunks(self.capacities.block_bytes as usize);
         cells.map(shown).collect::<String>().trim_end_matches('.').to_string()
+    }
+
+    /// The pointer words of a slot's first blocks, as many as wanted.
+    pub fn pointers(&self, slot: usize, blocks: usize) -> &[u32] {
+        let at = 12 + slot * (3 + self.capacities.blocks as usize) + 3;
+        &self.table[at..at + blocks]
     }
 
     /// Where the records begin.

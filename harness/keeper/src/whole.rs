@@ -11,7 +11,15 @@ pub struct Keeper {
 #[derive(Clone, Default)]
 pub struct Till {
     pub last: u32,
-    pub held: BTreeMap<u32, Vec<u8>>,
+    pub held: BTreeMap<u32, Kept>,
+}
+
+/// A held version.
+#[derive(Clone)]
+pub struct Kept {
+    pub image: Vec<u8>,
+    /// The number of its till's newest version when it was taken, 0 if none was held.
+    pub previous: u32,
 }
 
 impl Keeper {
@@ -27,26 +35,32 @@ impl Keeper {
         self.tills.get(till as usize)
     }
 
-    /// A till whose numbers begin after this one.
+    /// A till whose last number was this one.
     pub fn begin(&mut self, till: u32, last: u32) {
         self.tills[till as usize].last = last;
+    }
+
+    /// A version that is there from the beginning. Nobody knows which one was the newest when it was taken.
+    pub fn find(&mut self, till: u32, version: u32, image: &[u8]) {
+        self.tills[till as usize].held.insert(version, Kept { image: image.to_vec(), previous: 0 });
     }
 
     /// An accepted backup files the image under the till's next number.
     pub fn file(&mut self, till: u32, image: &[u8]) {
         let till = &mut self.tills[till as usize];
+        let previous = till.newest();
         till.last += 1;
-        till.held.insert(till.last, image.to_vec());
+        till.held.insert(till.last, Kept { image: image.to_vec(), previous });
     }
 
     /// An accepted retire strikes the version named.
     pub fn strike(&mut self, till: u32, version: u32) -> Option<Vec<u8>> {
-        self.tills[till as usize].held.remove(&version)
+        self.tills[till as usize].held.remove(&version).map(|kept| kept.image)
     }
 
     /// All images' bytes.
     pub fn bytes(&self) -> usize {
-        self.tills.iter().flat_map(|till| till.held.values()).map(Vec::len).sum()
+        self.tills.iter().flat_map(|till| till.held.values()).map(|kept| kept.image.len()).sum()
     }
 }
 
@@ -60,7 +74,11 @@ impl Till {
     }
 
     pub fn newest_image(&self) -> Option<&[u8]> {
-        self.held.last_key_value().map(|(_, image)| image.as_slice())
+        self.held.last_key_value().map(|(_, kept)| kept.image.as_slice())
+    }
+
+    pub fn image(&self, version: u32) -> Option<&[u8]> {
+        self.held.get(&version).map(|kept| kept.image.as_slice())
     }
 
     /// How many held versions are newer than this one.

@@ -2,7 +2,7 @@
 
 use std::fmt;
 
-/// A refusal, with the page's number as its value and the page's words as its text.
+/// A refusal, with the page's number as its value and the page's words as its text. 13 is no longer answered.
 #[derive(Clone, Copy, Debug, PartialEq, Eq, PartialOrd, Ord, Hash)]
 #[repr(u32)]
 pub enum Refusal {
@@ -14,7 +14,6 @@ pub enum Refusal {
     Unsound = 10,
     TillFull = 11,
     NumbersSpent = 12,
-    NotOldest = 13,
     NoRecord = 14,
     NotHeld = 15,
     NoRun = 16,
@@ -22,7 +21,7 @@ pub enum Refusal {
 }
 
 impl Refusal {
-    pub const ALL: [Refusal; 13] = [
+    pub const ALL: [Refusal; 12] = [
         Refusal::Capacity,
         Refusal::Lengths,
         Refusal::NoSuchTill,
@@ -31,7 +30,6 @@ impl Refusal {
         Refusal::Unsound,
         Refusal::TillFull,
         Refusal::NumbersSpent,
-        Refusal::NotOldest,
         Refusal::NoRecord,
         Refusal::NotHeld,
         Refusal::NoRun,
@@ -59,7 +57,6 @@ impl Refusal {
             Refusal::Unsound => "pool and table are not a sound store",
             Refusal::TillFull => "the till holds its full number of versions",
             Refusal::NumbersSpent => "its last given number is 65,535",
-            Refusal::NotOldest => "retire of a held version that is not its till's oldest",
             Refusal::NoRecord => "a segment to be placed in step 1 finds no free record",
             Refusal::NotHeld => "that version is not held",
             Refusal::NoRun => "a segment to be placed finds no run",
@@ -85,7 +82,7 @@ mod tests {
         for refusal in Refusal::ALL {
             assert_eq!(Refusal::from_number(refusal.number()), Some(refusal));
         }
-        for number in [0, 6, 7, 8, 9, 17, 26, 28, u32::MAX] {
+        for number in [0, 6, 7, 8, 9, 13, 17, 26, 28, u32::MAX] {
             assert_eq!(Refusal::from_number(number), None);
         }
     }

@@ -3,7 +3,7 @@
 use crate::arguments::Named;
 use crate::names::{quoted, shown};
 use crate::words::counted;
-use crate::{image, Failure};
+use crate::{image, numbers, table, Failure};
 use lurdempos::{Capacities, Listing, Refusal, Store, LAST_NUMBER, LONGEST_IMAGE};
 use std::collections::HashSet;
 use std::path::Path;
@@ -47,7 +47,6 @@ impl<'a> Call<'a> {
             Refusal::ImageLength => self.image_length(),
             Refusal::TillFull => self.till_full(),
             Refusal::NumbersSpent => self.numbers_spent(),
-            Refusal::NotOldest => self.not_oldest(),
             Refusal::NotHeld => self.not_held(),
             Refusal::NoRecord | Refusal::NoRun => self.no_room(refusal),
             Refusal::Unsound => return unsound(refusal, self.file),
@@ -85,23 +84,17 @@ impl<'a> Call<'a> {
         (here, "go on in a new store, made with `lurdempos init`; this one still restores.".into())
     }
 
-    fn not_oldest(&self) -> (String, String) {
-        let oldest = self.listing().oldest;
-        let here = format!("version {} of till {} has to wait for version {oldest}", self.version, self.till);
-        (here, format!("retire the oldest first: `{}`.", self.retire_oldest()))
-    }
-
     fn not_held(&self) -> (String, String) {
         let (file, till) = (quoted(self.file), self.till);
-        let here = match self.listing() {
-            Listing { oldest: 0, .. } => {
+        let here = match &table::numbers(self.store, till)[..] {
+            [] => {
                 return (
                     format!("till {till} holds no version"),
                     format!("see what is held with `lurdempos list {file}`."),
                 );
             }
-            Listing { oldest, newest, .. } if oldest == newest => format!("till {till} holds version {oldest} alone"),
-            Listing { oldest, newest, .. } => format!("till {till} holds versions {oldest} to {newest}"),
+            [only] => format!("till {till} holds version {only} alone"),
+            held => format!("till {till} holds {}, and not {}", numbers::shown(held), self.version),
         };
         (here, format!("choose one that `lurdempos list {file} {till}` shows."))
     }

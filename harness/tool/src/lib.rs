@@ -21,6 +21,7 @@ mod locks;
 mod manual;
 mod memory;
 mod names;
+mod numbers;
 mod outline;
 mod output;
 mod palette;

@@ -113,6 +113,13 @@ pub fn held(store: &Store, till: u32) -> u32 {
     store.table().get(at).copied().unwrap_or(0)
 }
 
+/// The numbers of the versions that a till holds, the oldest first.
+pub fn numbers(store: &Store, till: u32) -> Vec<u32> {
+    let layout = Layout { capacities: store.capacities() };
+    let number = |slot| store.table().get(layout.slot(till as usize, slot)).copied();
+    (0..held(store, till) as usize).filter_map(number).collect()
+}
+
 /// The held versions of each till, the oldest first.
 pub fn tills(store: &Store) -> Vec<Vec<Version>> {
     let (tills, records) = (store.capacities().tills, records(store));

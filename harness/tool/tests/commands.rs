@@ -99,6 +99,61 @@ fn json_for_programs() {
     assert!(String::from_utf8_lossy(&out.stdout).starts_with("{\"file\": \"a\\\"b\\\\c\\u000ad\", \"tills\": ["));
 }
 
+/// Any version goes; the others keep their numbers and images, and the numbers go on.
+#[test]
+fn any_version_goes() {
+    let bench = Bench::with_store("gaps");
+    let texts = ["ABCDEFGH", "ABCDEFGZ", "ABCDEFGH", "ABCDEFGH"];
+    texts.iter().for_each(|text| assert_eq!(bench.fed("backup s 0 -", &letters(text)).status, Some(0)));
+    let mut store = Store::new(Capacities::new(2, 4, 16, 8, 64)).unwrap();
+    texts.iter().for_each(|text| assert!(store.backup(0, &letters(text)).is_ok()));
+    assert_eq!(bench.run("retire s 0 3").accepted().out, "till 0: version 3 retired, 512 bytes\n");
+    assert_eq!(store.retire(0, 3), Ok(512));
+    assert_eq!(bench.read("s"), file_of(store.pool(), store.table()));
+    let listed = "till 0: versions 1 to 2, 4\n  \
+                    version   bytes  longest chain  direct  indirect  null\n        \
+                          1     512              2       1         7     0\n        \
+                          2     512              1       1         7     0\n        \
+                          4     512              0       8         0     0\n";
+    assert_eq!(bench.run("list s 0").accepted().out, listed);
+    bench.run("retire s 0 4").accepted();
+    bench.run("list s 0").accepted().says("till 0: versions 1 to 2; the last was 4\n");
+    bench.run("restore s 0 newest out").accepted().says("version 2 restored").says("longest chain 0");
+    assert_eq!(bench.read("out"), letters("ABCDEFGZ"));
+    bench.run("verify s 0 newest out").accepted();
+    bench.fed("backup s 0 - --unless-same", &letters("ABCDEFGZ")).accepted().says("the same as version 2");
+    bench.fed("backup s 0 -", &letters("AZ")).accepted().says("version 5 kept");
+    let json = bench.run("list s 0 --json");
+    json.accepted().says("{\"till\": 0, \"oldest\": 1, \"newest\": 5, \"last\": 5, \"versions\": [\n");
+    for version in [1, 2, 5] {
+        json.says(&format!("{{\"version\": {version}, "));
+    }
+    assert_eq!(json.out.matches("{\"version\": ").count(), 3);
+    assert_eq!(bench.run("retire s 0 --keep 1").accepted().out, "till 0: versions 1 to 2 retired, 1024 bytes\n");
+    assert_eq!(bench.run("list s 0").accepted().out.lines().next(), Some("till 0: version 5"));
+}
+
+/// With gaps `--keep` and `--rotate` still take the oldest.
+#[test]
+fn the_oldest_go_first_also_with_gaps() {
+    let bench = Bench::with_store("gaps-keep");
+    bench.write("image", letters("AB"));
+    (0..4).for_each(|_| assert_eq!(bench.run("backup s 0 image").status, Some(0)));
+    bench.run("retire s 0 2").accepted();
+    bench.run("backup s 0 image").accepted().says("version 5 kept");
+    let rotated = "till 0: version 1 retired, 128 bytes\ntill 0: version 6 kept, 128 bytes\n";
+    assert_eq!(bench.run("backup s 0 image --rotate").accepted().out, rotated);
+    bench.run("retire s 0 4").accepted();
+    bench.run("list s 0").accepted().says("till 0: versions 3, 5 to 6\n");
+    let retired = bench.run("retire s 0 --keep 1 --json");
+    retired.accepted().says("\"retired\": [\n  {\"version\": 3, \"bytes\": 128},\n  {\"version\": 5, \"bytes\": 128}]");
+    assert_eq!(bench.run("list s 0").accepted().out.lines().next(), Some("till 0: version 6"));
+    (0..3).for_each(|_| assert_eq!(bench.run("backup s 0 image").status, Some(0)));
+    bench.run("retire s 0 8").accepted();
+    let retired = "till 0: versions 6 to 7, 9 retired, 384 bytes\n";
+    assert_eq!(bench.run("retire s 0 --keep 0").accepted().out, retired);
+}
+
 /// The chains that `list` reads from the words are those that the library answers.
 #[test]
 fn chains_are_the_librarys() {
@@ -111,12 +166,16 @@ fn chains_are_the_librarys() {
         let till = random.below(3) as u32;
         let (kept, answer) = (bench.fed(&format!("backup s {till} -"), &image), store.backup(till, &image));
         assert_eq!(kept.status == Some(0), answer.is_ok(), "{kept:?}");
+        let (till, version) = (random.below(3) as u32, random.below(40) as u32);
+        let (gone, answer) = (bench.run(&format!("retire s {till} {version}")), store.retire(till, version));
+        assert_eq!(gone.status == Some(0), answer.is_ok(), "{gone:?}");
     }
+    assert_eq!(bench.read("s"), file_of(store.pool(), store.table()));
     let listed = bench.run("list s --json").out;
     for till in 0..3 {
         let numbers = store.listing(till).unwrap();
         for version in numbers.oldest..=numbers.newest {
-            let restored = store.restore(till, version, &mut [0; 2048]).unwrap();
+            let Ok(restored) = store.restore(till, version, &mut [0; 2048]) else { continue };
             let line =
                 format!("{{\"version\": {version}, \"bytes\": {}, \"chain\": {},", restored.length, restored.hops);
             let part = listed.split("{\"till\": ").find(|part| part.starts_with(&format!("{till},"))).unwrap();
@@ -133,7 +192,12 @@ fn the_demo_is_the_same_every_time_and_leaves_nothing() {
         common::Run::of("demo", output)
     };
     let first = play(&bench);
-    first.accepted().says("the same, byte for byte").says("refused, 13").says("598,824");
+    first
+        .accepted()
+        .says("the same, byte for byte")
+        .says("version 3 retired")
+        .says("holds versions 1 to 2, 4 to 6, and not 3")
+        .says("598,824");
     assert_eq!(first.out, play(&bench).out);
     assert!(bench.names().is_empty(), "{:?}", bench.names());
     let missing = bench.command("demo").env("TMPDIR", bench.path("missing")).output().unwrap();

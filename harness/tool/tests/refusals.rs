@@ -101,19 +101,23 @@ fn spent_numbers_12() {
 }
 
 #[test]
-fn retires_13_and_15() {
-    let bench = Bench::with_store("refusal-13");
+fn versions_not_held_15() {
+    let bench = Bench::with_store("refusal-15");
     bench.write("image", letters("A"));
     refused(&bench, "retire s 0 1", 15, &["till 0 holds no version", "`lurdempos list s`"]);
     bench.run("backup s 0 image").accepted();
     refused(&bench, "retire s 0 2", 15, &["till 0 holds version 1 alone", "`lurdempos list s 0`"]);
     bench.run("backup s 0 image").accepted();
     bench.run("backup s 0 image").accepted();
-    refused(&bench, "retire s 0 3", 13, &["version 3 of till 0 has to wait for version 1", "`lurdempos retire s 0 1`"]);
     for version in ["0", "4", "65536", "4294967295"] {
-        refused(&bench, &format!("retire s 0 {version}"), 15, &["till 0 holds versions 1 to 3"]);
-        refused(&bench, &format!("restore s 0 {version} out"), 15, &["till 0 holds versions 1 to 3"]);
-        refused(&bench, &format!("restore s 0 {version} -"), 15, &["till 0 holds versions 1 to 3"]);
+        let words = [&format!("till 0 holds versions 1 to 3, and not {version}")[..]];
+        refused(&bench, &format!("retire s 0 {version}"), 15, &words);
+        refused(&bench, &format!("restore s 0 {version} out"), 15, &words);
+        refused(&bench, &format!("restore s 0 {version} -"), 15, &words);
+    }
+    bench.run("retire s 0 2").accepted();
+    for line in ["retire s 0 2", "restore s 0 2 out", "verify s 0 2 image", "diff s 0 2 3", "diff s 0 newest 2"] {
+        refused(&bench, line, 15, &["till 0 holds versions 1, 3, and not 2", "`lurdempos list s 0`"]);
     }
     bench.write("out", "an old output");
     refused(&bench, "restore s 1 1 out", 15, &["till 1 holds no version"]);

@@ -114,7 +114,9 @@ fn dry_runs() {
     let same = bench.fed("backup s 0 - --unless-same --dry-run", &letters("ABCDEFGH"));
     same.accepted().says("the same as version 4, nothing would be kept; cells 11 before, 11 after, of 64");
     bench.run("backup s 0 image --dry-run").fails(1, &["refused, 11"]);
-    bench.run("retire s 0 3 --dry-run").fails(1, &["refused, 13"]);
+    bench.run("retire s 0 5 --dry-run").fails(1, &["refused, 15"]);
+    let retired = bench.run("retire s 0 3 --dry-run");
+    retired.accepted().says("till 0: version 3 would be retired, 512 bytes; cells 11 before, 11 after, of 64\n");
     let retired = bench.run("retire s 0 --keep 1 --dry-run");
     retired.accepted().says("till 0: versions 1 to 3 would be retired, 1536 bytes; cells 11 before, 8 after, of 64");
     // A dry run needs no lock.
@@ -229,4 +231,44 @@ fn growing_a_large_store() {
     bench.run("export-all s old").accepted();
     bench.run("export-all new new-images").accepted();
     bench.shell("diff -r old new-images").accepted();
+}
+
+/// Numbers stay as they are, with their gaps; the numbers go on where they were.
+#[test]
+fn growing_and_writing_out_with_gaps() {
+    let bench = Bench::new("grow-gaps");
+    bench.run("init s --tills 3 --versions 8 --image-bytes 2000 --records 200 --cells 1500").accepted();
+    let mut random = common::Random(9);
+    for n in 0..24 {
+        let image: Vec<u8> = (0..1 + random.below(30)).flat_map(|_| [random.below(40) as u8; 64]).collect();
+        bench.fed(&format!("backup s {} -", n % 3), &image).accepted();
+    }
+    for (till, version) in [(0, 1), (0, 4), (0, 5), (1, 8), (1, 7), (1, 2), (2, 3)] {
+        bench.run(&format!("retire s {till} {version}")).accepted();
+    }
+    let heads = [
+        "till 0: versions 2 to 3, 6 to 8",
+        "till 1: versions 1, 3 to 6; the last was 8",
+        "till 2: versions 1 to 2, 4 to 8",
+    ];
+    let tills = |name: &str| {
+        let listed = bench.run(&format!("list {name}")).accepted().out.clone();
+        listed.lines().filter(|line| line.starts_with("till ")).map(String::from).collect::<Vec<String>>()
+    };
+    assert_eq!(tills("s"), heads);
+    bench.run("grow s new --versions 64 --segment-blocks 4").accepted().says("new: 17 versions of s");
+    assert_eq!(tills("new"), heads);
+    bench.run("export-all s old").accepted().says("17 versions written");
+    bench.run("export-all new new-images").accepted();
+    bench.shell("diff -r old new-images").accepted();
+    assert!(bench.path("old/till-0-version-6.img").exists() && !bench.path("old/till-0-version-5.img").exists());
+    bench.run("salvage s salvaged").accepted().says("17 versions: 17 certain");
+    bench.shell("rm salvaged/report.txt && diff -r old salvaged").accepted();
+    for name in ["s", "new"] {
+        bench.run(&format!("verify {name} 1 newest old/till-1-version-6.img")).accepted().says("version 6");
+        assert_eq!(bench.run(&format!("diff {name} 0 3 6")).status, Some(5));
+        bench.run(&format!("diff {name} 0 3 5")).fails(1, &["holds versions 2 to 3, 6 to 8, and not 5"]);
+        bench.run(&format!("backup {name} 1 old/till-1-version-1.img")).accepted().says("version 9 kept");
+        bench.run(&format!("map {name} --output {name}.svg")).accepted();
+    }
 }

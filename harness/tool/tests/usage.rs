@@ -161,13 +161,13 @@ fn names_in_messages() {
     bench.run("backup s 0 image").accepted();
     let said = |words: &[&str]| common::Run::of("", bench.command("").args(words).output().unwrap());
     std::fs::copy(bench.path("s"), bench.path("-x")).unwrap();
-    said(&["retire", "--", "-x", "0", "2"]).fails(1, &["`lurdempos retire ./-x 0 1`"]);
+    said(&["retire", "--", "-x", "0", "3"]).fails(1, &["`lurdempos list ./-x 0`"]);
     bench.run("retire ./-x 0 1").accepted().says("version 1 retired, 1 byte\n");
     said(&["check", "-x"]).fails(2, &["unknown option -x", "written ./-x, or put after `--`"]);
     let odd = "a\u{1b}[31m\nb";
     std::fs::copy(bench.path("s"), bench.path(odd)).unwrap();
-    let refused = said(&["retire", odd, "0", "2"]);
-    refused.fails(1, &[r"`lurdempos retire $'a\x1b[31m\x0ab' 0 1`"]);
+    let refused = said(&["retire", odd, "0", "3"]);
+    refused.fails(1, &[r"`lurdempos list $'a\x1b[31m\x0ab' 0`"]);
     let checked = said(&["check", odd]);
     checked.accepted().says(r"a\x1b[31m\x0ab: sound");
     let missing = said(&["check", "\u{1b}]0;title\u{7}"]);
@@ -177,7 +177,7 @@ fn names_in_messages() {
     let turned = said(&["check", "\u{202e}rul.pohs"]);
     turned.fails(3, &[r"\xe2\x80\xaerul.pohs: cannot be read"]);
     std::fs::copy(bench.path("s"), bench.path("back\\n\n")).unwrap();
-    said(&["retire", "back\\n\n", "0", "2"]).fails(1, &[r"`lurdempos retire $'back\\n\x0a' 0 1`"]);
+    said(&["retire", "back\\n\n", "0", "3"]).fails(1, &[r"`lurdempos list $'back\\n\x0a' 0`"]);
     for run in [refused, checked, missing, unknown] {
         assert!(!run.err.contains('\u{1b}') && !run.out.contains('\u{1b}'), "{run:?}");
     }

@@ -2,6 +2,7 @@
 
 use keeper::course::{answer, Lane};
 use keeper::trial::letters;
+use keeper::words::Words;
 use keeper::{Call, Random};
 use lurdempos::Proved;
 use std::collections::BTreeSet;
@@ -39,7 +40,8 @@ pub fn compare(pool: &[u8], table: &[u32], calls: &[Call]) -> Refusals {
 pub fn each_call(random: &mut Random, pool: &[u8], table: &[u32]) -> Vec<Call> {
     let capacities = Capacities::of_table(table).expect("a sound store");
     let till = random.below(capacities.tills as usize) as u32;
-    let version = random.below(6) as u32;
+    let held = Words::new(table, capacities).numbers(till as usize);
+    let version = if held.is_empty() || random.percent(30) { random.below(6) as u32 } else { *random.pick(&held) };
     let mut image = if random.percent(70) {
         of_records(random, pool, table, capacities)
     } else {

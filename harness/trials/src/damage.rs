@@ -9,7 +9,7 @@ pub fn damage(random: &mut Random, pool: &mut [u8], table: &mut [u32], capacitie
     let at = table.len() - size * capacities.records as usize;
     let (here, there) = (random.below(table.len()), random.below(table.len()));
     let (cell, other) = (block * random.below(pool.len() / block), block * random.below(pool.len() / block));
-    match random.below(16) {
+    match random.below(17) {
         0 => table[here] ^= 1 << random.below(32),
         1 => table[here] = random.edge(),
         2 => table[here] = table[there],
@@ -25,6 +25,7 @@ pub fn damage(random: &mut Random, pool: &mut [u8], table: &mut [u32], capacitie
         12 => renumber(random, &mut table[..at]),
         13 => double(random, pool, &mut table[at..], capacities),
         14 => measure_anew(random, table),
+        15 => misnumber(random, &mut table[..at]),
         _ => swap_cells(random, pool, &mut table[at..], capacities),
     }
 }
@@ -63,18 +64,41 @@ fn swap_cells(random: &mut Random, pool: &mut [u8], records: &mut [u32], capacit
     }
 }
 
-/// A till's numbers all rise or fall by as much: sound while they stay in range.
-fn renumber(random: &mut Random, words: &mut [u32]) {
+/// A till's words, and where in them the numbers of its held versions stand; none if the header no longer fits.
+fn numbers_of<'a>(random: &mut Random, words: &'a mut [u32]) -> Option<(&'a mut [u32], Vec<usize>)> {
     let [tills, versions, blocks] = [0, 1, 2].map(|n| words[n] as usize);
-    let by = *random.pick(&[1, 2, 3, 1_000, 65_530, u32::MAX, u32::MAX - 1, u32::MAX - 2]);
     let (till, slot) = (4 + versions * (3 + blocks), 3 + blocks);
     if words.len() != 8 + tills * till {
+        return None;
+    }
+    let words = &mut words[8 + random.below(tills) * till..][..till];
+    let places = (0..(words[1] as usize).min(versions)).map(|n| 4 + n * slot).collect();
+    Some((words, places))
+}
+
+/// A till's numbers all rise or fall by as much: sound while they stay in range.
+fn renumber(random: &mut Random, words: &mut [u32]) {
+    let by = *random.pick(&[1, 2, 3, 1_000, 65_530, u32::MAX, u32::MAX - 1, u32::MAX - 2]);
+    if let Some((words, places)) = numbers_of(random, words) {
+        words[0] = words[0].wrapping_add(by);
+        places.into_iter().for_each(|at| words[at] = words[at].wrapping_add(by));
+    }
+}
+
+/// One of a till's numbers, or the last given, is another: one twice, falling, 0, above the last, or only another gap.
+fn misnumber(random: &mut Random, words: &mut [u32]) {
+    let Some((words, places)) = numbers_of(random, words) else { return };
+    if places.is_empty() {
         return;
     }
-    let words = &mut words[8 + random.below(tills) * till..];
-    words[0] = words[0].wrapping_add(by);
-    for n in 0..(words[1] as usize).min(versions) {
-        words[4 + n * slot] = words[4 + n * slot].wrapping_add(by);
+    let (at, other) = (*random.pick(&places), *random.pick(&places));
+    match random.below(6) {
+        0 => words[at] = 0,
+        1 => words[at] = words[0].wrapping_add(random.below(2) as u32),
+        2 => words[at] = words[other],
+        3 => words.swap(at, other),
+        4 => words[0] = words[at].wrapping_sub(random.below(2) as u32),
+        _ => words[at] = words[other].wrapping_add(*random.pick(&[1, 2, u32::MAX, u32::MAX - 1])),
     }
 }
 

@@ -1,6 +1,7 @@
 //! Stores that no list of calls leads to: any sound ones, damaged ones, and garbage.
 
 use keeper::calls::{List, Style};
+use keeper::inspect::inspect;
 use keeper::sketch::sound_store;
 use keeper::{Course, Random};
 use std::collections::BTreeSet;
@@ -52,6 +53,7 @@ fn any_sound_stores() {
         for _ in 0..12 {
             course.call(&list.next(&mut random, course.keeper()));
         }
+        inspect(course.buffers().0, course.buffers().1, course.keeper());
         met.extend(course.met.into_iter().map(|(_, number)| number));
     }
     assert!([0, 11, 12, 14, 16].iter().all(|number| met.contains(number)), "{met:?}");

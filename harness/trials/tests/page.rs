@@ -1,6 +1,6 @@
 //! The page's cases, put to the proved store and to the twin.
 
-use keeper::day;
+use keeper::{day, retires};
 use trials::stores;
 
 #[test]
@@ -16,4 +16,29 @@ fn fresh_stores() {
 #[test]
 fn lengths() {
     stores().iter().for_each(|store| day::lengths(store.as_ref()));
+}
+
+#[test]
+fn middle_and_newest() {
+    stores().iter().for_each(|store| retires::middle_and_newest(store.as_ref()));
+}
+
+#[test]
+fn one_after_the_other() {
+    stores().iter().for_each(|store| retires::one_after_the_other(store.as_ref()));
+}
+
+#[test]
+fn counts_of_two() {
+    stores().iter().for_each(|store| retires::counts_of_two(store.as_ref()));
+}
+
+#[test]
+fn backup_after_the_newest() {
+    stores().iter().for_each(|store| retires::backup_after_the_newest(store.as_ref()));
+}
+
+#[test]
+fn neighbours_that_were_none() {
+    stores().iter().for_each(|store| retires::neighbours_that_were_none(store.as_ref()));
 }

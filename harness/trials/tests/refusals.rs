@@ -114,7 +114,7 @@ fn backups(store: &dyn Calls) -> Vec<(u32, u32)> {
     cases
 }
 
-/// Restore 10, 3, 15, 5; retire 10, 3, 15, 13; listing 10, 3; tally 10.
+/// Restore 10, 3, 15, 5; retire 10, 3, 15; listing 10, 3; tally 10.
 fn others(store: &dyn Calls) -> Vec<(u32, u32)> {
     let mut one = Trial::of_page(store, 32);
     for image in ["ABCDEFGH", "ABCDEFGZ", "A"] {
@@ -128,8 +128,12 @@ fn others(store: &dyn Calls) -> Vec<(u32, u32)> {
         (0, 0, 15, 15),
         (0, 4, 15, 15),
         (0, u32::MAX, 15, 15),
-        (0, 2, 5, 13),
-        (0, 3, 0, 13),
+        (0, 2, 5, 0),
+        (0, 2, 15, 15),
+        (0, 3, 0, 0),
+        (0, 3, 15, 15),
+        (0, 1, 5, 0),
+        (0, 1, 15, 15),
     ] {
         cases.push((store.restore(&one.pool, &one.table, till, version, &mut output[..64])[0], restored));
         cases.push((store.retire(&mut one.pool, &mut one.table, till, version)[0], retired));

@@ -73,7 +73,7 @@ impl Layout {
     /// A till's words.
     pub fn till_of<'a>(&self, table: &'a [u32], till: usize) -> TillWords<'a> {
         let words = &table[self.till_at(till)..self.till_at(till + 1)];
-        TillWords { words, slot_words: self.slot_words(), bytes: self.bytes }
+        TillWords { words, slot_words: self.slot_words() }
     }
 
     pub fn cells_of<'a>(&self, pool: &'a [u8]) -> Blocks<'a> {
@@ -100,7 +100,6 @@ impl Layout {
 pub struct TillWords<'a> {
     words: &'a [u32],
     slot_words: usize,
-    bytes: usize,
 }
 
 impl<'a> TillWords<'a> {
@@ -112,22 +111,14 @@ impl<'a> TillWords<'a> {
         self.words[1] as usize
     }
 
-    pub fn oldest(&self) -> u32 {
-        if self.held() == 0 {
-            0
-        } else {
-            self.last() + 1 - self.words[1]
-        }
+    /// The numbers held, rising.
+    pub fn numbers(&self) -> impl Iterator<Item = u32> + '_ {
+        (0..self.held()).map(|slot| self.slot(slot)[0])
     }
 
     /// The slot of a held version, or refusal 15.
     pub fn slot_with(&self, version: u32) -> Result<usize, Refusal> {
-        let is_held = self.held() > 0 && (self.oldest()..=self.last()).contains(&version);
-        if is_held {
-            Ok((version - self.oldest()) as usize)
-        } else {
-            Err(Refusal::NotHeld)
-        }
+        self.numbers().position(|number| number == version).ok_or(Refusal::NotHeld)
     }
 
     fn slot(&self, slot: usize) -> &'a [u32] {
@@ -137,11 +128,6 @@ impl<'a> TillWords<'a> {
 
     pub fn length(&self, slot: usize) -> usize {
         self.slot(slot)[1] as usize
-    }
-
-    /// The pointer words of the blocks that the version in this slot has.
-    pub fn pointers(&self, slot: usize) -> &'a [u32] {
-        &self.slot(slot)[SLOT_HEAD..SLOT_HEAD + self.length(slot).div_ceil(self.bytes)]
     }
 
     /// The pointer word of one block.

@@ -9,6 +9,7 @@ mod rows;
 mod runs;
 mod sound;
 mod sweep;
+mod take_over;
 mod trace;
 mod turn;
 
@@ -44,8 +45,8 @@ pub fn is_sound(pool: &[u8], table: &[u32]) -> bool {
 pub fn listing(pool: &[u8], table: &[u32], till: u32) -> Result<Listing, Refusal> {
     let layout = sound::check(pool, table)?.layout;
     let till = layout.till_of(table, layout.till(till)?);
-    let newest = if till.held() == 0 { 0 } else { till.last() };
-    Ok(Listing { oldest: till.oldest(), newest, last: till.last() })
+    let [oldest, newest] = [till.numbers().next(), till.numbers().last()].map(|number| number.unwrap_or(0));
+    Ok(Listing { oldest, newest, last: till.last() })
 }
 
 /// Occupied cells, records in use, sum of all counts.
@@ -113,24 +114,29 @@ pub fn restore(pool: &[u8], table: &[u32], till: u32, version: u32, output: &mut
     Ok(Restored { length: length as u32, hops: longest })
 }
 
-/// Takes a till's oldest version away and answers its length.
+/// Takes a held version away and answers its length.
 pub fn retire(pool: &mut [u8], table: &mut [u32], till: u32, version: u32) -> Result<u32, Refusal> {
     let sound::Found { layout, mut occupied } = sound::check(pool, table)?;
     let till = layout.till(till)?;
     let before = layout.till_of(table, till);
-    if before.slot_with(version)? != 0 {
-        return Err(Refusal::NotOldest);
-    }
-    let (length, held) = (before.length(0), before.held());
-    let let_go: Vec<Place> = before.pointers(0).iter().filter_map(|&word| direct(word)).collect();
+    let slot = before.slot_with(version)?;
+    let (length, held) = (before.length(slot), before.held());
     let (words, mut records) = layout.parts(table);
+    let till = &mut words[layout.till_at(till)..];
+    let slots = &mut till[TILL_HEAD..][..held * layout.slot_words()];
+    let (older, from) = slots.split_at_mut(slot * layout.slot_words());
+    let retired = &from[SLOT_HEAD..][..length.div_ceil(layout.bytes)];
+    if let Some(neighbour) = older.chunks_exact_mut(layout.slot_words()).last() {
+        let used = (neighbour[1] as usize).div_ceil(layout.bytes);
+        take_over::take_over(&mut neighbour[SLOT_HEAD..][..used], retired, &mut records);
+    }
+    let let_go: Vec<Place> = retired.iter().filter_map(|&word| direct(word)).collect();
     sweep::let_go(let_go, &mut layout.cells_of_mut(pool), &mut records, &mut occupied, layout.percent);
 
-    let till = &mut words[layout.till_at(till)..];
+    from.copy_within(layout.slot_words().., 0);
+    let end = from.len() - layout.slot_words();
+    from[end..].fill(0);
     till[1] -= 1;
-    let slots = &mut till[TILL_HEAD..][..held * layout.slot_words()];
-    slots.copy_within(layout.slot_words().., 0);
-    slots[(held - 1) * layout.slot_words()..].fill(0);
     Ok(length as u32)
 }
 

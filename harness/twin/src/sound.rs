@@ -80,26 +80,28 @@ fn cells_fit(cells: Blocks, occupied: &Occupied) -> bool {
     })
 }
 
-/// Numbers, lengths, pointers and zero words of one till.
+/// Numbers, which rise up to the last given, lengths, pointers and zero words of one till.
 fn till(words: &[u32], layout: &Layout, owed: &mut Owed) -> Option<()> {
     let (head, slots) = words.split_first_chunk::<TILL_HEAD>()?;
     let [last, held, 0, 0] = *head else { return None };
-    holds(last <= LAST_NUMBER && held <= last && held as usize <= layout.versions)?;
+    holds(last <= LAST_NUMBER && held as usize <= layout.versions)?;
     let (used, unused) = slots.split_at(held as usize * layout.slot_words());
     holds(blank(unused))?;
-    let mut newer: &[u32] = &[];
-    for (slot, number) in used.chunks_exact(layout.slot_words()).rev().zip((0..=last).rev()) {
-        newer = version(slot, number, newer, owed, layout.bytes)?;
+    let (mut above, mut newer): (u32, &[u32]) = (last + 1, &[]);
+    for slot in used.chunks_exact(layout.slot_words()).rev() {
+        holds((1..above).contains(&slot[0]))?;
+        newer = version(slot, newer, owed, layout.bytes)?;
+        above = slot[0];
     }
     Some(())
 }
 
 /// One version against the pointers of the next newer one; its own pointers if it is sound.
-fn version<'a>(slot: &'a [u32], number: u32, newer: &[u32], owed: &mut Owed, bytes: usize) -> Option<&'a [u32]> {
+fn version<'a>(slot: &'a [u32], newer: &[u32], owed: &mut Owed, bytes: usize) -> Option<&'a [u32]> {
     let (head, words) = slot.split_first_chunk::<SLOT_HEAD>()?;
-    let [given, length, 0] = *head else { return None };
+    let [_, length, 0] = *head else { return None };
     let blocks = (length as usize).div_ceil(bytes);
-    holds(given == number && (1..=words.len()).contains(&blocks))?;
+    holds((1..=words.len()).contains(&blocks))?;
     let (pointers, unused) = words.split_at(blocks);
     holds(blank(unused))?;
     for &word in pointers {

@@ -1,6 +1,6 @@
 //! The page's cases, and their counterparts at other settings, put to the twin.
 
-use keeper::{day, settings};
+use keeper::{day, retires, settings};
 use twin::Twin;
 
 #[test]
@@ -46,4 +46,29 @@ fn sixteen_blocks() {
 #[test]
 fn largest_image() {
     settings::largest_image(&Twin);
+}
+
+#[test]
+fn middle_and_newest() {
+    retires::middle_and_newest(&Twin);
+}
+
+#[test]
+fn one_after_the_other() {
+    retires::one_after_the_other(&Twin);
+}
+
+#[test]
+fn counts_of_two() {
+    retires::counts_of_two(&Twin);
+}
+
+#[test]
+fn backup_after_the_newest() {
+    retires::backup_after_the_newest(&Twin);
+}
+
+#[test]
+fn neighbours_that_were_none() {
+    retires::neighbours_that_were_none(&Twin);
 }

@@ -69,7 +69,7 @@ impl Store {
         Ok(image)
     }
 
-    /// Takes the till's oldest version away and answers its length.
+    /// Takes a held version away and answers its length. Numbers go on; the others keep theirs.
     pub fn retire(&mut self, till: u32, version: u32) -> Result<u32, Refusal> {
         let [refusal, length] = Proved.retire(&mut self.pool, &mut self.table, till, version);
         accepted(refusal).map(|()| length)

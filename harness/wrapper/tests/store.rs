@@ -23,6 +23,22 @@ fn a_version_comes_back() {
 }
 
 #[test]
+fn any_version_goes() {
+    let mut store = small();
+    let image: Vec<u8> = (0..700).map(|n| n as u8).collect();
+    (1..=4).for_each(|n| assert_eq!(store.backup(0, &image[..600 + n as usize]), Ok(n)));
+    assert_eq!(store.retire(0, 3), Ok(603));
+    assert_eq!(store.retire(0, 4), Ok(604));
+    assert_eq!(store.retire(0, 3), Err(Refusal::NotHeld));
+    assert_eq!(store.listing(0), Ok(Listing { oldest: 1, newest: 2, last: 4 }));
+    assert_eq!(store.backup(0, &image), Ok(5));
+    assert_eq!(store.listing(0), Ok(Listing { oldest: 1, newest: 5, last: 5 }));
+    for (version, length) in [(1, 601), (2, 602), (5, 700)] {
+        assert_eq!(store.image(0, version).as_deref(), Ok(&image[..length]));
+    }
+}
+
+#[test]
 fn a_store_keeps_its_measures() {
     let page = Capacities::new(2, 4, 16, 8, 32);
     for capacities in [page, page.measured([512, 16, 0]), page.measured([64, 4, 100])] {

@@ -11,9 +11,8 @@ use Rattle.lists.specs.Tells.{Tells}
 use Rattle.lists.proofs.Checkers.{clash, is-not, refutes, proves}
 use Rattle.lists.proofs.Answers.{tells-at}
 use Rattle.audit_words.specs.Words.{SlotFrame}
-use Rattle.audit_tails.proofs.Blocks.{first-slot, first-long, slot-fits}
+use Rattle.audit_tails.proofs.Blocks.{first-slot, slot-fits}
 use Rattle.audit_tills.proofs.Slots.{shelf-records, slot-tallied, form-frame, frame-form}
-use borrow.Author.Needs.{needs}
 use borrow.Author.Needs.{needs}
 use Rattle.audit_tills.proofs.slot_says.Statement.{statement}
 use Rattle.audit_tills.proofs.slot_says.Tie as tie
@@ -33,18 +32,6 @@ frame bytes b ws t = tells-at (SlotFrame bytes b) (first-slot b ws) t
 add-width : tie.Need-add-width
 add-width c = search needs
 
--- src/lib.rt:49:8
-shared-slice-read-if1 : tie.Need-shared-slice-read-if1
-shared-slice-read-if1 c = search needs
-
--- src/lib.rt:49:8
-cast-if1 : tie.Need-cast-if1
-cast-if1 c = omega (arith, c .shared-slice-known4 .given 0)
-
--- src/lib.rt:50:9
-returns : tie.Need-returns
-returns c = (is-not (λ s. c .if1 .taken (s .numbered)), λ e. absurd (clash refl e))
-
 -- src/lib.rt:52:33
 sub-slot-frame : tie.Need-sub-slot-frame
 sub-slot-frame c = search needs
@@ -55,15 +42,15 @@ part-slot-frame-start c = search needs
 
 -- src/lib.rt:52:33
 part-slot-frame-end : tie.Need-part-slot-frame-end
-part-slot-frame-end c = omega (arith, here (c .before .before))
+part-slot-frame-end c = omega (arith, here c)
 
 -- src/lib.rt:52:9
 slot-frame-requires : tie.Need-slot-frame-requires
 slot-frame-requires c κs = search needs
 
 -- src/lib.rt:53:9
-returns-2 : tie.Need-returns-2
-returns-2 c = (is-not (λ s. refutes (frame _ (c .before .before .before .before .before .before .before .before .before .args .blocks) (c .before .before .before .before .before .before .before .before .before .args .slots .now) (c .before .slot-frame .ensures)) (c .if2 .taken) (form-frame (s .form))), λ e. absurd (clash refl e))
+returns : tie.Need-returns
+returns c = (is-not (λ s. refutes (frame _ (c .before .before .before .before .before .before .before .args .blocks) (c .before .before .before .before .before .before .before .args .slots .now) (c .before .slot-frame .ensures)) (c .if1 .taken) (form-frame (s .form))), λ e. absurd (clash refl e))
 
 -- src/lib.rt:55:9
 slot-points-requires : tie.Need-slot-points-requires
@@ -74,8 +61,8 @@ same-length : tie.Need-same-length
 same-length c = search needs
 
 -- src/lib.rt:56:9
-returns-3 : tie.Need-returns-3
-returns-3 c = (is-not (λ s. refutes (c .before .before .before .slot-points .ensures .0 _ (shelf-records _ _ _)) (c .if3 .taken) (record { say = s .form .pointers; lead = s .leading })), λ e. absurd (clash refl e))
+returns-2 : tie.Need-returns-2
+returns-2 c = (is-not (λ s. refutes (c .before .before .before .slot-points .ensures .0 _ (shelf-records _ _ _)) (c .if2 .taken) (record { say = s .form .pointers; lead = s .leading })), λ e. absurd (clash refl e))
 
 -- src/lib.rt:58:5
 tail-zero-requires : tie.Need-tail-zero-requires
@@ -86,20 +73,20 @@ same-length-2 : tie.Need-same-length-2
 same-length-2 c = search needs
 
 -- src/lib.rt:36:1
-returns-4 : tie.Need-returns-4
-returns-4 c =
-    let a = c .before .before .before .before .before .before .before .before .before .before .before .before .before .before .before .args in
-    let f = proves (frame _ (a .blocks) (a .slots .now) (c .before .before .before .before .before .before .before .slot-frame .ensures)) (c .before .before .before .before .before .before .if2 .left) in
-    let g = proves (c .before .before .before .before .slot-points .ensures .0 _ (shelf-records _ (a .pool .now) (a .records .now))) (c .before .if3 .left) in
+returns-3 : tie.Need-returns-3
+returns-3 c =
+    let a = c .before .before .before .before .before .before .before .before .before .before .before .before .before .args in
+    let f = proves (frame _ (a .blocks) (a .slots .now) (c .before .before .before .before .before .before .before .slot-frame .ensures)) (c .before .before .before .before .before .before .if1 .left) in
+    let g = proves (c .before .before .before .before .slot-points .ensures .0 _ (shelf-records _ (a .pool .now) (a .records .now))) (c .before .if2 .left) in
     let row = take (3 + a .blocks) (a .slots .now) in
-    let l : length row ≡ 3 + a .blocks = length-take-le (3 + a .blocks) (a .slots .now) (here (c .before .before .before .before .before .before .before .before .before .before .before)) in
+    let l : length row ≡ 3 + a .blocks = length-take-le (3 + a .blocks) (a .slots .now) (here (c .before .before .before .before .before .before .before .before .before)) in
     let n : getD row 0 0 ≡ getD (a .slots .now) 0 0 = getD-take (3 + a .blocks) (a .slots .now) 0 0 (omega arith) in (
       record {
-        holds = λ e. record { numbered = c .before .before .before .before .before .before .before .before .before .if1 .left; form = frame-form f (g .say); leading = g .lead; ends = sym (c .tail-zero .ensures) ∙ e };
+        holds = λ e. record { form = frame-form f (g .say); leading = g .lead; ends = sym (c .tail-zero .ensures) ∙ e };
         seen = λ s. c .tail-zero .ensures ∙ s .ends;
       },
-      λ e. c .before .before .before .before .slot-points .ensures .1 (not-false _ (c .before .if3 .left))
-          ∙ sym (slot-tallied _ (a .blocks) row _ (omega (arith, l)) (omega (arith, n, c .before .before .before .before .before .before .before .before .before .if1 .left, c .before .before .before .before .before .before .before .before .before .before .before .before .before .before .before .pre .5)) f (search needs) (search needs)),
+      λ e. c .before .before .before .before .slot-points .ensures .1 (not-false _ (c .before .if2 .left))
+          ∙ sym (slot-tallied _ (a .blocks) row _ (omega (arith, l)) (omega (arith, n, c .before .before .before .before .before .before .before .before .before .before .before .before .before .pre .5)) f (search needs) (search needs)),
     )
 
 pub slot-says-spec : {M : Type 1} → statement M
@@ -107,17 +94,14 @@ slot-says-spec =
     tie.close
     (tie.spec
     add-width
-    shared-slice-read-if1
-    cast-if1
-    returns
     sub-slot-frame
     part-slot-frame-start
     part-slot-frame-end
     slot-frame-requires
-    returns-2
+    returns
     slot-points-requires
     same-length
-    returns-3
+    returns-2
     tail-zero-requires
     same-length-2
-    returns-4)
+    returns-3)

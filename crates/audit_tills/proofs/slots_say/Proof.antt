@@ -1,10 +1,12 @@
 use native.Mathlib.Omega.{arith}
 use borrow.Author.Needs.{needs}
 use mathlib.Core.Bool.{Bool}
-use mathlib.Core.Path.{_≡_, refl}
+use mathlib.Core.Path.{_≡_, refl, ap, _∙_}
 use mathlib.Core.List.{List}
 use Prim.Native.Nat.{ℕ, _+_, _*_, _-_, _≤_, _<_}
-use lib.ListN.{length, take, drop, length-drop}
+use lib.ListN.{length, getD, take, drop, length-drop}
+use lib.Seq.{getD-drop}
+use native.Mathlib.Nat.{add-zero}
 use denote.Ref.{now}
 use borrow.Author.Count.{below-none, below-more}
 use borrow.Author.Tests.{not-false}
@@ -26,21 +28,24 @@ use Rattle.audit_tills.proofs.slots_say.Lts as lts
 use Rattle.audit_tills.proofs.slot_says.Reads as slot-says-reads
 
 abbrev Inv-loop : tie.InvT-loop
-Inv-loop pool records slots blocks count first counts₀ m i₀ counts i =
-    (i ≤ count) × ((j : ℕ) → j < i → SlotSays (m .bytes) (shelfIn (measuresOf m) pool records) blocks (count - j) (first + j) (drop (j * (3 + blocks)) slots))
+Inv-loop pool records slots blocks count counts₀ m i₀ counts i =
+    (i ≤ count) × ((j : ℕ) → j < i → SlotSays (m .bytes) (shelfIn (measuresOf m) pool records) blocks (count - j) (drop (j * (3 + blocks)) slots))
     × (length counts ≡ length counts₀) × (counts ≡ tallied (take (i * (3 + blocks)) slots) counts₀)
 
 abbrev μ-loop : tie.MeasureT-loop
-μ-loop pool records slots blocks count first counts₀ m i₀ counts i = count - i
+μ-loop pool records slots blocks count counts₀ m i₀ counts i = count - i
 
 here : (c : tie.In-loop Inv-loop μ-loop) → c .before .loop .i * (3 + c .before .before .before .before .before .before .args .blocks) + (3 + c .before .before .before .before .before .before .args .blocks) ≤ length (c .before .before .before .before .before .before .args .slots .now)
-here c = slot-inside (c .before .loop .i) (c .before .before .before .before .before .before .args .count) (c .before .before .before .before .before .before .args .blocks) _ (search needs) (c .before .before .before .before .before .before .pre .4)
+here c = slot-inside (c .before .loop .i) (c .before .before .before .before .before .before .args .count) (c .before .before .before .before .before .before .args .blocks) _ (search needs) (c .before .before .before .before .before .before .pre .3)
 
-rest : {r : Bool} (bytes : ℕ) (shelf : Shelf) (b n m at : ℕ) (ws : List ℕ) → Tells r (SlotSays bytes shelf b n m (take (length ws - at) (drop at ws))) → Tells r (SlotSays bytes shelf b n m (drop at ws))
-rest bytes shelf b n m at ws t = tells-at (SlotSays bytes shelf b n m) (tail-all ws at) t
+rest : {r : Bool} (bytes : ℕ) (shelf : Shelf) (b n at : ℕ) (ws : List ℕ) → Tells r (SlotSays bytes shelf b n (take (length ws - at) (drop at ws))) → Tells r (SlotSays bytes shelf b n (drop at ws))
+rest bytes shelf b n at ws t = tells-at (SlotSays bytes shelf b n) (tail-all ws at) t
 
 rest-long : (i n b : ℕ) (ws : List ℕ) → i ≤ n → n * (3 + b) ≤ length ws → (n - i) * (3 + b) ≤ length (take (length ws - i * (3 + b)) (drop (i * (3 + b)) ws))
 rest-long i n b ws h g = rw (tail-all ws (i * (3 + b)), length-drop (i * (3 + b)) ws) (rest-fits i n b (length ws) h g)
+
+rest-first : (at : ℕ) (ws : List ℕ) → getD (take (length ws - at) (drop at ws)) 0 0 ≡ getD ws at 0
+rest-first at ws = ap (λ (r : List ℕ). getD r 0 0) (tail-all ws at) ∙ getD-drop at ws 0 0 ∙ ap (λ (m : ℕ). getD ws m 0) (add-zero at)
 
 -- src/lib.rt:75:5
 loop-holds : tie.Need-loop-holds Inv-loop μ-loop
@@ -74,17 +79,14 @@ part-slot-says-end c = omega (arith, here c)
 sub-slot-says-2 : tie.Need-sub-slot-says-2 Inv-loop μ-loop
 sub-slot-says-2 c = search needs
 
--- src/lib.rt:83:13
-add-slot-says : tie.Need-add-slot-says Inv-loop μ-loop
-add-slot-says c = search needs
-
 -- src/lib.rt:77:13
 slot-says-requires : tie.Need-slot-says-requires Inv-loop μ-loop
 slot-says-requires c κs =
     let a = c .before .before .before .before .before .before .before .before .args in
     let l = c .before .before .before .loop in
+    let p = c .before .before .before .before .before .before .before .before .pre in
     let m : l .i * (3 + a .blocks) + (3 + a .blocks) ≤ a .count * (3 + a .blocks) = slot-inside (l .i) (a .count) (a .blocks) _ (search needs) (omega arith) in
-    (search needs, search needs, search needs, search needs, rest-long (l .i) (a .count) (a .blocks) (a .slots .now) (search needs) (c .before .before .before .before .before .before .before .before .pre .4), omega (arith, c .before .before .before .before .before .before .before .before .pre .1, c .before .before .before .before .before .before .before .before .pre .3), room-left (l .i * (3 + a .blocks)) (a .blocks) (a .slots .now) _ _ (l .inv .3) (λ k. omega (arith, m, c .before .before .before .before .before .before .before .before .pre .5 k)))
+    (search needs, search needs, search needs, search needs, rest-long (l .i) (a .count) (a .blocks) (a .slots .now) (search needs) (p .3), rw (rest-first (l .i * (3 + a .blocks)) (a .slots .now)) (p .4 (l .i) (search needs)), room-left (l .i * (3 + a .blocks)) (a .blocks) (a .slots .now) _ _ (l .inv .3) (λ k. omega (arith, m, p .5 k)))
 
 -- src/lib.rt:86:13
 same-length : tie.Need-same-length Inv-loop μ-loop
@@ -92,7 +94,7 @@ same-length c = omega (arith, c .before .before .before .slot-says .kept, c .bef
 
 -- src/lib.rt:86:13
 returns : tie.Need-returns Inv-loop μ-loop
-returns c = (is-not (λ e. refutes (rest _ _ (c .before .before .before .before .before .before .before .before .before .before .before .before .args .blocks) _ _ _ (c .before .before .before .before .before .before .before .before .before .before .before .before .args .slots .now) (c .before .before .before .slot-says .ensures .0)) (c .if1 .taken) (e (c .before .before .before .before .before .before .before .loop .i) (search needs))), λ e. absurd (clash refl e))
+returns c = (is-not (λ e. refutes (rest _ _ (c .before .before .before .before .before .before .before .before .before .before .before .before .args .blocks) _ _ (c .before .before .before .before .before .before .before .before .before .before .before .before .args .slots .now) (c .before .before .before .slot-says .ensures .0)) (c .if1 .taken) (e (c .before .before .before .before .before .before .before .loop .i) (search needs))), λ e. absurd (clash refl e))
 
 -- src/lib.rt:88:9
 add-i : tie.Need-add-i Inv-loop μ-loop
@@ -109,7 +111,7 @@ loop-again c =
     let a = c .before .before .before .before .before .before .before .before .before .before .before .before .args in
     let e = c .before .before .before .slot-says .ensures in (
       search needs,
-      below-more _ _ (l .inv .1) (proves (rest _ _ (a .blocks) _ _ _ (a .slots .now) (e .0)) (c .if1 .left)),
+      below-more _ _ (l .inv .1) (proves (rest _ _ (a .blocks) _ _ (a .slots .now) (e .0)) (c .if1 .left)),
       omega (arith, c .before .before .before .slot-says .kept, l .inv .2),
       next-tallied (l .i) (3 + a .blocks) (a .slots .now) _ _ _ (l .inv .3) (rw (tail-all (a .slots .now) (l .i * (3 + a .blocks))) at (e .1 (not-false _ (c .if1 .left)))),
     )
@@ -139,7 +141,6 @@ slots-say-spec =
     part-slot-says-start
     part-slot-says-end
     sub-slot-says-2
-    add-slot-says
     slot-says-requires
     same-length
     returns

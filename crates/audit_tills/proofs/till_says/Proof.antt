@@ -1,5 +1,4 @@
 use native.Mathlib.Omega.{arith}
-use borrow.Author.Needs.{needs}
 use mathlib.Core.Bool.{Bool}
 use mathlib.Core.Path.{_≡_, refl, sym, ap, _∙_}
 use mathlib.Core.List.{List}
@@ -7,159 +6,172 @@ use Prim.Native.Nat.{ℕ, _+_, _*_, _-_, _≤_, _<_}
 use lib.ListN.{length, getD, take, drop}
 use denote.Ref.{now}
 use borrow.Author.Tests.{not-false}
-use Rattle.lists.specs.Lists.{allZero}
+use Rattle.lists.specs.Lists.{rises, allZero}
 use Rattle.lists.specs.Tells.{Tells}
 use Rattle.lists.proofs.Checkers.{clash, is-not, refutes, proves}
 use Rattle.lists.proofs.Answers.{tells-at, answer-no, answer-yes}
 use Rattle.lists.proofs.Slices.{tail-all}
 use Rattle.model.specs.State.{Shelf}
-use Rattle.audit_tills.specs.Says.{SlotSays}
+use Rattle.audit_tills.specs.Says.{numbersIn, SlotSays}
+use Rattle.audit_tills.proofs.Numbers.{numbers-most}
 use Rattle.audit_tills.proofs.Slots.{used-fit, slots-fit, till-tallied}
 use borrow.Author.Needs.{needs}
 use Rattle.audit_tills.proofs.till_says.Statement.{statement}
 use Rattle.audit_tills.proofs.till_says.Tie as tie
 use Rattle.audit_tills.proofs.till_says.Reads as reads
 use Rattle.audit_tills.proofs.till_says.Lts as lts
+use Rattle.audit_tills.proofs.numbers_rise.Reads as numbers-rise-reads
 use Rattle.audit_tills.proofs.slots_say.Reads as slots-say-reads
 use Rattle.audit_words.proofs.zeros.Reads as zeros-reads
 
 used : (c : tie.Else1) → getD (c .before .before .before .before .before .before .before .args .till .now) 1 0 * (3 + c .before .before .before .before .before .before .before .args .blocks) ≤ c .before .before .before .before .before .before .before .args .versions * (3 + c .before .before .before .before .before .before .before .args .blocks)
 used c = used-fit (c .before .before .before .before .before .before .before .args .versions) (c .before .before .before .before .before .before .before .args .blocks) _ (c .if1 .left)
 
-slots : {r : Bool} (bytes : ℕ) (shelf : Shelf) (b n first : ℕ) (row : List ℕ)
-    → Tells r ((i : ℕ) → i < n → SlotSays bytes shelf b (n - i) (first + i) (drop (i * (3 + b)) (take (length row - 4) (drop 4 row))))
-    → Tells r ((i : ℕ) → i < n → SlotSays bytes shelf b (n - i) (first + i) (drop (i * (3 + b)) (drop 4 row)))
-slots bytes shelf b n first row t = tells-at (λ ws. (i : ℕ) → i < n → SlotSays bytes shelf b (n - i) (first + i) (drop (i * (3 + b)) ws)) (tail-all row 4) t
+slots : {r : Bool} (bytes : ℕ) (shelf : Shelf) (b n : ℕ) (row : List ℕ) → Tells r ((i : ℕ) → i < n → SlotSays bytes shelf b (n - i) (drop (i * (3 + b)) (take (length row - 4) (drop 4 row))))
+    → Tells r ((i : ℕ) → i < n → SlotSays bytes shelf b (n - i) (drop (i * (3 + b)) (drop 4 row)))
+slots bytes shelf b n row t = tells-at (λ ws. (i : ℕ) → i < n → SlotSays bytes shelf b (n - i) (drop (i * (3 + b)) ws)) (tail-all row 4) t
 
--- src/lib.rt:105:16
+rise : {r : Bool} (b n last : ℕ) (row : List ℕ) → r ≡ rises 0 last (numbersIn b n (take (length row - 4) (drop 4 row))) → r ≡ rises 0 last (numbersIn b n (drop 4 row))
+rise b n last row e = e ∙ ap (λ (ws : List ℕ). rises 0 last (numbersIn b n ws)) (tail-all row 4)
+
+-- src/lib.rt:141:16
 shared-slice-read-last : tie.Need-shared-slice-read-last
 shared-slice-read-last c = search needs
 
--- src/lib.rt:105:16
-cast-last : tie.Need-cast-last
-cast-last c = omega (arith, c .shared-slice-known4 .given 0)
-
--- src/lib.rt:106:17
+-- src/lib.rt:142:17
 shared-slice-read-count : tie.Need-shared-slice-read-count
 shared-slice-read-count c = search needs
 
--- src/lib.rt:106:17
+-- src/lib.rt:142:17
 cast-count : tie.Need-cast-count
 cast-count c = omega (arith, c .shared-slice-known5 .given 1)
 
--- src/lib.rt:108:9
+-- src/lib.rt:144:9
 returns : tie.Need-returns
 returns c = (is-not (λ t. omega (arith, t .few)), λ e. absurd (clash refl e))
 
--- src/lib.rt:111:9
+-- src/lib.rt:147:9
 returns-2 : tie.Need-returns-2
-returns-2 c = (is-not (λ t. omega (arith, t .upto)), λ e. absurd (clash refl e))
+returns-2 c = (is-not (λ t. omega (arith, t .most)), λ e. absurd (clash refl e))
 
--- src/lib.rt:114:9
-returns-3 : tie.Need-returns-3
-returns-3 c = (is-not (λ t. omega (arith, t .most)), λ e. absurd (clash refl e))
-
--- src/lib.rt:116:28
+-- src/lib.rt:149:28
 sub-zeros : tie.Need-sub-zeros
 sub-zeros c = search needs
 
--- src/lib.rt:116:28
+-- src/lib.rt:149:28
 part-zeros-start : tie.Need-part-zeros-start
 part-zeros-start c = search needs
 
--- src/lib.rt:116:28
+-- src/lib.rt:149:28
 part-zeros-end : tie.Need-part-zeros-end
 part-zeros-end c = search needs
 
--- src/lib.rt:116:9
+-- src/lib.rt:149:9
 zeros-requires : tie.Need-zeros-requires
 zeros-requires c κs = search needs
 
--- src/lib.rt:117:9
-returns-4 : tie.Need-returns-4
-returns-4 c = (is-not (λ t. answer-no (c .before .zeros .ensures) (c .if4 .taken) (t .zeros)), λ e. absurd (clash refl e))
+-- src/lib.rt:150:9
+returns-3 : tie.Need-returns-3
+returns-3 c = (is-not (λ t. answer-no (c .before .zeros .ensures) (c .if3 .taken) (t .zeros)), λ e. absurd (clash refl e))
 
--- src/lib.rt:122:9
+-- src/lib.rt:152:22
+sub-numbers-rise : tie.Need-sub-numbers-rise
+sub-numbers-rise c = search needs
+
+-- src/lib.rt:152:22
+part-numbers-rise-start : tie.Need-part-numbers-rise-start
+part-numbers-rise-start c = search needs
+
+-- src/lib.rt:152:22
+part-numbers-rise-end : tie.Need-part-numbers-rise-end
+part-numbers-rise-end c = search needs
+
+-- src/lib.rt:152:9
+numbers-rise-requires : tie.Need-numbers-rise-requires
+numbers-rise-requires c κs = (search needs, search needs, search needs, slots-fit (c .before .before .before .before .before .before .before .before .before .before .before .before .args .versions) (c .before .before .before .before .before .before .before .before .before .before .before .before .args .blocks) _ (c .before .before .before .before .before .before .before .before .before .before .before .before .args .till .now) (search needs) (c .before .before .before .before .before .before .before .before .before .before .before .before .pre .3))
+
+-- src/lib.rt:153:9
+returns-4 : tie.Need-returns-4
+returns-4 c = (is-not (λ t. answer-no (rise (c .before .before .before .before .before .before .before .before .before .before .before .before .before .before .args .blocks) _ _ (c .before .before .before .before .before .before .before .before .before .before .before .before .before .before .args .till .now) (c .before .numbers-rise .ensures)) (c .if4 .taken) (t .rising)), λ e. absurd (clash refl e))
+
+-- src/lib.rt:155:34
 sub-slots-say : tie.Need-sub-slots-say
 sub-slots-say c = search needs
 
--- src/lib.rt:122:9
+-- src/lib.rt:155:34
 part-slots-say-start : tie.Need-part-slots-say-start
 part-slots-say-start c = search needs
 
--- src/lib.rt:122:9
+-- src/lib.rt:155:34
 part-slots-say-end : tie.Need-part-slots-say-end
 part-slots-say-end c = search needs
 
--- src/lib.rt:125:9
-add-slots-say : tie.Need-add-slots-say
-add-slots-say c = search needs
-
--- src/lib.rt:125:9
-sub-slots-say-2 : tie.Need-sub-slots-say-2
-sub-slots-say-2 c = search needs
-
--- src/lib.rt:119:9
+-- src/lib.rt:155:9
 slots-say-requires : tie.Need-slots-say-requires
-slots-say-requires c κs = (search needs, search needs, search needs, search needs, slots-fit (c .before .before .before .before .before .before .before .before .before .before .before .before .before .before .args .versions) (c .before .before .before .before .before .before .before .before .before .before .before .before .before .before .args .blocks) _ (c .before .before .before .before .before .before .before .before .before .before .before .before .before .before .args .till .now) (search needs) (c .before .before .before .before .before .before .before .before .before .before .before .before .before .before .pre .3), λ k. omega (arith, used (c .before .before .before .before .before .before .before), c .before .before .before .before .before .before .before .before .before .before .before .before .before .before .pre .3, c .before .before .before .before .before .before .before .before .before .before .before .before .before .before .pre .4 k))
+slots-say-requires c κs =
+    let a = c .before .before .before .before .before .before .before .before .before .before .before .before .before .before .before .before .args in
+    let p = c .before .before .before .before .before .before .before .before .before .before .before .before .before .before .before .before .pre in
+    let slots = take (length (a .till .now) - 4) (drop 4 (a .till .now)) in
+    (search needs, search needs, search needs, slots-fit (a .versions) (a .blocks) _ (a .till .now) (search needs) (p .3), λ i h. omega (arith, numbers-most (a .blocks) _ _ slots (answer-yes (c .before .before .before .numbers-rise .ensures) (c .before .before .if4 .left)) i h, c .before .before .before .before .before .before .before .before .if2 .left), λ k. omega (arith, used (c .before .before .before .before .before .before .before .before .before), p .3, p .4 k))
 
--- src/lib.rt:128:9
+-- src/lib.rt:156:9
 same-length : tie.Need-same-length
 same-length c = search needs
 
--- src/lib.rt:128:9
+-- src/lib.rt:156:9
 returns-5 : tie.Need-returns-5
-returns-5 c = (is-not (λ t. refutes (slots _ _ (c .before .before .before .before .before .before .before .before .before .before .before .before .before .before .before .before .before .before .args .blocks) _ _ (c .before .before .before .before .before .before .before .before .before .before .before .before .before .before .before .before .before .before .args .till .now) (c .before .before .before .slots-say .ensures .0)) (c .if5 .taken) (t .slots)), λ e. absurd (clash refl e))
+returns-5 c = (is-not (λ t. refutes (slots _ _ (c .before .before .before .before .before .before .before .before .before .before .before .before .before .before .before .before .before .before .before .before .args .blocks) _ (c .before .before .before .before .before .before .before .before .before .before .before .before .before .before .before .before .before .before .before .before .args .till .now) (c .before .before .before .slots-say .ensures .0)) (c .if5 .taken) (t .slots)), λ e. absurd (clash refl e))
 
--- src/lib.rt:130:28
+-- src/lib.rt:158:28
 add-end : tie.Need-add-end
 add-end c = search needs
 
--- src/lib.rt:130:19
+-- src/lib.rt:158:19
 mul-end : tie.Need-mul-end
-mul-end c = omega (arith, used (c .before .before .before .before .before .before .before .before .before .before .before))
+mul-end c = omega (arith, used (c .before .before .before .before .before .before .before .before .before .before .before .before .before))
 
--- src/lib.rt:130:15
+-- src/lib.rt:158:15
 add-end-2 : tie.Need-add-end-2
-add-end-2 c = omega (arith, used (c .before .before .before .before .before .before .before .before .before .before .before))
+add-end-2 c = omega (arith, used (c .before .before .before .before .before .before .before .before .before .before .before .before .before))
 
--- src/lib.rt:131:24
+-- src/lib.rt:159:24
 mul-zeros : tie.Need-mul-zeros
-mul-zeros c = omega (arith, used (c .before .before .before .before .before .before .before .before .before .before .before))
+mul-zeros c = omega (arith, used (c .before .before .before .before .before .before .before .before .before .before .before .before .before))
 
--- src/lib.rt:131:24
+-- src/lib.rt:159:24
 sub-zeros-2 : tie.Need-sub-zeros-2
-sub-zeros-2 c = omega (arith, used (c .before .before .before .before .before .before .before .before .before .before .before))
+sub-zeros-2 c = omega (arith, used (c .before .before .before .before .before .before .before .before .before .before .before .before .before))
 
--- src/lib.rt:131:24
+-- src/lib.rt:159:24
 part-zeros-start-2 : tie.Need-part-zeros-start-2
-part-zeros-start-2 c = omega (arith, used (c .before .before .before .before .before .before .before .before .before .before .before))
+part-zeros-start-2 c = omega (arith, used (c .before .before .before .before .before .before .before .before .before .before .before .before .before))
 
--- src/lib.rt:131:24
+-- src/lib.rt:159:24
 part-zeros-end-2 : tie.Need-part-zeros-end-2
 part-zeros-end-2 c = search needs
 
--- src/lib.rt:131:5
+-- src/lib.rt:159:5
 zeros-requires-2 : tie.Need-zeros-requires-2
 zeros-requires-2 c κs = search needs
 
--- src/lib.rt:94:1
+-- src/lib.rt:129:1
 same-length-2 : tie.Need-same-length-2
 same-length-2 c = search needs
 
--- src/lib.rt:94:1
+-- src/lib.rt:129:1
 returns-6 : tie.Need-returns-6
 returns-6 c =
-    let a = c .before .before .before .before .before .before .before .before .before .before .before .before .before .before .before .before .before .before .before .before .args in
+    let a = c .before .before .before .before .before .before .before .before .before .before .before .before .before .before .before .before .before .before .before .before .before .before .args in
     let row = a .till .now in
     let z = c .zeros2 .ensures ∙ ap allZero (tail-all row (4 + getD row 1 0 * (3 + a .blocks))) in
     let e = c .before .before .before .before .before .slots-say .ensures in
-    let two = answer-yes (c .before .before .before .before .before .before .before .before .before .zeros .ensures) (c .before .before .before .before .before .before .before .before .if4 .left) in (
+    let two = answer-yes (c .before .before .before .before .before .before .before .before .before .before .before .before .zeros .ensures) (c .before .before .before .before .before .before .before .before .before .before .before .if3 .left) in
+    let up = answer-yes (rise (a .blocks) _ _ row (c .before .before .before .before .before .before .before .before .before .numbers-rise .ensures)) (c .before .before .before .before .before .before .before .before .if4 .left) in (
       record {
-        holds = λ t. record { few = search needs; upto = search needs; most = search needs; zeros = two; slots = proves (slots _ _ (a .blocks) _ _ row (e .0)) (c .before .before .if5 .left); rest = sym z ∙ t };
+        holds = λ t. record { few = search needs; most = search needs; rising = up; zeros = two; slots = proves (slots _ _ (a .blocks) _ row (e .0)) (c .before .before .if5 .left); rest = sym z ∙ t };
         seen = λ t. z ∙ t .rest;
       },
-      λ t. till-tallied row _ _ (getD row 1 0 * (3 + a .blocks)) (omega (arith, c .before .before .before .before .before .before .before .before .before .before .before .before .before .before .before .before .before .before .before .before .pre .3)) (search needs) (omega (arith, c .before .before .before .before .before .before .before .before .before .before .before .before .before .if1 .left, c .before .before .before .before .before .before .before .before .before .before .before .before .before .before .before .before .before .before .before .before .pre .1)) two (sym z ∙ t) (rw (tail-all row 4) at (e .1 (not-false _ (c .before .before .if5 .left)))),
+      λ t. till-tallied row _ _ (getD row 1 0 * (3 + a .blocks)) (omega (arith, c .before .before .before .before .before .before .before .before .before .before .before .before .before .before .before .before .before .before .before .before .before .before .pre .3)) (search needs) (omega (arith, c .before .before .before .before .before .before .before .before .before .before .before .before .before .before .before .if1 .left, c .before .before .before .before .before .before .before .before .before .before .before .before .before .before .before .before .before .before .before .before .before .before .pre .1)) two (sym z ∙ t) (rw (tail-all row 4) at (e .1 (not-false _ (c .before .before .if5 .left)))),
     )
 
 pub till-says-spec : {M : Type 1} → statement M
@@ -167,22 +179,23 @@ till-says-spec =
     tie.close
     (tie.spec
     shared-slice-read-last
-    cast-last
     shared-slice-read-count
     cast-count
     returns
     returns-2
-    returns-3
     sub-zeros
     part-zeros-start
     part-zeros-end
     zeros-requires
+    returns-3
+    sub-numbers-rise
+    part-numbers-rise-start
+    part-numbers-rise-end
+    numbers-rise-requires
     returns-4
     sub-slots-say
     part-slots-say-start
     part-slots-say-end
-    add-slots-say
-    sub-slots-say-2
     slots-say-requires
     same-length
     returns-5

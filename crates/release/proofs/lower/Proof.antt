@@ -3,9 +3,11 @@ use mathlib.Core.List.{List}
 use native.Mathlib.Omega.{arith}
 use borrow.Author.Needs.{needs}
 use denote.Ref.{now}
+use Prim.Native.Nat.{pred}
 use Rattle.model.specs.State.{Segment}
+use Rattle.model.specs.Sweep.{oneLess}
 use Rattle.shelf.specs.Stored.{RecordsTold}
-use Rattle.shelf.proofs.Lowers.{fits-direct, lower-direct, lower-other}
+use Rattle.shelf.proofs.Changes.{fits-direct, lowers, change-direct, change-other}
 use Rattle.release.proofs.lower.Statement.{statement}
 use Rattle.release.proofs.lower.Tie as tie
 
@@ -18,10 +20,10 @@ same-length : tie.Need-same-length
 same-length c = search needs
 
 returns : tie.Need-returns
-returns c = let a = c .before .before .before .before .before .before in lower-direct (a .args .n) (now (a .args .words)) (a .args .pointer) _ (a .pre .0 .1) (c .before .before .before .before .if1 .taken) (a .pre .1) (c .before .before .lower-at .ensures)
+returns c = let a = c .before .before .before .before .before .before in change-direct oneLess pred _ lowers (a .args .n) (now (a .args .words)) (a .args .pointer) _ (a .pre .0 .1) (c .before .before .before .before .if1 .taken) (a .pre .1) tt (c .before .before .lower-at .ensures)
 
 returns-2 : tie.Need-returns-2
-returns-2 c = let a = c .before .before in subst (λ (s : List Segment). RecordsTold (a .args .n) (now (a .args .words)) s) (sym (lower-other _ (a .args .pointer) (c .if1 .left))) (a .pre .0 .1)
+returns-2 c = let a = c .before .before in subst (λ (s : List Segment). RecordsTold (a .args .n) (now (a .args .words)) s) (sym (change-other oneLess _ (a .args .pointer) (c .if1 .left))) (a .pre .0 .1)
 
 pub lower-spec : {M : Type 1} → statement M
 lower-spec = tie.close (tie.spec lower-at-requires same-length returns returns-2)

@@ -3,12 +3,13 @@ use Prim.Native.Nat.{_-_, _<_, _≤_}
 use native.Mathlib.Omega.{arith}
 use lib.ListN.{length}
 use borrow.Author.Needs.{needs}
-use Rattle.shelf.proofs.Lowers.{Lowering, lowering-next, lowering-all}
+use Rattle.model.specs.Sweep.{oneLess}
+use Rattle.shelf.proofs.Changes.{Changing, changing-next, changing-all}
 use Rattle.release.proofs.release.Statement.{statement}
 use Rattle.release.proofs.release.Tie as tie
 
 abbrev Inv-loop : tie.InvT-loop
-Inv-loop words₀ pointers n i₀ words i = (n ≤ 16) × Lowering n words₀ pointers words i
+Inv-loop words₀ pointers n i₀ words i = (n ≤ 16) × Changing oneLess n words₀ pointers words i
 
 abbrev μ-loop : tie.MeasureT-loop
 μ-loop words₀ pointers n i₀ words i = length pointers - i
@@ -39,13 +40,13 @@ loop-again c =
     let a = c .before .before .before .before .before .before .before .before .before in
     let l = c .before .before .before .before .before .before .loop in
     let h : l .i < length (a .args .pointers .now) = search needs in
-    (l .inv .0, lowering-next _ _ _ _ (l .i) h (l .inv .1) _ (c .before .before .lower .kept .0) (c .before .before .lower .ensures))
+    (l .inv .0, changing-next oneLess _ _ _ _ (l .i) h (l .inv .1) _ (c .before .before .lower .kept .0) (c .before .before .lower .ensures))
 
 same-length : tie.Need-same-length Inv-loop μ-loop
 same-length c = c .before .loop .inv .1 .long
 
 returns : tie.Need-returns Inv-loop μ-loop
-returns c = lowering-all _ _ _ _ _ (c .before .loop .inv .1) (omega arith)
+returns c = changing-all oneLess _ _ _ _ _ (c .before .loop .inv .1) (omega arith)
 
 pub release-spec : {M : Type 1} → statement M
 release-spec =

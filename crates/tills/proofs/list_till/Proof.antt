@@ -1,4 +1,4 @@
-use Rattle.tills.proofs.Cases.{no-till, none-held, some-held, bounded}
+use Rattle.tills.proofs.Cases.{no-till, none-held, some-held}
 use Rattle.laws.proofs.Stores.{header}
 use native.Mathlib.Omega.{arith}
 use borrow.Author.Needs.{needs}
@@ -24,19 +24,37 @@ till-head-requires c κs = (c .before .before .before .before .pre, omega (arith
 returns-2 : tie.Need-returns-2
 returns-2 c = none-held (c .before .before .before .before .before .before .before .pre) _ (omega (arith, c .before .before .before .if1 .left)) _ (c .before .before .till-head .ensures) (c .if2 .taken)
 
--- src/lib.rt:77:17
-sub-t6 : tie.Need-sub-t6
-sub-t6 c = bounded (c .before .before .before .before .before .before .before .before .pre) _ (omega (arith, c .before .before .before .before .if1 .left)) _ (c .before .before .before .till-head .ensures) .0
+number-at-requires : tie.Need-number-at-requires
+number-at-requires c κs =
+    let o = c .before .before .till-head .ensures in
+    (c .before .before .before .before .before .before .before .pre, omega (arith, c .before .before .before .if1 .left), o .at, omega (arith, c .if2 .left, o .held))
 
--- src/lib.rt:77:17
-add-t8 : tie.Need-add-t8
-add-t8 c = let (a, b) = bounded (c .before .before .before .before .before .before .before .before .pre) _ (omega (arith, c .before .before .before .before .if1 .left)) _ (c .before .before .before .till-head .ensures) in omega (arith, a, b)
+cast-number-at : tie.Need-cast-number-at
+cast-number-at c = search needs
 
--- src/lib.rt:54:1
+sub-number-at : tie.Need-sub-number-at
+sub-number-at c = omega (arith, c .before .before .if2 .left)
+
+number-at-requires-2 : tie.Need-number-at-requires-2
+number-at-requires-2 c κs =
+    let o = c .before .before .before .before .till-head .ensures in
+    (c .before .before .before .before .before .before .before .before .before .pre, omega (arith, c .before .before .before .before .before .if1 .left), o .at, omega (arith, c .before .before .if2 .left, o .held))
+
 returns-3 : tie.Need-returns-3
-returns-3 c = some-held (c .before .before .before .before .before .before .before .before .pre) _ (omega (arith, c .before .before .before .before .if1 .left)) _ (c .before .before .before .till-head .ensures) (c .before .if2 .left)
+returns-3 c =
+    some-held (c .before .before .before .before .before .before .before .before .before .before .pre) _ (omega (arith, c .before .before .before .before .before .before .if1 .left)) _ (c .before .before .before .before .before .till-head .ensures) (c .before .before .before .if2 .left) _ _
+    (c .before .before .number-at .ensures) (c .number-at2 .ensures)
 
 pub list-till-spec : {M : Type 1} → statement M
 list-till-spec =
     tie.close
-    (tie.spec shared-slice-read-if1 returns till-head-requires returns-2 sub-t6 add-t8 returns-3)
+    (tie.spec
+    shared-slice-read-if1
+    returns
+    till-head-requires
+    returns-2
+    number-at-requires
+    cast-number-at
+    sub-number-at
+    number-at-requires-2
+    returns-3)

@@ -2,7 +2,7 @@ use native.Mathlib.Omega.{arith}
 use mathlib.Core.Path.{_≡_, refl, ap}
 use Prim.Native.Nat.{ℕ, _+_, _*_, _≤_}
 use lib.ListN.{length}
-use Rattle.shelf.proofs.Lowers.{fits-direct}
+use Rattle.shelf.proofs.Changes.{fits-direct}
 use Rattle.shelf.proofs.Read.{stored-records}
 use Rattle.trace.proofs.Images.{cell-room, put-cell, put-zero}
 use borrow.Author.Needs.{needs}

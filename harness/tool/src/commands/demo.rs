@@ -131,9 +131,9 @@ impl Play {
     }
 
     fn retire(&mut self) -> Result<(), Failure> {
-        self.say("\nVersions go from the oldest on. Another one is refused, and nothing is altered:");
+        self.say("\nAny version may go; the others stay as they are. What is gone is refused, and nothing is altered:");
         self.shell(&format!("retire {STORE} 0 3"))?;
-        self.shell(&format!("retire {STORE} 0 1"))
+        self.shell(&format!("restore {STORE} 0 3 restored.img"))
     }
 
     /// A day of sales at all tills; their images lie ready.

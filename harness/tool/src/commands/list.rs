@@ -7,7 +7,7 @@ use crate::json::Json;
 use crate::reply::Reply;
 use crate::syntax::{Argument, Command, Takes, FILE};
 use crate::table::{self, Version};
-use crate::{storefile, Failure};
+use crate::{numbers, storefile, Failure};
 use lurdempos::{Listing, Store};
 use std::path::Path;
 
@@ -19,7 +19,8 @@ pub static COMMAND: Command = Command {
     help: "
 Of all tills, or of one. For each version, the oldest first: its number and bytes; the longest chain,
 which is the most versions that a restore goes through for a block; and how many of its blocks lie in
-the pool for it (direct), are borrowed from the next newer version (indirect), or are all zero (null).
+the pool for it (direct), are borrowed from the next newer version held (indirect), or are all zero
+(null). Numbers of versions that were retired are left out; they are not given again.
 ",
     run,
 };
@@ -61,11 +62,12 @@ fn tills(file: &Path, store: &Store, asked: Option<u32>) -> Result<Vec<Till>, Fa
 fn text(tills: &[Till]) -> String {
     let mut text = String::new();
     for Till { number, listing: Listing { oldest, newest, last }, versions } in tills {
+        let held = numbers::shown(&versions.iter().map(|version| version.number).collect::<Vec<u32>>());
         match (oldest, last) {
             (0, 0) => text.push_str(&format!("till {number}: nothing yet\n")),
             (0, _) => text.push_str(&format!("till {number}: no version held, the last was {last}\n")),
-            _ if oldest == newest => text.push_str(&format!("till {number}: version {newest}\n")),
-            _ => text.push_str(&format!("till {number}: versions {oldest} to {newest}\n")),
+            _ if newest == last => text.push_str(&format!("till {number}: {held}\n")),
+            _ => text.push_str(&format!("till {number}: {held}; the last was {last}\n")),
         }
         if !versions.is_empty() {
             text.push_str("  version   bytes  longest chain  direct  indirect  null\n");

@@ -1,4 +1,4 @@
-//! `retire`: a till's oldest versions go.
+//! `retire`: a version goes, or a till's oldest ones.
 
 use super::dry_run::{tried, Cells};
 use crate::advice::Call;
@@ -10,7 +10,7 @@ use crate::storefile::Change;
 use crate::syntax::{Argument, Command, Opt, Takes, DRY_RUN, FILE, TILL, WAIT};
 use crate::target::Target;
 use crate::words::bytes;
-use crate::{image, table, Failure};
+use crate::{image, numbers, table, Failure};
 use lurdempos::Store;
 use std::path::Path;
 
@@ -22,10 +22,10 @@ pub static COMMAND: Command = Command {
         DRY_RUN,
         WAIT,
     ],
-    about: "take the till's oldest version away",
+    about: "take a version away",
     help: "
-VERSION has to be the oldest that the till holds. Its number is not given again.
-The reply tells the bytes of the image that is gone.
+VERSION is the number of any version that the till holds, also of its newest. The others keep their numbers
+and images; the number that is gone is not given again. The reply tells the bytes of the image that is gone.
 ",
     run,
 };
@@ -96,9 +96,9 @@ fn reply(file: &Path, till: u32, retired: &Retired, cells: Option<&Cells>) -> Re
     let sum = bytes(retired.iter().map(|(_, length)| *length as usize).sum());
     let text = match retired[..] {
         [] => format!("till {till}: no version {would}retired{room}\n"),
-        [(version, _)] => format!("till {till}: version {version} {would}retired, {sum}{room}\n"),
-        [(first, _), .., (last, _)] => {
-            format!("till {till}: versions {first} to {last} {would}retired, {sum}{room}\n")
+        _ => {
+            let gone = numbers::shown(&retired.iter().map(|(version, _)| *version).collect::<Vec<u32>>());
+            format!("till {till}: {gone} {would}retired, {sum}{room}\n")
         }
     };
     let one = |&(version, length): &(u32, u32)| image::fields(version, length as usize);

@@ -1,0 +1,3 @@
+-- The module of the crate's proofs.
+pub mod Places
+pub mod Versions

@@ -1,0 +1,2 @@
+-- What the keeper's contracts cite.
+pub mod Notes

@@ -1,0 +1,80 @@
+-- The keeper's notes, eleven for each till: the last number given, the number held at each of five places (0 at a free one), a length for each place.
+use mathlib.Core.Bool.{Bool, false, cond}
+use mathlib.Core.List.{List, [], _∷_}
+use Prim.Native.Nat.{ℕ, suc, _+_, _*_, min}
+use lib.Dec.{eqb, ltb, leb}
+use lib.ListN.{getD, set}
+use Rattle.lists.specs.Lists.{counted, count, largest}
+
+abbrev pub lastGiven : List ℕ → ℕ → ℕ
+lastGiven notes till = getD notes (till * 11) 0
+
+abbrev pub numberAt : List ℕ → ℕ → ℕ → ℕ
+numberAt notes till place = getD notes (till * 11 + 1 + place) 0
+
+abbrev pub lengthAt : List ℕ → ℕ → ℕ → ℕ
+lengthAt notes till place = getD notes (till * 11 + 6 + place) 0
+
+-- the numbers at the five places
+unfoldable pub numbers : List ℕ → ℕ → List ℕ
+numbers notes till = counted (numberAt notes till) 0 5
+
+-- how many held numbers are above `n`; above 0: all
+unfoldable pub newerThan : List ℕ → ℕ → ℕ → ℕ
+newerThan notes till n = count (ltb n) (numbers notes till)
+
+unfoldable pub newestOf : List ℕ → ℕ → ℕ
+newestOf notes till = largest (numbers notes till)
+
+-- the lesser of two numbers, where 0 is none
+unfoldable pub lesserHeld : ℕ → ℕ → ℕ
+lesserHeld a b = cond (eqb a 0) b (cond (eqb b 0) a (cond (ltb b a) b a))
+
+-- the least of the numbers other than 0; 0 if there is none
+unfoldable pub leastHeld : List ℕ → ℕ
+leastHeld [] = 0
+leastHeld (n ∷ ns) = lesserHeld n (leastHeld ns)
+
+unfoldable pub oldestOf : List ℕ → ℕ → ℕ
+oldestOf notes till = leastHeld (numbers notes till)
+
+-- the first place of a number, where the list's first place is numbered `i`; past the end if it is not there
+unfoldable pub firstPlace : ℕ → ℕ → List ℕ → ℕ
+firstPlace n i [] = i
+firstPlace n i (x ∷ xs) = cond (eqb x n) i (firstPlace n (suc i) xs)
+
+unfoldable pub placeOf : List ℕ → ℕ → ℕ → ℕ
+placeOf notes till n = firstPlace n 0 (numbers notes till)
+
+-- no version has the number 0
+unfoldable pub isHeld : List ℕ → ℕ → ℕ → Bool
+isHeld notes till n = cond (eqb n 0) false (ltb (placeOf notes till n) 5)
+
+-- 0 for a version not held
+unfoldable pub lengthOf : List ℕ → ℕ → ℕ → ℕ
+lengthOf notes till n = cond (isHeld notes till n) (lengthAt notes till (placeOf notes till n)) 0
+
+-- its place is free
+abbrev pub struck : List ℕ → ℕ → ℕ → List ℕ
+struck notes till n = cond (isHeld notes till n) (set notes (till * 11 + 1 + placeOf notes till n) 0) notes
+
+-- an image's most bytes
+abbrev pub mostBytes : ℕ → ℕ → ℕ
+mostBytes blocks bytes = min (blocks * min bytes 512) 65536
+
+-- the page's numbers in their order; 14 and 16 are not the keeper's to tell
+abbrev pub backupRefusal : ℕ → ℕ → ℕ → List ℕ → ℕ → ℕ → ℕ
+backupRefusal tills versions most notes till bytes =
+    cond (leb tills till) 3
+    (cond (eqb bytes 0) 4
+    (cond (ltb most bytes) 4
+    (cond (leb versions (newerThan notes till 0)) 11
+    (cond (leb 65535 (lastGiven notes till)) 12 0))))
+
+abbrev pub restoreRefusal : ℕ → List ℕ → ℕ → ℕ → ℕ → ℕ
+restoreRefusal tills notes till n room =
+    cond (leb tills till) 3
+    (cond (isHeld notes till n) (cond (ltb room (lengthOf notes till n)) 5 0) 15)
+
+abbrev pub retireRefusal : ℕ → List ℕ → ℕ → ℕ → ℕ
+retireRefusal tills notes till n = cond (leb tills till) 3 (cond (isHeld notes till n) 0 15)

@@ -1,0 +1,71 @@
+//! A table's words as docs/FORMAT.md has them, for looking things up in a sound store.
+
+use std::collections::BTreeSet;
+use terms::Capacities;
+
+/// What a pointer word says.
+#[derive(Clone, Copy, Debug, PartialEq, Eq)]
+pub enum Kind {
+    Null,
+    Direct,
+    /// Names this block of the next newer version.
+    Indirect(usize),
+}
+
+pub fn kind(pointer: u32) -> Kind {
+    match pointer >> 24 {
+        1 => Kind::Direct,
+        2 => Kind::Indirect((pointer & 0x00ff_ffff) as usize),
+        _ => Kind::Null,
+    }
+}
+
+pub struct Words<'a> {
+    table: &'a [u32],
+    versions: usize,
+    blocks: usize,
+    positions: usize,
+    record_words: usize,
+    records_at: usize,
+}
+
+impl<'a> Words<'a> {
+    pub fn new(table: &'a [u32], capacities: Capacities) -> Words<'a> {
+        let [tills, versions, blocks] =
+            [capacities.tills, capacities.versions, capacities.blocks].map(|one| one as usize);
+        let (positions, record_words) = (capacities.segment_blocks as usize, capacities.record_words());
+        let records_at = 8 + tills * (4 + versions * (3 + blocks));
+        Words { table, versions, blocks, positions, record_words, records_at }
+    }
+
+    fn till_at(&self, till: usize) -> usize {
+        8 + till * (4 + self.versions * (3 + self.blocks))
+    }
+
+    /// The numbers in a till's slots that are in use, the oldest first.
+    pub fn numbers(&self, till: usize) -> Vec<u32> {
+        let (at, held) = (self.till_at(till), self.table[self.till_at(till) + 1] as usize);
+        (0..held).map(|slot| self.table[at + 4 + slot * (3 + self.blocks)]).collect()
+    }
+
+    /// The pointer words of a slot, those past the version's last block too.
+    pub fn pointers(&self, till: usize, slot: usize) -> &'a [u32] {
+        let at = self.till_at(till) + 4 + slot * (3 + self.blocks) + 3;
+        &self.table[at..at + self.blocks]
+    }
+
+    /// The cell that a direct pointer leads to.
+    pub fn cell(&self, pointer: u32) -> usize {
+        let place = (pointer & 0x00ff_ffff) as usize;
+        self.table[self.records_at + place / 16 * self.record_words + 3 + place % 16] as usize
+    }
+
+    /// The cells that positions name.
+    pub fn named(&self) -> BTreeSet<usize> {
+        let records = self.table[self.records_at..].chunks(self.record_words);
+        let cells = |record: &[u32]| -> Vec<usize> {
+            (0..self.positions).filter(|i| record[0] >> i & 1 == 1).map(|i| record[3 + i] as usize).collect()
+        };
+        records.flat_map(cells).collect()
+    }
+}
