@@ -8,7 +8,8 @@ use native.Mathlib.Omega.{arith}
 use lib.ListN.{length, getD}
 use lib.Dec.{eqb, leb, ltb}
 use borrow.Author.Tests.{le-leb, lt-leb, eq-eqb, ne-eqb, lt-ltb, le-ltb}
-use Rattle.model.specs.Calls.{BackupAnswer, tillOf, backup, backupAnswer, backupIn, backupOf, placeAndFile}
+use Rattle.model.specs.Image.{withBlanks}
+use Rattle.model.specs.Calls.{BackupAnswer, tillOf, backup, backupAnswer, backupBy, backupIn, backupOf, placeAndFile}
 use Rattle.model.specs.Measures.{Measures}
 use Rattle.model.specs.State.{Outcome, refused, done}
 use Rattle.model.specs.Table.{shapeOf, stateIn}
@@ -28,31 +29,31 @@ bytes-most table m e r q = q ∙ mul-comm (getD table 2 0) (m .blockBytes) ∙ a
 
 module _ {pool table : List ℕ} (h : Sound pool table) (t : ℕ) where
   pub no-till : (image : List ℕ) → getD table 0 0 ≤ t → backupOf pool table t image ≡ refusedBackup 3 pool table
-  unfolding backupOf backupIn backup shapeOf backupAnswer
+  unfolding backupOf backupBy backupIn backup shapeOf backupAnswer
   no-till image n = rw (h .is, le-leb _ _ n)
 
   pub no-bytes : (image : List ℕ) → t < getD table 0 0 → length image ≡ 0 → backupOf pool table t image ≡ refusedBackup 4 pool table
-  unfolding backupOf backupIn backup shapeOf backupAnswer
+  unfolding backupOf backupBy backupIn backup shapeOf backupAnswer
   no-bytes image n z = rw (h .is, lt-leb _ _ n, eq-eqb _ _ z)
 
   pub many-bytes : (image : List ℕ) → t < getD table 0 0 → (length image ≡ 0 → ⊥) → mostBytes table < length image → backupOf pool table t image ≡ refusedBackup 4 pool table
-  unfolding backupOf backupIn backup shapeOf backupAnswer
+  unfolding backupOf backupBy backupIn backup shapeOf backupAnswer
   many-bytes image n z m = rw (h .is, lt-leb _ _ n, ne-eqb _ _ z, lt-ltb _ _ m)
 
   module _ (n : t < getD table 0 0) (image : List ℕ) (some : 0 < length image) (few : length image ≤ mostBytes table) where
     pub no-slot : getD table 1 0 ≤ length (tillOf (stateIn (shapeOf table) pool table) t .versions) → backupOf pool table t image ≡ refusedBackup 11 pool table
-    unfolding backupOf backupIn backup shapeOf backupAnswer
+    unfolding backupOf backupBy backupIn backup shapeOf backupAnswer
     no-slot m = rw (h .is, lt-leb _ _ n, ne-eqb (length image) 0 (λ e. omega (arith, e, some)), le-ltb _ _ few, le-leb _ _ m)
 
     pub no-number : length (tillOf (stateIn (shapeOf table) pool table) t .versions) < getD table 1 0 → tillOf (stateIn (shapeOf table) pool table) t .last ≡ 65535
         → backupOf pool table t image ≡ refusedBackup 12 pool table
-    unfolding backupOf backupIn backup shapeOf backupAnswer
+    unfolding backupOf backupBy backupIn backup shapeOf backupAnswer
     no-number m e = rw (h .is, lt-leb _ _ n, ne-eqb (length image) 0 (λ e. omega (arith, e, some)), le-ltb _ _ few, lt-leb _ _ m, eq-eqb _ _ e)
 
     -- a call that is accepted so far
     pub goes-on : Free pool table t → backupOf pool table t image
-        ≡ backupAnswer pool table (shapeOf table) (placeAndFile (shapeOf table) (stateIn (shapeOf table) pool table) t image (tillOf (stateIn (shapeOf table) pool table) t))
-    unfolding backupOf backupIn backup shapeOf
+        ≡ backupAnswer pool table (shapeOf table) (placeAndFile withBlanks (shapeOf table) (stateIn (shapeOf table) pool table) t image (tillOf (stateIn (shapeOf table) pool table) t))
+    unfolding backupOf backupBy backupIn backup shapeOf
     goes-on f = rw (h .is, lt-leb _ _ n, ne-eqb (length image) 0 (λ e. omega (arith, e, some)), le-ltb _ _ few, lt-leb _ _ (f .room), ne-eqb (tillOf (stateIn (shapeOf table) pool table) t .last) 65535 (λ e. omega (arith, e, f .number)))
 
   module _ (n : t < getD table 0 0) (r : Head) (o : HeadOf pool table t r) where

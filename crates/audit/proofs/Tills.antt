@@ -25,7 +25,7 @@ use Rattle.model.specs.Table.{kindUnit, wordToPointer, versionIn, versionsIn, t
 use Rattle.model.specs.Sound.{isNumbered, areTraceable, isTill}
 use Rattle.laws.proofs.Fits.{PointerFits}
 use Rattle.laws.proofs.RoundTrip.{length-version}
-use Rattle.audit_words.proofs.Pointers.{read-direct, read-indirect, read-other}
+use Rattle.audit_words.proofs.Pointers.{read-direct, read-indirect, read-blank, read-other}
 use Rattle.audit_pointers.proofs.Slots.{pointers-count}
 use Rattle.audit_counts.proofs.Pointers.{SmallVersion, SmallTill}
 use Rattle.audit_tills.specs.Says.{numbersIn, SlotSays, TillSays}
@@ -58,12 +58,13 @@ module _ (w : ℕ) (S : ℕ → List ℕ → Type 0) where
 -- ---- the versions of a till's slots
 
 fits-word : (w : ℕ) → PointerFits (wordToPointer w)
-fits-word w = go (eqb (w / kindUnit) 1) (eqb (w / kindUnit) 2) refl refl
+fits-word w = go (eqb (w / kindUnit) 1) (eqb (w / kindUnit) 2) (eqb (w / kindUnit) 3) refl refl refl
   where
-    go : (a c : Bool) → eqb (w / kindUnit) 1 ≡ a → eqb (w / kindUnit) 2 ≡ c → PointerFits (wordToPointer w)
-    go true c e g = rw (read-direct w (eqb-true _ _ e)) (omega arith, omega arith)
-    go false true e g = rw (read-indirect w (eqb-true _ _ g)) (omega arith)
-    go false false e g = rw (read-other w (eqb-false _ _ e) (eqb-false _ _ g)) tt
+    go : (a b c : Bool) → eqb (w / kindUnit) 1 ≡ a → eqb (w / kindUnit) 2 ≡ b → eqb (w / kindUnit) 3 ≡ c → PointerFits (wordToPointer w)
+    go true b c e g h = rw (read-direct w (eqb-true _ _ e)) (omega arith, omega arith)
+    go false true c e g h = rw (read-indirect w (eqb-true _ _ g)) (omega arith)
+    go false false true e g h = rw (read-blank w (eqb-true _ _ h)) tt
+    go false false false e g h = rw (read-other w (eqb-false _ _ e) (eqb-false _ _ g) (eqb-false _ _ h)) tt
 
 fits-words : (bytes : ℕ) (row : List ℕ) → Each PointerFits (versionIn bytes row .pointers)
 unfolding versionIn

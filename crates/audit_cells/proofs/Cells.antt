@@ -12,7 +12,7 @@ use Rattle.lists.specs.Marks.{fits, marked, collect, Marks}
 use Rattle.lists.proofs.Checkers.{clash}
 use Rattle.lists.proofs.Tests.{clause, all-true}
 use Rattle.lists.proofs.Cuts.{length-chunks, chunk-at, length-read}
-use Rattle.model.specs.State.{Block, nullPosition, held, removed, Segment}
+use Rattle.model.specs.State.{Block, nullPosition, blankPosition, held, removed, Segment}
 use Rattle.model.specs.Measures.{Measures, recordWords}
 use Rattle.model.specs.Records.{cellsOf, namedCells}
 use Rattle.model.specs.Table.{positionOf, positionsIn, segmentIn, recordsIn, cellsIn, shelfIn}
@@ -28,6 +28,7 @@ cells-of : (seg : Segment) → rows (λ p. cellsOf (p ∷ [])) seg ≡ cellsOf s
 unfolding joined cellsOf
 cells-of [] = refl
 cells-of (nullPosition ∷ seg) = cells-of seg
+cells-of (blankPosition ∷ seg) = cells-of seg
 cells-of (held c n ∷ seg) = ap {B = List ℕ} (λ l. c ∷ l) (cells-of seg)
 cells-of (removed ∷ seg) = cells-of seg
 
@@ -48,21 +49,23 @@ record-cells n seg l =
     ∙ cells-of seg
 
 -- none where no position is held
-none-held : (r : ℕ) (cs ns : List ℕ) → cellsOf (positionsIn 0 r cs ns) ≡ []
+none-held : (r b : ℕ) (cs ns : List ℕ) → cellsOf (positionsIn 0 r b cs ns) ≡ []
 unfolding positionsIn positionOf cellsOf
-none-held r [] ns = refl
-none-held r (c ∷ cs) [] = refl
-none-held r (c ∷ cs) (n ∷ ns) = go (r % 2) (none-held (r / 2) cs ns)
+none-held r b [] ns = refl
+none-held r b (c ∷ cs) [] = refl
+none-held r b (c ∷ cs) (n ∷ ns) = go (r % 2) (b % 2) (none-held (r / 2) (b / 2) cs ns)
   where
-    go : (b : ℕ) → cellsOf (positionsIn 0 (r / 2) cs ns) ≡ [] → cellsOf (positionOf 0 b c n ∷ positionsIn 0 (r / 2) cs ns) ≡ []
-    go zero e = e
-    go (suc b) e = e
+    go : (x y : ℕ) → cellsOf (positionsIn 0 (r / 2) (b / 2) cs ns) ≡ [] → cellsOf (positionOf 0 x y c n ∷ positionsIn 0 (r / 2) (b / 2) cs ns) ≡ []
+    go zero zero e = e
+    go zero (suc y) e = e
+    go (suc x) y e = e
 
 pub marks-none : (n : ℕ) (row : List ℕ) (c : ℕ) (occ : List Bool) → getD row 0 0 ≡ 0 → Marks true c (cellsOf (segmentIn n row)) occ occ
 unfolding segmentIn fits marked
 marks-none n row c occ e =
     let z : cellsOf (segmentIn n row) ≡ [] =
-    ap (λ (h : ℕ). cellsOf (positionsIn h (getD row 1 0) (take n (drop 3 row)) (take n (drop (3 + n) row)))) e ∙ none-held (getD row 1 0) (take n (drop 3 row)) (take n (drop (3 + n) row)) in
+    ap (λ (h : ℕ). cellsOf (positionsIn h (getD row 1 0) (getD row 2 0) (take n (drop 3 row)) (take n (drop (3 + n) row)))) e
+    ∙ none-held (getD row 1 0) (getD row 2 0) (take n (drop 3 row)) (take n (drop (3 + n) row)) in
     record { ok = ap (λ (cs : List ℕ). fits c cs occ) (sym z); done = λ t. ap (λ (cs : List ℕ). marked cs occ) (sym z) }
 
 -- by record
@@ -153,7 +156,7 @@ module _ (sz : Measures) (m : ℕ) (pool ws : List ℕ) (most : length pool / sz
 module _ (n : ℕ) (row : List ℕ) (l : length row ≡ recordWords n) (i : ℕ) (h : i < n) where
   pub cell-held : bitOf (getD row 0 0) i ≡ 1 → cellsOf (getD (segmentIn n row) i nullPosition ∷ []) ≡ getD row (3 + i) 0 ∷ []
   unfolding cellsOf
-  cell-held e = rw (segment-at n row l i h, position-held (bitOf (getD row 0 0) i) (bitOf (getD row 1 0) i) (getD row (3 + i) 0) (getD row (3 + n + i) 0) e)
+  cell-held e = rw (segment-at n row l i h, position-held (bitOf (getD row 0 0) i) (bitOf (getD row 1 0) i) (bitOf (getD row 2 0) i) (getD row (3 + i) 0) (getD row (3 + n + i) 0) e)
 
   pub cell-none : (bitOf (getD row 0 0) i ≡ 1 → ⊥) → cellsOf (getD (segmentIn n row) i nullPosition ∷ []) ≡ []
-  cell-none e = rw (segment-at n row l i h) (other-cells _ _ _ _ (bit-off (getD row 0 0) i e))
+  cell-none e = rw (segment-at n row l i h) (other-cells _ _ _ _ _ (bit-off (getD row 0 0) i e))

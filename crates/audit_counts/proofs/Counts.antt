@@ -65,16 +65,17 @@ module _ (ps : List Pointer) (k i c n : ℕ) where
   abbrev Asked : ℕ → Type 0
   Asked a = a ≡ 1 → (1 ≤ n) × (n ≡ count (leadsTo k i) ps)
 
-  position-says : (a b : ℕ) → a < 2 → Asked a → isCounted ps k i (positionOf a b c n) ≡ true
+  position-says : (a r b : ℕ) → a < 2 → Asked a → isCounted ps k i (positionOf a r b c n) ≡ true
   unfolding positionOf
-  position-says zero zero l h = refl
-  position-says zero (suc b) l h = refl
-  position-says (suc a) b l h = let g = h (omega arith) in all-true _ (lt-ltb 0 _ (g .0), (eq-eqb _ _ (g .1), tt))
+  position-says zero zero zero l h = refl
+  position-says zero zero (suc b) l h = refl
+  position-says zero (suc r) b l h = refl
+  position-says (suc a) r b l h = let g = h (omega arith) in all-true _ (lt-ltb 0 _ (g .0), (eq-eqb _ _ (g .1), tt))
 
-  says-position : (a b : ℕ) → isCounted ps k i (positionOf a b c n) ≡ true → Asked a
+  says-position : (a r b : ℕ) → isCounted ps k i (positionOf a r b c n) ≡ true → Asked a
   unfolding positionOf
-  says-position zero b h e = absurd (omega arith)
-  says-position (suc a) b h e = (ltb-true 0 _ (clause _ 0 h), eqb-true _ _ (clause _ 1 h))
+  says-position zero r b h e = absurd (omega arith)
+  says-position (suc a) r b h e = (ltb-true 0 _ (clause _ 0 h), eqb-true _ _ (clause _ 1 h))
 
 -- ---- a record's words
 
@@ -83,11 +84,11 @@ module _ (n : ℕ) (ps : List Pointer) (k : ℕ) (row : List ℕ) (l : length ro
   record-says h =
       counted-of ps k 0 (segmentIn n row) (λ j b.
       let g : j < n = rw (segment-long n row l) at b in
-      rw (zero-add j, segment-at n row l j g) (position-says ps k j _ _ (bitOf (getD row 0 0) j) (bitOf (getD row 1 0) j) (omega arith) (h j g)))
+      rw (zero-add j, segment-at n row l j g) (position-says ps k j _ _ (bitOf (getD row 0 0) j) (bitOf (getD row 1 0) j) (bitOf (getD row 2 0) j) (omega arith) (h j g)))
 
   says-record : areCounted ps k 0 (segmentIn n row) ≡ true → (i : ℕ) → i < n → CountSays n row i (count (leadsTo k i) ps)
   says-record h i b =
-      says-position ps k i _ _ (bitOf (getD row 0 0) i) (bitOf (getD row 1 0) i)
+      says-position ps k i _ _ (bitOf (getD row 0 0) i) (bitOf (getD row 1 0) i) (bitOf (getD row 2 0) i)
       (rw (zero-add i, segment-at n row l i b) at (counted-at ps k 0 (segmentIn n row) h i (rw (segment-long n row l) b)))
 
 -- ---- counters that were made from zeros

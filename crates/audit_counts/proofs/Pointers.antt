@@ -13,7 +13,7 @@ use Rattle.lists.specs.Rows.{joined, rows, fill}
 use Rattle.lists.specs.Each.{Each}
 use Rattle.lists.proofs.Counts.{count-append}
 use Rattle.model.specs.Measures.{slotWords}
-use Rattle.model.specs.State.{Pointer, nullPointer, direct, indirect, Version, Till}
+use Rattle.model.specs.State.{Pointer, nullPointer, blankPointer, direct, indirect, Version, Till}
 use Rattle.model.specs.Table.{kindUnit, pointerWord, versionToWords, tillToWords}
 use Rattle.model.specs.Sound.{leadsTo, allPointers}
 use Rattle.laws.proofs.Fits.{PointerFits}
@@ -54,6 +54,7 @@ module _ (k i : ℕ) (hi : i < 16) (hq : k * 16 + i < kindUnit) where
   one : (p : Pointer) → PointerFits p → _≡_ {A = ℕ} (cond (eqb (pointerWord p) (kindUnit + q)) 1 0) (cond (leadsTo k i p) 1 0)
   unfolding pointerWord allOf
   one nullPointer h = rw (ne-eqb 0 (kindUnit + q) (λ e. absurd (omega arith)))
+  one blankPointer h = rw (ne-eqb (3 * kindUnit) (kindUnit + q) (λ e. absurd (omega arith)))
   one (direct k′ i′) h = go (eqb k k′) (eqb i i′) refl refl
     where
       go : (a b : Bool) → eqb k k′ ≡ a → eqb i i′ ≡ b

@@ -1,12 +1,12 @@
 -- Positions of records' words, and pointers of pointer words.
 use mathlib.Core.Path.{_≡_, refl, sym, ap, ap₂, _∙_}
-use mathlib.Core.Bool.{Bool, true, false, not}
+use mathlib.Core.Bool.{false, not}
 use mathlib.Core.List.{List, [], map}
-use Prim.Native.Nat.{ℕ, _+_, _*_, _/_, _≤_, _<_}
+use Prim.Native.Nat.{ℕ, zero, suc, _+_, _*_, _/_, _%_, _≤_, _<_}
 use native.Mathlib.Nat.{add-zero, mul-le-mul}
 use native.Mathlib.Omega.{arith}
-use borrow.Author.Tests.{eqb-true, eqb-false}
-use lib.Dec.{eqb}
+use borrow.Author.Tests.{lt-leb}
+use lib.Dec.{leb}
 use lib.ListN.{length, getD, take, drop, length-drop, length-map, List·getD-map, List·getD-eq-default}
 use lib.Seq.{length-take-le, drop-nil, take-nil}
 use Rattle.lists.specs.Rows.{chunks}
@@ -17,7 +17,7 @@ use Rattle.model.specs.State.{nullPointer, Position, nullPosition, Segment}
 use Rattle.model.specs.Table.{kindUnit, wordToPointer, pointerOf, positionOf, positionsIn, segmentIn, recordsIn}
 use Rattle.model.specs.Sound.{isNull}
 use Rattle.audit_words.specs.Words.{bitOf}
-use Rattle.audit_words.proofs.Pointers.{read-direct, read-indirect, read-other}
+use Rattle.audit_words.proofs.Pointers.{read-null}
 use Rattle.audit_words.proofs.Positions.{segment-at, segment-past}
 
 -- ---- positions
@@ -49,11 +49,12 @@ module _ (n : ℕ) where
 
     pub position-in : k * recordWords n + recordWords n ≤ length ws → i < n
         → position
-        ≡ positionOf (bitOf (getD ws (k * recordWords n) 0) i) (bitOf (getD ws (k * recordWords n + 1) 0) i) (getD ws (k * recordWords n + (3 + i)) 0) (getD ws (k * recordWords n + (3 + n + i)) 0)
+        ≡ positionOf (bitOf (getD ws (k * recordWords n) 0) i) (bitOf (getD ws (k * recordWords n + 1) 0) i) (bitOf (getD ws (k * recordWords n + 2) 0) i) (getD ws (k * recordWords n + (3 + i)) 0) (getD ws (k * recordWords n + (3 + n + i)) 0)
     position-in h g =
         ap (λ (seg : Segment). getD seg i nullPosition) (record-is h) ∙ segment-at n row (row-long h) i g
-        ∙ ap₂ (λ (x y : ℕ). positionOf (bitOf x i) (bitOf y i) (getD row (3 + i) 0) (getD row (3 + n + i) 0)) (word 0 (omega arith) ∙ ap (λ (j : ℕ). getD ws j 0) (add-zero (k * recordWords n))) (word 1 (omega arith))
-        ∙ ap₂ (positionOf (bitOf (getD ws (k * recordWords n) 0) i) (bitOf (getD ws (k * recordWords n + 1) 0) i)) (word (3 + i) (omega (arith, g))) (word (3 + n + i) (omega (arith, g)))
+        ∙ ap₂ (λ (x y : ℕ). positionOf (bitOf x i) (bitOf y i) (bitOf (getD row 2 0) i) (getD row (3 + i) 0) (getD row (3 + n + i) 0)) (word 0 (omega arith) ∙ ap (λ (j : ℕ). getD ws j 0) (add-zero (k * recordWords n))) (word 1 (omega arith))
+        ∙ ap (λ (x : ℕ). positionOf (bitOf (getD ws (k * recordWords n) 0) i) (bitOf (getD ws (k * recordWords n + 1) 0) i) (bitOf x i) (getD row (3 + i) 0) (getD row (3 + n + i) 0)) (word 2 (omega arith))
+        ∙ ap₂ (positionOf (bitOf (getD ws (k * recordWords n) 0) i) (bitOf (getD ws (k * recordWords n + 1) 0) i) (bitOf (getD ws (k * recordWords n + 2) 0) i)) (word (3 + i) (omega (arith, g))) (word (3 + n + i) (omega (arith, g)))
       where
         word : (j : ℕ) → j < recordWords n → getD row j 0 ≡ getD ws (k * recordWords n + j) 0
         word j h = part-word (recordWords n) ws k j 0 h
@@ -77,12 +78,17 @@ pointer-in ws b = List·getD-map wordToPointer ws b 0
 pub pointer-past : (ws : List ℕ) (b : ℕ) → length ws ≤ b → getD (map wordToPointer ws) b nullPointer ≡ nullPointer
 pointer-past ws b h = List·getD-eq-default (map wordToPointer ws) nullPointer {n = b} (omega (arith, length-map ws wordToPointer))
 
-pub null-one : (w : ℕ) → w / kindUnit ≡ 1 → not (isNull (wordToPointer w)) ≡ true
-null-one w e = rw (read-direct w e)
+-- null: of kind 0, or of none
+pub null-kind : (w : ℕ) → w / kindUnit ≡ 0 → not (isNull (wordToPointer w)) ≡ false
+null-kind w e = rw (read-null w e)
 
-pub null-two : (w : ℕ) → (w / kindUnit ≡ 1 → ⊥) → not (isNull (wordToPointer w)) ≡ eqb (w / kindUnit) 2
-null-two w n = go (eqb (w / kindUnit) 2) refl
+pub some-kind : (w : ℕ) → (w / kindUnit ≡ 0 → ⊥) → not (isNull (wordToPointer w)) ≡ leb (w / kindUnit) 3
+unfolding wordToPointer pointerOf
+some-kind w h = go (w / kindUnit) (w % kindUnit) h
   where
-    go : (t : Bool) → eqb (w / kindUnit) 2 ≡ t → not (isNull (wordToPointer w)) ≡ t
-    go true e = rw (read-indirect w (eqb-true _ _ e))
-    go false e = rw (read-other w n (eqb-false _ _ e))
+    go : (k n : ℕ) → (k ≡ 0 → ⊥) → not (isNull (pointerOf k n)) ≡ leb k 3
+    go zero n h = absurd (h refl)
+    go (suc zero) n h = refl
+    go (suc (suc zero)) n h = refl
+    go (suc (suc (suc zero))) n h = refl
+    go (suc (suc (suc (suc k)))) n h = sym (lt-leb (suc (suc (suc (suc k)))) 3 (omega arith))

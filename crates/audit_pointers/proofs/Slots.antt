@@ -18,7 +18,7 @@ use Rattle.model.specs.Table.{kindUnit, wordToPointer, pointerOf, versionIn, ve
 use Rattle.model.specs.Trace.{endVia, endOf}
 use Rattle.lists.proofs.Answers.{take-length}
 use Rattle.laws.proofs.Measures.{parts-enough, parts-least}
-use Rattle.audit_words.proofs.Pointers.{read-null, read-direct, read-indirect, read-other}
+use Rattle.audit_words.proofs.Pointers.{read-null, read-direct, read-indirect, read-blank, read-other}
 use Rattle.audit_pointers.proofs.Positions.{pointer-in}
 
 -- ---- a slot's pointers
@@ -93,11 +93,12 @@ versions-end bytes b n i ws h = let e : n - i ≡ 0 = omega arith in rw e
 
 via-stop : (w : ℕ) (next : ℕ → Pointer) → (w / kindUnit ≡ 2 → ⊥) → endVia (wordToPointer w) next ≡ wordToPointer w
 unfolding endVia
-via-stop w next n = go (eqb (w / kindUnit) 1) refl
+via-stop w next n = go (eqb (w / kindUnit) 1) (eqb (w / kindUnit) 3) refl refl
   where
-    go : (t : Bool) → eqb (w / kindUnit) 1 ≡ t → endVia (wordToPointer w) next ≡ wordToPointer w
-    go true e = rw (read-direct w (eqb-true _ _ e))
-    go false e = rw (read-other w (eqb-false _ _ e) n)
+    go : (a b : Bool) → eqb (w / kindUnit) 1 ≡ a → eqb (w / kindUnit) 3 ≡ b → endVia (wordToPointer w) next ≡ wordToPointer w
+    go true b e f = rw (read-direct w (eqb-true _ _ e))
+    go false true e f = rw (read-blank w (eqb-true _ _ f))
+    go false false e f = rw (read-other w (eqb-false _ _ e) n (eqb-false _ _ f))
 
 module _ (bytes bl n : ℕ) (ws : List ℕ) (i b w : ℕ) (h : i < n)
     (e : wordToPointer w ≡ getD (versionIn bytes (take (3 + bl) (drop (i * (3 + bl)) ws)) .pointers) b nullPointer) where

@@ -14,6 +14,7 @@ ghost use Rattle.audit_counts.specs.Counters.{bumped, tallied};
 ghost use Rattle.audit_pointers.specs.Good.{PointerGood, PointersGood};
 use numbers::Block;
 use numbers::Cell;
+use numbers::Pointer;
 use numbers::RecordNumber;
 
 // Whether a position of a record, of n, is held.
@@ -60,14 +61,14 @@ fn not_null(words: &[u32], b: Block) -> bool
         return false;
     }
     let kind = words[at] / 0x100_0000;
-    if kind == 1 {
-        return true;
+    if kind == 0 {
+        return false;
     }
-    kind == 2
+    kind <= 3
 }
 
 // Whether a word says a pointer that leads to a held position, or to a block of the next newer version that is not null; whatever the cells.
-// It is counted.
+// It is counted. The kinds that stand in most versions are tested first.
 fn pointer_good(records: &[u32], newer: &[u32], w: u32, counts: &mut [u32], n: usize) -> bool
     requires { ⌜ (n ≤ 16) × ((k : ℕ) → getD (now counts) k 0 + 1 < 2 ^ 32) ⌝ }
     ensures { λ r. ⌜ ((shelf : Shelf) → shelf .records ≡ recordsIn n (now (records .entry)) → Tells r (PointerGood shelf (now (newer .entry)) w)) × (r ≡ true → now (counts .exit) ≡ bumped w (now (counts .entry))) ⌝ }
@@ -81,7 +82,10 @@ fn pointer_good(records: &[u32], newer: &[u32], w: u32, counts: &mut [u32], n: u
         audit_counts::bump(counts, w);
         return held_at(records, RecordNumber(low / 16), (low % 16) as usize, n);
     }
-    w == 0
+    if w == Pointer::null().0 {
+        return true;
+    }
+    w == Pointer::blank().0
 }
 
 // Whether each of some words says a pointer, which does. They are counted on the way, so that one pass serves for all.

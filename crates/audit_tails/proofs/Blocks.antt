@@ -2,12 +2,12 @@
 use mathlib.Core.Path.{_≡_, refl, sym, ap, ap₂, _∙_}
 use mathlib.Core.Bool.{Bool, true, false}
 use mathlib.Core.List.{List, []}
-use Prim.Native.Nat.{ℕ, zero, _+_, _-_, _*_, _/_, _%_, _≤_, _<_}
+use Prim.Native.Nat.{ℕ, zero, suc, _+_, _-_, _*_, _/_, _%_, _≤_, _<_}
 use native.Mathlib.Nat.{sub-zero, one-mul, mul-comm, mul-le-mul-right}
 use native.Mathlib.Omega.{arith}
-use borrow.Author.Tests.{eqb-true, eqb-false}
-use lib.Dec.{eqb}
-use lib.ListN.{length, getD, take, drop, drop-of-length-le, length-take, List·getD-eq-default}
+use borrow.Author.Tests.{eqb-true, eqb-false, leb-true, leb-false}
+use lib.Dec.{eqb, leb}
+use lib.ListN.{length, getD, take, drop, replicate, drop-of-length-le, length-take, List·getD-eq-default}
 use lib.Seq.{drop-drop, drop-nil, getD-take, length-take-le}
 use Rattle.lists.specs.Lists.{every, allZero}
 use Rattle.lists.proofs.Same.{zeros-zero}
@@ -16,12 +16,12 @@ use Rattle.lists.proofs.Cuts.{length-chunks, chunk-at}
 use Rattle.lists.proofs.Places.{in-row, rows-short}
 use Rattle.model.specs.Measures.{Measures}
 use Rattle.model.specs.State.{nullPosition, Shelf, Version}
-use Rattle.model.specs.Image.{zeroBlock}
+use Rattle.model.specs.Image.{zeroBlock, blankBlock}
 use Rattle.model.specs.Records.{cellOf, cellAt, positionAt}
 use Rattle.model.specs.Table.{kindUnit, wordToPointer, recordsIn, cellsIn, shelfIn, versionIn, versionsIn}
 use Rattle.model.specs.Trace.{endOf, blockAt, tracedBlock}
 use Rattle.model.specs.Sound.{endsZero}
-use Rattle.audit_words.proofs.Pointers.{read-direct, read-indirect, read-other}
+use Rattle.audit_words.proofs.Pointers.{read-direct, read-indirect, read-blank, read-other}
 use Rattle.audit_pointers.proofs.Slots.{versions-cons}
 
 -- ---- blockAt
@@ -30,14 +30,32 @@ zeros-drop : (k bytes : ℕ) → allZero (drop k (zeroBlock bytes)) ≡ true
 unfolding zeroBlock
 zeros-drop k bytes = ap allZero (drop-same 0 k bytes) ∙ zeros-zero (bytes - k)
 
--- null or indirect: zero
-pub other-block : (bytes : ℕ) (shelf : Shelf) (w from : ℕ) → (w / kindUnit ≡ 1 → ⊥) → allZero (drop from (blockAt bytes shelf (wordToPointer w))) ≡ true
+blanks-some : (n : ℕ) → 0 < n → allZero (replicate n 255) ≡ false
+unfolding allZero every
+blanks-some zero h = absurd (omega arith)
+blanks-some (suc n) h = refl
+
+blanks-drop : (k bytes : ℕ) → allZero (drop k (blankBlock bytes)) ≡ leb bytes k
+unfolding blankBlock
+blanks-drop k bytes = ap allZero (drop-same 255 k bytes) ∙ go (leb bytes k) refl
+  where
+    go : (t : Bool) → leb bytes k ≡ t → allZero (replicate (bytes - k) 255) ≡ t
+    go true e = let z : bytes - k ≡ 0 = omega (arith, leb-true bytes k e) in rw z (zeros-zero 0)
+    go false e = blanks-some (bytes - k) (omega (arith, leb-false bytes k e))
+
+-- blank: zero from its end on only
+pub blank-block : (bytes : ℕ) (shelf : Shelf) (w from : ℕ) → w / kindUnit ≡ 3 → allZero (drop from (blockAt bytes shelf (wordToPointer w))) ≡ leb bytes from
 unfolding blockAt
-other-block bytes shelf w from n = go (eqb (w / kindUnit) 2) refl
+blank-block bytes shelf w from e = rw (read-blank w e) (blanks-drop from bytes)
+
+-- null or indirect: zero
+pub other-block : (bytes : ℕ) (shelf : Shelf) (w from : ℕ) → (w / kindUnit ≡ 3 → ⊥) → (w / kindUnit ≡ 1 → ⊥) → allZero (drop from (blockAt bytes shelf (wordToPointer w))) ≡ true
+unfolding blockAt
+other-block bytes shelf w from b n = go (eqb (w / kindUnit) 2) refl
   where
     go : (t : Bool) → eqb (w / kindUnit) 2 ≡ t → allZero (drop from (blockAt bytes shelf (wordToPointer w))) ≡ true
     go true e = rw (read-indirect w (eqb-true _ _ e)) (zeros-drop from bytes)
-    go false e = rw (read-other w n (eqb-false _ _ e)) (zeros-drop from bytes)
+    go false e = rw (read-other w n (eqb-false _ _ e) b) (zeros-drop from bytes)
 
 -- direct: the bytes of cell c, which begin at byte `at`
 module _ (m : Measures) (some : 0 < m .blockBytes) (pool ws : List ℕ) (w c at from : ℕ) (k : w / kindUnit ≡ 1)

@@ -23,12 +23,16 @@ fn minus(a: usize, b: usize) -> usize
     a - b
 }
 
-// Whether the block at a pointer that is not indirect is zero from a byte on.
+// Whether the block at a pointer that is not indirect is zero from a byte on. A blank one is from its end on only.
 fn block_zero(pool: &[u8], records: &[u32], w: u32, from: usize, m: Measures) -> bool
     requires { ⌜ Measured (measuresOf m) ⌝ }
     ensures { λ r. ⌜ r ≡ allZero (drop from (blockAt (m .bytes) (shelfIn (measuresOf m) (now (pool .entry)) (now (records .entry))) (wordToPointer w))) ⌝ }
 {
-    if w / 0x100_0000 != 1 {
+    let kind = w / 0x100_0000;
+    if kind == 3 {
+        return m.bytes <= from;
+    }
+    if kind != 1 {
         return true;
     }
     let low = w % 0x100_0000;

@@ -1,8 +1,11 @@
 -- What a word of each kind is read as, and which words say a pointer.
-use mathlib.Core.Path.{_≡_, refl, sym, ap}
+use mathlib.Core.Path.{_≡_, refl, sym, ap, _∙_}
+use mathlib.Core.Bool.{Bool, true, false}
 use Prim.Native.Nat.{ℕ, zero, suc, _/_, _%_}
+use borrow.Author.Tests.{eqb-true, eqb-false}
+use lib.Dec.{eqb}
 use native.Mathlib.Omega.{arith}
-use Rattle.model.specs.State.{nullPointer, direct, indirect}
+use Rattle.model.specs.State.{nullPointer, blankPointer, direct, indirect}
 use Rattle.model.specs.Table.{kindUnit, pointerWord, pointerOf, wordToPointer}
 use Rattle.audit_words.specs.Words.{PointerSays}
 
@@ -18,16 +21,21 @@ pub read-indirect : (w : ℕ) → w / kindUnit ≡ 2 → wordToPointer w ≡ ind
 unfolding wordToPointer pointerOf
 read-indirect w e = ap (λ (k : ℕ). pointerOf k (w % kindUnit)) e
 
-other : (k n : ℕ) → (k ≡ 1 → ⊥) → (k ≡ 2 → ⊥) → pointerOf k n ≡ nullPointer
-unfolding pointerOf
-other zero n a b = refl
-other (suc zero) n a b = absurd (a refl)
-other (suc (suc zero)) n a b = absurd (b refl)
-other (suc (suc (suc k))) n a b = refl
+pub read-blank : (w : ℕ) → w / kindUnit ≡ 3 → wordToPointer w ≡ blankPointer
+unfolding wordToPointer pointerOf
+read-blank w e = ap (λ (k : ℕ). pointerOf k (w % kindUnit)) e
 
-pub read-other : (w : ℕ) → (w / kindUnit ≡ 1 → ⊥) → (w / kindUnit ≡ 2 → ⊥) → wordToPointer w ≡ nullPointer
+other : (k n : ℕ) → (k ≡ 1 → ⊥) → (k ≡ 2 → ⊥) → (k ≡ 3 → ⊥) → pointerOf k n ≡ nullPointer
+unfolding pointerOf
+other zero n a b d = refl
+other (suc zero) n a b d = absurd (a refl)
+other (suc (suc zero)) n a b d = absurd (b refl)
+other (suc (suc (suc zero))) n a b d = absurd (d refl)
+other (suc (suc (suc (suc k)))) n a b d = refl
+
+pub read-other : (w : ℕ) → (w / kindUnit ≡ 1 → ⊥) → (w / kindUnit ≡ 2 → ⊥) → (w / kindUnit ≡ 3 → ⊥) → wordToPointer w ≡ nullPointer
 unfolding wordToPointer
-read-other w a b = other (w / kindUnit) (w % kindUnit) a b
+read-other w a b d = other (w / kindUnit) (w % kindUnit) a b d
 
 -- ---- PointerSays
 
@@ -39,10 +47,24 @@ pub indirect-says : (w : ℕ) → w / kindUnit ≡ 2 → PointerSays w
 unfolding pointerWord
 indirect-says w e = rw (read-indirect w e) (omega arith)
 
-pub null-says : (w : ℕ) → w ≡ 0 → PointerSays w
+-- the two words that stand alone
+pub null-reads : (w : ℕ) → w ≡ pointerWord nullPointer → wordToPointer w ≡ nullPointer
 unfolding pointerWord
-null-says w e = rw (read-null w (omega arith)) (sym e)
+null-reads w e = read-null w (omega arith)
 
-pub other-says : (w : ℕ) → (w / kindUnit ≡ 1 → ⊥) → (w / kindUnit ≡ 2 → ⊥) → PointerSays w → w ≡ 0
+pub blank-reads : (w : ℕ) → w ≡ pointerWord blankPointer → wordToPointer w ≡ blankPointer
 unfolding pointerWord
-other-says w a b e = sym (rw (read-other w a b) at e)
+blank-reads w e = read-blank w (omega arith)
+
+pub null-says : (w : ℕ) → w ≡ pointerWord nullPointer → PointerSays w
+null-says w e = ap pointerWord (null-reads w e) ∙ sym e
+
+pub blank-says : (w : ℕ) → w ≡ pointerWord blankPointer → PointerSays w
+blank-says w e = ap pointerWord (blank-reads w e) ∙ sym e
+
+pub other-says : (w : ℕ) → (w / kindUnit ≡ 1 → ⊥) → (w / kindUnit ≡ 2 → ⊥) → (w ≡ pointerWord nullPointer → ⊥) → PointerSays w → w ≡ pointerWord blankPointer
+other-says w a b z e = go (eqb (w / kindUnit) 3) refl
+  where
+    go : (t : Bool) → eqb (w / kindUnit) 3 ≡ t → w ≡ pointerWord blankPointer
+    go true k = sym (rw (read-blank w (eqb-true _ _ k)) at e)
+    go false k = absurd (z (sym (rw (read-other w a b (eqb-false _ _ k)) at e)))

@@ -16,8 +16,8 @@ use Rattle.lists.proofs.Tests.{or-true, or-left}
 use Rattle.lists.proofs.Checkers.{clash}
 use Rattle.lists.proofs.Slices.{drop-next}
 use Rattle.model.specs.Measures.{recordWords}
-use Rattle.model.specs.State.{Position, nullPosition, held, removed, Segment}
-use Rattle.model.specs.Records.{isHeld, isRemoved, isFree, cellOf, countOf}
+use Rattle.model.specs.State.{Position, nullPosition, blankPosition, held, removed, Segment}
+use Rattle.model.specs.Records.{isHeld, isRemoved, isBlankPosition, isFree, cellOf, countOf}
 use Rattle.model.specs.Table.{positionOf, positionsIn, segmentIn, recordToWords}
 use Rattle.model.specs.Sound.{isUsed}
 use Rattle.audit_words.specs.Words.{bitOf, PositionForm, RecordForm}
@@ -26,64 +26,87 @@ use Rattle.audit_words.proofs.Positions.{cells-long, counts-long, segme
 -- ---- positions read from masks, cells and counts: these again
 
 -- position i of masks, cells and counts
-record Form (h r c n i : ℕ) : Type 0 where
-  one : bitOf h i ≡ 1 → bitOf r i ≡ 0
+record Form (h r b c n i : ℕ) : Type 0 where
+  kept : bitOf h i ≡ 1 → bitOf r i ≡ 0
+  stored : bitOf h i ≡ 1 → bitOf b i ≡ 0
+  gone : bitOf r i ≡ 1 → bitOf b i ≡ 0
   cell : bitOf h i ≡ 0 → c ≡ 0
   count : bitOf h i ≡ 0 → n ≡ 0
 
-record Kept (h r : ℕ) (cs ns : List ℕ) : Type 0 where
-  helds : maskOf isHeld (positionsIn h r cs ns) ≡ h
-  removeds : maskOf isRemoved (positionsIn h r cs ns) ≡ r
-  cells : map cellOf (positionsIn h r cs ns) ≡ cs
-  counts : map countOf (positionsIn h r cs ns) ≡ ns
+record Kept (h r b : ℕ) (cs ns : List ℕ) : Type 0 where
+  helds : maskOf isHeld (positionsIn h r b cs ns) ≡ h
+  removeds : maskOf isRemoved (positionsIn h r b cs ns) ≡ r
+  blanks : maskOf isBlankPosition (positionsIn h r b cs ns) ≡ b
+  cells : map cellOf (positionsIn h r b cs ns) ≡ cs
+  counts : map countOf (positionsIn h r b cs ns) ≡ ns
 
 module _ (c n : ℕ) where
-  held-bit : (a b : ℕ) → a < 2 → cond (isHeld (positionOf a b c n)) 1 0 ≡ a
+  held-bit : (h r b : ℕ) → h < 2 → cond (isHeld (positionOf h r b c n)) 1 0 ≡ h
   unfolding positionOf
-  held-bit zero zero h = refl
-  held-bit zero (suc b) h = refl
-  held-bit (suc a) b h = omega arith
+  held-bit zero zero zero l = refl
+  held-bit zero zero (suc b) l = refl
+  held-bit zero (suc r) b l = refl
+  held-bit (suc h) r b l = omega arith
 
-  removed-bit : (a b : ℕ) → a < 2 → b < 2 → (a ≡ 1 → b ≡ 0) → cond (isRemoved (positionOf a b c n)) 1 0 ≡ b
+  removed-bit : (h r b : ℕ) → h < 2 → r < 2 → (h ≡ 1 → r ≡ 0) → cond (isRemoved (positionOf h r b c n)) 1 0 ≡ r
   unfolding positionOf
-  removed-bit zero zero h g o = refl
-  removed-bit zero (suc b) h g o = omega arith
-  removed-bit (suc a) b h g o = sym (o (omega arith))
+  removed-bit zero zero zero l g o = refl
+  removed-bit zero zero (suc b) l g o = refl
+  removed-bit zero (suc r) b l g o = omega arith
+  removed-bit (suc h) r b l g o = sym (o (omega arith))
 
-  cell-of : (a b : ℕ) → (a ≡ 0 → c ≡ 0) → cellOf (positionOf a b c n) ≡ c
+  blank-bit : (h r b : ℕ) → h < 2 → r < 2 → b < 2 → (h ≡ 1 → b ≡ 0) → (r ≡ 1 → b ≡ 0) → cond (isBlankPosition (positionOf h r b c n)) 1 0 ≡ b
   unfolding positionOf
-  cell-of zero zero z = sym (z refl)
-  cell-of zero (suc b) z = sym (z refl)
-  cell-of (suc a) b z = refl
+  blank-bit zero zero zero l g k o p = refl
+  blank-bit zero zero (suc b) l g k o p = omega arith
+  blank-bit zero (suc r) b l g k o p = sym (p (omega arith))
+  blank-bit (suc h) r b l g k o p = sym (o (omega arith))
 
-  count-of : (a b : ℕ) → (a ≡ 0 → n ≡ 0) → countOf (positionOf a b c n) ≡ n
+  cell-of : (h r b : ℕ) → (h ≡ 0 → c ≡ 0) → cellOf (positionOf h r b c n) ≡ c
   unfolding positionOf
-  count-of zero zero z = sym (z refl)
-  count-of zero (suc b) z = sym (z refl)
-  count-of (suc a) b z = refl
+  cell-of zero zero zero z = sym (z refl)
+  cell-of zero zero (suc b) z = sym (z refl)
+  cell-of zero (suc r) b z = sym (z refl)
+  cell-of (suc h) r b z = refl
 
-keeps : (h r : ℕ) (cs ns : List ℕ) → length cs ≡ length ns → h < 2 ^ length cs → r < 2 ^ length cs
-    → ((i : ℕ) → i < length cs → Form h r (getD cs i 0) (getD ns i 0) i) → Kept h r cs ns
+  count-of : (h r b : ℕ) → (h ≡ 0 → n ≡ 0) → countOf (positionOf h r b c n) ≡ n
+  unfolding positionOf
+  count-of zero zero zero z = sym (z refl)
+  count-of zero zero (suc b) z = sym (z refl)
+  count-of zero (suc r) b z = sym (z refl)
+  count-of (suc h) r b z = refl
+
+keeps : (h r b : ℕ) (cs ns : List ℕ) → length cs ≡ length ns → h < 2 ^ length cs → r < 2 ^ length cs → b < 2 ^ length cs
+    → ((i : ℕ) → i < length cs → Form h r b (getD cs i 0) (getD ns i 0) i) → Kept h r b cs ns
 unfolding positionsIn maskOf
-keeps h r [] [] e hh hr f = record { helds = omega arith; removeds = omega arith; cells = refl; counts = refl }
-keeps h r [] (n ∷ ns) e hh hr f = absurd (omega arith)
-keeps h r (c ∷ cs) [] e hh hr f = absurd (omega arith)
-keeps h r (c ∷ cs) (n ∷ ns) e hh hr f =
-    let k = keeps (h / 2) (r / 2) cs ns (suc-inj e) (omega (arith, pow-suc 2 (length cs))) (omega (arith, pow-suc 2 (length cs))) (λ i l. down i (f (suc i) (omega arith))) in
+keeps h r b [] [] e hh hr hb f = record { helds = omega arith; removeds = omega arith; blanks = omega arith; cells = refl; counts = refl }
+keeps h r b [] (n ∷ ns) e hh hr hb f = absurd (omega arith)
+keeps h r b (c ∷ cs) [] e hh hr hb f = absurd (omega arith)
+keeps h r b (c ∷ cs) (n ∷ ns) e hh hr hb f =
+    let k = keeps (h / 2) (r / 2) (b / 2) cs ns (suc-inj e) (half h hh) (half r hr) (half b hb) (λ i l. down i (f (suc i) (omega arith))) in
     let g = f 0 (omega arith) in
-    let hb : cond (isHeld (positionOf (h % 2) (r % 2) c n)) 1 0 ≡ h % 2 = held-bit c n (h % 2) (r % 2) (omega arith) in
-    let rb : cond (isRemoved (positionOf (h % 2) (r % 2) c n)) 1 0 ≡ r % 2 =
-    removed-bit c n (h % 2) (r % 2) (omega arith) (omega arith) (λ o. sym (bit-zero r) ∙ g .one (bit-zero h ∙ o)) in
+    let x : cond (isHeld (positionOf (h % 2) (r % 2) (b % 2) c n)) 1 0 ≡ h % 2 = held-bit c n (h % 2) (r % 2) (b % 2) (omega arith) in
+    let y : cond (isRemoved (positionOf (h % 2) (r % 2) (b % 2) c n)) 1 0 ≡ r % 2 =
+    removed-bit c n (h % 2) (r % 2) (b % 2) (omega arith) (omega arith) (λ o. sym (bit-zero r) ∙ g .kept (bit-zero h ∙ o)) in
+    let z : cond (isBlankPosition (positionOf (h % 2) (r % 2) (b % 2) c n)) 1 0 ≡ b % 2 =
+    blank-bit c n (h % 2) (r % 2) (b % 2) (omega arith) (omega arith) (omega arith) (λ o. sym (bit-zero b) ∙ g .stored (bit-zero h ∙ o))
+    (λ o. sym (bit-zero b) ∙ g .gone (bit-zero r ∙ o)) in
     record {
-      helds = omega (arith, hb, k .helds);
-      removeds = omega (arith, rb, k .removeds);
-      cells = ap₂ _∷_ (cell-of c n (h % 2) (r % 2) (λ z. g .cell (bit-zero h ∙ z))) (k .cells);
-      counts = ap₂ _∷_ (count-of c n (h % 2) (r % 2) (λ z. g .count (bit-zero h ∙ z))) (k .counts);
+      helds = omega (arith, x, k .helds);
+      removeds = omega (arith, y, k .removeds);
+      blanks = omega (arith, z, k .blanks);
+      cells = ap₂ _∷_ (cell-of c n (h % 2) (r % 2) (b % 2) (λ z. g .cell (bit-zero h ∙ z))) (k .cells);
+      counts = ap₂ _∷_ (count-of c n (h % 2) (r % 2) (b % 2) (λ z. g .count (bit-zero h ∙ z))) (k .counts);
     }
   where
-    down : (i : ℕ) → Form h r (getD cs i 0) (getD ns i 0) (suc i) → Form (h / 2) (r / 2) (getD cs i 0) (getD ns i 0) i
+    half : (m : ℕ) → m < 2 ^ suc (length cs) → m / 2 < 2 ^ length cs
+    half m l = omega (arith, pow-suc 2 (length cs))
+
+    down : (i : ℕ) → Form h r b (getD cs i 0) (getD ns i 0) (suc i) → Form (h / 2) (r / 2) (b / 2) (getD cs i 0) (getD ns i 0) i
     down i f = record {
-      one = λ o. half-bit r i ∙ f .one (sym (half-bit h i) ∙ o);
+      kept = λ o. half-bit r i ∙ f .kept (sym (half-bit h i) ∙ o);
+      stored = λ o. half-bit b i ∙ f .stored (sym (half-bit h i) ∙ o);
+      gone = λ o. half-bit b i ∙ f .gone (sym (half-bit r i) ∙ o);
       cell = λ z. f .cell (sym (half-bit h i) ∙ z);
       count = λ z. f .count (sym (half-bit h i) ∙ z);
     }
@@ -100,25 +123,31 @@ unfolding maskOf count
 mask-zero [] h = refl
 mask-zero (p ∷ seg) h = omega (arith, h, mask-zero seg (omega (arith, h)))
 
-free-mask : (seg : Segment) → isFree seg ≡ true → maskOf isRemoved seg ≡ 0
+-- none is removed and none blank
+abbrev Plain : Segment → Type 0
+Plain seg = (maskOf isRemoved seg ≡ 0) × (maskOf isBlankPosition seg ≡ 0)
+
+free-mask : (seg : Segment) → isFree seg ≡ true → Plain seg
 unfolding maskOf isFree every
-free-mask [] h = refl
-free-mask (nullPosition ∷ seg) h = let r = free-mask seg h in omega arith
+free-mask [] h = (refl, refl)
+free-mask (nullPosition ∷ seg) h = let r = free-mask seg h in (omega (arith, r .0), omega (arith, r .1))
+free-mask (blankPosition ∷ seg) h = absurd (clash refl h)
 free-mask (held c n ∷ seg) h = absurd (clash refl h)
 free-mask (removed ∷ seg) h = absurd (clash refl h)
 
-mask-free : (seg : Segment) → maskOf isHeld seg ≡ 0 → maskOf isRemoved seg ≡ 0 → isFree seg ≡ true
+mask-free : (seg : Segment) → maskOf isHeld seg ≡ 0 → Plain seg → isFree seg ≡ true
 unfolding maskOf isFree every
 mask-free [] h g = refl
-mask-free (nullPosition ∷ seg) h g = mask-free seg (omega arith) (omega arith)
+mask-free (nullPosition ∷ seg) h g = mask-free seg (omega arith) (omega (arith, g .0), omega (arith, g .1))
+mask-free (blankPosition ∷ seg) h g = absurd (omega (arith, g .1))
 mask-free (held c n ∷ seg) h g = absurd (omega arith)
-mask-free (removed ∷ seg) h g = absurd (omega arith)
+mask-free (removed ∷ seg) h g = absurd (omega (arith, g .0))
 
 or-first : (a b : Bool) → (a || b) ≡ true → b ≡ false → a ≡ true
 or-first true b e f = refl
 or-first false b e f = absurd (clash f e)
 
-pub used-of : (seg : Segment) → (maskOf isHeld seg ≡ 0 → maskOf isRemoved seg ≡ 0) → isUsed seg ≡ true
+pub used-of : (seg : Segment) → (maskOf isHeld seg ≡ 0 → Plain seg) → isUsed seg ≡ true
 unfolding isUsed
 used-of seg u = go (eqb (maskOf isHeld seg) 0) refl
   where
@@ -129,7 +158,7 @@ used-of seg u = go (eqb (maskOf isHeld seg) 0) refl
     go true e = let z = eqb-true (maskOf isHeld seg) 0 e in or-left (isFree seg) _ (mask-free seg z (u z))
     go false e = rw (lt-ltb 0 (count isHeld seg) (positive (count isHeld seg) (λ z. eqb-false (maskOf isHeld seg) 0 e (mask-zero seg z)))) (or-true (isFree seg))
 
-pub used-at : (seg : Segment) → isUsed seg ≡ true → maskOf isHeld seg ≡ 0 → maskOf isRemoved seg ≡ 0
+pub used-at : (seg : Segment) → isUsed seg ≡ true → maskOf isHeld seg ≡ 0 → Plain seg
 unfolding isUsed
 used-at seg h z =
     free-mask seg (or-first (isFree seg) (ltb 0 (count isHeld seg)) h (le-ltb 0 (count isHeld seg) (let e = count-zero seg z in omega arith)))
@@ -141,15 +170,15 @@ pub record RecordSays (n : ℕ) (row : List ℕ) : Type 0 where
   pub used : isUsed (segmentIn n row) ≡ true
 
 module _ (n : ℕ) (row : List ℕ) (l : length row ≡ recordWords n) where
-  kept : RecordForm n row → Kept (getD row 0 0) (getD row 1 0) (take n (drop 3 row)) (take n (drop (3 + n) row))
+  kept : RecordForm n row → Kept (getD row 0 0) (getD row 1 0) (getD row 2 0) (take n (drop 3 row)) (take n (drop (3 + n) row))
   kept f =
       let e : length (take n (drop 3 row)) ≡ n = cells-long n row l in
-      keeps _ _ _ _ (e ∙ sym (counts-long n row l)) (rw e (f .helds)) (rw e (f .removeds)) (λ i h. at i (rw e at h))
+      keeps _ _ _ _ _ (e ∙ sym (counts-long n row l)) (rw e (f .helds)) (rw e (f .removeds)) (rw e (f .blanks)) (λ i h. at i (rw e at h))
     where
-      at : (i : ℕ) → i < n → Form (getD row 0 0) (getD row 1 0) (getD (take n (drop 3 row)) i 0) (getD (take n (drop (3 + n) row)) i 0) i
+      at : (i : ℕ) → i < n → Form (getD row 0 0) (getD row 1 0) (getD row 2 0) (getD (take n (drop 3 row)) i 0) (getD (take n (drop (3 + n) row)) i 0) i
       at i h =
           let p = f .positions i h in
-          record { one = p .one; cell = λ z. getD-cut 3 i h ∙ p .cell z; count = λ z. getD-cut (3 + n) i h ∙ p .count z }
+          record { kept = p .kept; stored = p .stored; gone = p .gone; cell = λ z. getD-cut 3 i h ∙ p .cell z; count = λ z. getD-cut (3 + n) i h ∙ p .count z }
         where
           getD-cut : (a i : ℕ) → i < n → getD (take n (drop a row)) i 0 ≡ getD row (a + i) 0
           getD-cut a i h = getD-take n (drop a row) i 0 h ∙ getD-drop a row i 0
@@ -168,8 +197,8 @@ module _ (n : ℕ) (row : List ℕ) (l : length row ≡ recordWords n) where
   record-says f =
       let k = kept f in
       record {
-        words = rw (k .helds, k .removeds, k .cells, k .counts) (ap (λ (x : ℕ). getD row 0 0 ∷ getD row 1 0 ∷ x ∷ (take n (drop 3 row) ++ take n (drop (3 + n) row))) (sym (f .third)) ∙ sym apart);
-        used = used-of _ (λ z. k .removeds ∙ f .used (sym (k .helds) ∙ z));
+        words = rw (k .helds, k .removeds, k .blanks, k .cells, k .counts) (sym apart);
+        used = used-of _ (λ z. let u = f .used (sym (k .helds) ∙ z) in (k .removeds ∙ u .0, k .blanks ∙ u .1));
       }
 
   module _ (s : RecordSays n row) where
@@ -190,9 +219,9 @@ module _ (n : ℕ) (row : List ℕ) (l : length row ≡ recordWords n) where
     unfolding recordToWords
     removeds = word 1
 
-    third : 0 ≡ getD row 2 0
+    blanks : maskOf isBlankPosition seg ≡ getD row 2 0
     unfolding recordToWords
-    third = word 2
+    blanks = word 2
 
     cell : (i : ℕ) → i < n → getD row (3 + i) 0 ≡ cellOf (getD seg i nullPosition)
     unfolding recordToWords
@@ -214,24 +243,42 @@ module _ (n : ℕ) (row : List ℕ) (l : length row ≡ recordWords n) where
     position i h =
         let hb : bitOf (getD row 0 0) i ≡ cond (isHeld (getD seg i nullPosition)) 1 0 = rw (← helds) (mask-bit isHeld seg i nullPosition (rw long h)) in
         let rb : bitOf (getD row 1 0) i ≡ cond (isRemoved (getD seg i nullPosition)) 1 0 = rw (← removeds) (mask-bit isRemoved seg i nullPosition (rw long h)) in
+        let bb : bitOf (getD row 2 0) i ≡ cond (isBlankPosition (getD seg i nullPosition)) 1 0 = rw (← blanks) (mask-bit isBlankPosition seg i nullPosition (rw long h)) in
         record {
-          one = λ o. rb ∙ apart-bits (getD seg i nullPosition) (sym hb ∙ o);
+          kept = λ o. rb ∙ held-kept (getD seg i nullPosition) (sym hb ∙ o);
+          stored = λ o. bb ∙ held-stored (getD seg i nullPosition) (sym hb ∙ o);
+          gone = λ o. bb ∙ removed-gone (getD seg i nullPosition) (sym rb ∙ o);
           cell = λ z. cell i h ∙ no-cell (getD seg i nullPosition) (sym hb ∙ z);
           count = λ z. counts i h ∙ no-count (getD seg i nullPosition) (sym hb ∙ z);
         }
       where
-        apart-bits : (p : Position) → _≡_ {A = ℕ} (cond (isHeld p) 1 0) 1 → _≡_ {A = ℕ} (cond (isRemoved p) 1 0) 0
-        apart-bits nullPosition e = refl
-        apart-bits (held c n) e = refl
-        apart-bits removed e = absurd (omega arith)
+        held-kept : (p : Position) → _≡_ {A = ℕ} (cond (isHeld p) 1 0) 1 → _≡_ {A = ℕ} (cond (isRemoved p) 1 0) 0
+        held-kept nullPosition e = refl
+        held-kept blankPosition e = refl
+        held-kept (held c n) e = refl
+        held-kept removed e = absurd (omega arith)
+
+        held-stored : (p : Position) → _≡_ {A = ℕ} (cond (isHeld p) 1 0) 1 → _≡_ {A = ℕ} (cond (isBlankPosition p) 1 0) 0
+        held-stored nullPosition e = refl
+        held-stored blankPosition e = absurd (omega arith)
+        held-stored (held c n) e = refl
+        held-stored removed e = refl
+
+        removed-gone : (p : Position) → _≡_ {A = ℕ} (cond (isRemoved p) 1 0) 1 → _≡_ {A = ℕ} (cond (isBlankPosition p) 1 0) 0
+        removed-gone nullPosition e = refl
+        removed-gone blankPosition e = absurd (omega arith)
+        removed-gone (held c n) e = refl
+        removed-gone removed e = refl
 
         no-cell : (p : Position) → _≡_ {A = ℕ} (cond (isHeld p) 1 0) 0 → cellOf p ≡ 0
         no-cell nullPosition e = refl
+        no-cell blankPosition e = refl
         no-cell (held c n) e = absurd (omega arith)
         no-cell removed e = refl
 
         no-count : (p : Position) → _≡_ {A = ℕ} (cond (isHeld p) 1 0) 0 → countOf p ≡ 0
         no-count nullPosition e = refl
+        no-count blankPosition e = refl
         no-count (held c n) e = absurd (omega arith)
         no-count removed e = refl
 
@@ -239,9 +286,9 @@ module _ (n : ℕ) (row : List ℕ) (l : length row ≡ recordWords n) where
     says-form = record {
       helds = rw helds at (rw long at (mask-lt isHeld seg));
       removeds = rw removeds at (rw long at (mask-lt isRemoved seg));
-      third = sym third;
+      blanks = rw blanks at (rw long at (mask-lt isBlankPosition seg));
       positions = position;
-      used = λ z. sym removeds ∙ used-at seg (s .used) (helds ∙ z);
+      used = λ z. let u = used-at seg (s .used) (helds ∙ z) in (sym removeds ∙ u .0, sym blanks ∙ u .1);
     }
 
   pub says-record : RecordSays n row → RecordForm n row

@@ -32,9 +32,11 @@ pub record SlotForm (bytes b : ℕ) (row : List ℕ) : Type 0 where
 abbrev pub bitOf : ℕ → ℕ → ℕ
 bitOf m i = m / 2 ^ i % 2
 
--- position `i` of the words of a record of `n` positions: not both held and removed; the cell and the count of one that is not held are zero
+-- position `i` of the words of a record of `n` positions: at most one of held, removed and blank; where it is not held, cell and count are zero
 pub record PositionForm (n : ℕ) (row : List ℕ) (i : ℕ) : Type 0 where
-  pub one : bitOf (getD row 0 0) i ≡ 1 → bitOf (getD row 1 0) i ≡ 0
+  pub kept : bitOf (getD row 0 0) i ≡ 1 → bitOf (getD row 1 0) i ≡ 0
+  pub stored : bitOf (getD row 0 0) i ≡ 1 → bitOf (getD row 2 0) i ≡ 0
+  pub gone : bitOf (getD row 1 0) i ≡ 1 → bitOf (getD row 2 0) i ≡ 0
   pub cell : bitOf (getD row 0 0) i ≡ 0 → getD row (3 + i) 0 ≡ 0
   pub count : bitOf (getD row 0 0) i ≡ 0 → getD row (3 + n + i) 0 ≡ 0
 
@@ -42,6 +44,6 @@ pub record PositionForm (n : ℕ) (row : List ℕ) (i : ℕ) : Type 0 where
 pub record RecordForm (n : ℕ) (row : List ℕ) : Type 0 where
   pub helds : getD row 0 0 < 2 ^ n
   pub removeds : getD row 1 0 < 2 ^ n
-  pub third : getD row 2 0 ≡ 0
+  pub blanks : getD row 2 0 < 2 ^ n
   pub positions : (i : ℕ) → i < n → PositionForm n row i
-  pub used : getD row 0 0 ≡ 0 → getD row 1 0 ≡ 0
+  pub used : getD row 0 0 ≡ 0 → (getD row 1 0 ≡ 0) × (getD row 2 0 ≡ 0)

@@ -65,8 +65,13 @@ fn position_form(row: &[u32], i: usize, n: usize) -> bool
     requires { ⌜ (i < n) × (length (now row) ≡ recordWords n) × (n ≤ 16) ⌝ }
     ensures { λ r. ⌜ Tells r (PositionForm n (now (row .entry)) i) ⌝ }
 {
+    let removed = bit(row[1], i);
+    let blank = bit(row[2], i);
     if bit(row[0], i) == 1 {
-        return bit(row[1], i) == 0;
+        return removed + blank == 0;
+    }
+    if 1 < removed + blank {
+        return false;
     }
     if row[3 + i] != 0 {
         return false;
@@ -89,14 +94,17 @@ fn positions_form(row: &[u32], n: usize) -> bool
     true
 }
 
-// Whether a record that holds no position has none removed.
-fn in_use(helds: u32, removeds: u32) -> bool
-    ensures { λ r. ⌜ Tells r (helds ≡ 0 → removeds ≡ 0) ⌝ }
+// Whether a record that holds no position has none removed and none blank.
+fn in_use(helds: u32, removeds: u32, blanks: u32) -> bool
+    ensures { λ r. ⌜ Tells r (helds ≡ 0 → (removeds ≡ 0) × (blanks ≡ 0)) ⌝ }
 {
-    if helds == 0 {
-        return removeds == 0;
+    if helds != 0 {
+        return true;
     }
-    true
+    if removeds != 0 {
+        return false;
+    }
+    blanks == 0
 }
 
 // Whether a record's words are in order.
@@ -106,6 +114,7 @@ fn record_form(row: &[u32], n: usize) -> bool
 {
     let helds = row[0];
     let removeds = row[1];
+    let blanks = row[2];
     let past = past_masks(n);
     if past <= helds {
         return false;
@@ -113,10 +122,10 @@ fn record_form(row: &[u32], n: usize) -> bool
     if past <= removeds {
         return false;
     }
-    if row[2] != 0 {
+    if past <= blanks {
         return false;
     }
-    if !in_use(helds, removeds) {
+    if !in_use(helds, removeds, blanks) {
         return false;
     }
     positions_form(row, n)

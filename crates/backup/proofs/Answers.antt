@@ -6,21 +6,21 @@ use Prim.Native.Nat.{ℕ, zero, suc, _+_, _≤_, _<_}
 use native.Mathlib.Omega.{arith}
 use lib.ListN.{length, getD, take, length-map}
 use Rattle.model.specs.Calls.{BackupAnswer, tillOf, withTill, tillWith, newestPointers, fileIn, placeAndFile, backupAnswer, backupOf}
-use Rattle.model.specs.Image.{imageBlocks, imageSegments}
+use Rattle.model.specs.Image.{imageBlocks, imageSegments, withBlanks}
 use Rattle.model.specs.Measures.{tillWords}
 use Rattle.model.specs.Place.{Placed, placeAll}
 use Rattle.model.specs.State.{Block, Pointer, Shelf, State, Outcome, refused, done}
 use Rattle.model.specs.Table.{shapeOf, stateIn, stateToBytes, stateToWords, pointerWord}
-use Rattle.model.specs.Turn.{turn, target, indirectTo}
+use Rattle.model.specs.Turn.{turn, target, foundOr}
 use Rattle.laws.specs.Stores.{tillAt, Sound}
 use Rattle.laws.proofs.Tills.{there}
 use Rattle.accept.specs.Accept.{Accepted}
 use Rattle.accept.proofs.Judging.{goes-on}
 use Rattle.backup.specs.Backup.{measuresOn, blocksOn, placedOn, sweptState, ShelvedOn, DidOn, FiledOn}
 
-turn-size : (shelf : Shelf) (bs : List Block) (qs : List Pointer) → length (turn shelf bs qs) ≡ length qs
+turn-size : (shelf : Shelf) (bs : List Block) (qs : List Pointer) → length (turn withBlanks shelf bs qs) ≡ length qs
 unfolding turn
-turn-size shelf bs qs = length-map qs (λ p. indirectTo p (target shelf bs p))
+turn-size shelf bs qs = length-map qs (λ p. foundOr p (target withBlanks shelf bs p))
 
 module _ (pool table : List ℕ) (h : Sound pool table) (t : ℕ) (image : List ℕ) (a : Accepted pool table t image) where
   abbrev st : State
@@ -32,7 +32,7 @@ module _ (pool table : List ℕ) (h : Sound pool table) (t : ℕ) (image : List 
   abbrev o : Outcome Placed
   o = placedOn pool table image
 
-  answer : backupOf pool table t image ≡ backupAnswer pool table (shapeOf table) (fileIn (shapeOf table) st t image (imageBlocks (measuresOn table .blockBytes) image) (tillOf st t) o)
+  answer : backupOf pool table t image ≡ backupAnswer pool table (shapeOf table) (fileIn withBlanks (shapeOf table) st t image (imageBlocks (measuresOn table .blockBytes) image) (tillOf st t) o)
   unfolding placeAndFile shapeOf
   answer = goes-on h t (a .there) image (a .some) (a .few) (a .free)
 
@@ -41,7 +41,7 @@ module _ (pool table : List ℕ) (h : Sound pool table) (t : ℕ) (image : List 
     refused-answer z = go o d ∙ sym answer
       where
         go : (x : Outcome Placed) → DidOn image ps pool table x r pool′ table′ words′ prev′
-            → record { refusal = r; version = 0; pool = pool′; table = table′ } ≡ backupAnswer pool table (shapeOf table) (fileIn (shapeOf table) st t image (imageBlocks (measuresOn table .blockBytes) image) (tillOf st t) x)
+            → record { refusal = r; version = 0; pool = pool′; table = table′ } ≡ backupAnswer pool table (shapeOf table) (fileIn withBlanks (shapeOf table) st t image (imageBlocks (measuresOn table .blockBytes) image) (tillOf st t) x)
         go (refused n) q = unfold backupAnswer fileIn in (λ i. record { refusal = q .0 i; version = 0; pool = q .2 i; table = q .3 i })
         go (done p) q = absurd (z (q .0))
 
@@ -52,10 +52,10 @@ module _ (pool table : List ℕ) (h : Sound pool table) (t : ℕ) (image : List 
     filed-answer z at end b k last out el eb ea ee ek f = go o d ∙ sym answer
       where
         go : (x : Outcome Placed) → DidOn image ps pool table x r pool′ table′ words′ prev′
-            → record { refusal = 0; version = last + 1; pool = pool′; table = out } ≡ backupAnswer pool table (shapeOf table) (fileIn (shapeOf table) st t image (imageBlocks (measuresOn table .blockBytes) image) (tillOf st t) x)
+            → record { refusal = 0; version = last + 1; pool = pool′; table = out } ≡ backupAnswer pool table (shapeOf table) (fileIn withBlanks (shapeOf table) st t image (imageBlocks (measuresOn table .blockBytes) image) (tillOf st t) x)
         go (refused n) q = absurd (omega (arith, z, q .0, q .1))
         go (done p) q =
-            let turned : List Pointer = turn (p .shelf) (imageBlocks (measuresOn table .blockBytes) image) ps in
+            let turned : List Pointer = turn withBlanks (p .shelf) (imageBlocks (measuresOn table .blockBytes) image) ps in
             let lt : length turned ≡ length ps = turn-size (p .shelf) (imageBlocks (measuresOn table .blockBytes) image) ps in
             let v : last + 1 ≡ suc (tillOf st t .last) = omega (arith, el) in
             let e = f (shapeOf table) (sweptState (measuresOn table) st (blocksOn table image) ps (p .shelf)) t turned (take k (p .pointers)) (there h t (a .there))

@@ -7,7 +7,7 @@ use native.Mathlib.Omega.{arith}
 use lib.ListN.{length, getD, take, drop}
 use borrow.Rule.Slice.PartMut.{midOf, putMid}
 use Rattle.lists.specs.Rows.{joined, rows}
-use Rattle.model.specs.Image.{imageBlocks, imageSegments}
+use Rattle.model.specs.Image.{imageBlocks, imageSegments, withBlanks}
 use Rattle.lists.proofs.Rows.{length-rows}
 use Rattle.model.specs.Measures.{Measures, recordWords, tableWords}
 use Rattle.model.specs.Place.{Placed, placeAll}
@@ -95,7 +95,7 @@ module _ (m : Measures) (image pool table : List ℕ) (from : ℕ) (words prev :
       → DidOn image ps pool table (placedOn pool table image) n pool′ (putMid k (length table - k) table ws′) words′ prev′)
       (sym (r .begins))
       (λ q. go (placedOn pool table image)
-      (subst (λ (x : Shelf). DidShelve (measuresOn table) image ps (placeAll (done (record { shelf = x; pointers = [] })) (imageSegments (measuresOn table .blockBytes) (measuresOn table .segmentBlocks) image)) n pool (part (r .sound)) pool′ ws′ words′ prev′) (shelf-back (r .sound)) q))
+      (subst (λ (x : Shelf). DidShelve (measuresOn table) image ps (placeAll withBlanks (done (record { shelf = x; pointers = [] })) (imageSegments (measuresOn table .blockBytes) (measuresOn table .segmentBlocks) image)) n pool (part (r .sound)) pool′ ws′ words′ prev′) (shelf-back (r .sound)) q))
       (subst (λ (x : Measures). DidShelve x image ps (placedIn x image pool (midOf from (length table - from) table)) n pool (midOf from (length table - from) table) pool′ ws′ words′ prev′) (r .measures) d)
     where
       go : (o : Outcome Placed) → DidShelve (measuresOn table) image ps o n pool (part (r .sound)) pool′ ws′ words′ prev′

@@ -3,7 +3,7 @@ use mathlib.Core.Path.{_≡_}
 use mathlib.Core.List.{List, [], map}
 use Prim.Native.Nat.{ℕ, _+_, _-_, _*_, _≤_, _<_}
 use lib.ListN.{length, getD, set, take, drop}
-use Rattle.model.specs.Image.{imageBlocks, imageSegments}
+use Rattle.model.specs.Image.{imageBlocks, imageSegments, withBlanks}
 use Rattle.model.specs.Measures.{Measures, Shape, tillWords, recordWords}
 use Rattle.model.specs.Calls.{tillOf, tillWith, newestPointers}
 use Rattle.filing.specs.Filing.{Room, SlotLeft}
@@ -26,7 +26,7 @@ blocksOn table image = imageBlocks (measuresOn table .blockBytes) image
 
 abbrev pub placedOn : List ℕ → List ℕ → List ℕ → Outcome Placed
 placedOn pool table image =
-    placeAll (done (record { shelf = stateIn (shapeOf table) pool table .shelf; pointers = [] })) (imageSegments (measuresOn table .blockBytes) (measuresOn table .segmentBlocks) image)
+    placeAll withBlanks (done (record { shelf = stateIn (shapeOf table) pool table .shelf; pointers = [] })) (imageSegments (measuresOn table .blockBytes) (measuresOn table .segmentBlocks) image)
 
 pub record ShelfReady (m : Measures) (image pool table : List ℕ) (from : ℕ) (words prev : List ℕ) : Type 0 where
   pub sound : Sound pool table
@@ -38,12 +38,12 @@ pub record ShelfReady (m : Measures) (image pool table : List ℕ) (from : ℕ) 
 
 -- the state with the segments placed, the pointers let go and the shelf swept, before the till has the new version
 abbrev pub sweptState : Measures → State → List Block → List Pointer → Shelf → State
-sweptState m st blocks ps shelf = record { tills = st .tills; shelf = sweep m (release shelf (turning shelf blocks ps)) }
+sweptState m st blocks ps shelf = record { tills = st .tills; shelf = sweep m (release shelf (turning withBlanks shelf blocks ps)) }
 
 pub record ShelvedOn (image : List ℕ) (ps : List Pointer) (pool₀ table₀ : List ℕ) (p : Placed) (pool table words prev : List ℕ) : Type 0 where
   pub bytes : pool ≡ stateToBytes (sweptState (measuresOn table₀) (stateIn (shapeOf table₀) pool₀ table₀) (blocksOn table₀ image) ps (p .shelf))
   pub tables : table ≡ stateToWords (shapeOf table₀) (sweptState (measuresOn table₀) (stateIn (shapeOf table₀) pool₀ table₀) (blocksOn table₀ image) ps (p .shelf))
-  pub turned : prev ≡ map pointerWord (turn (p .shelf) (blocksOn table₀ image) ps)
+  pub turned : prev ≡ map pointerWord (turn withBlanks (p .shelf) (blocksOn table₀ image) ps)
   pub placed : words ≡ map pointerWord (p .pointers)
 
 -- a refusal alters neither buffer

@@ -9,10 +9,10 @@ use borrow.Author.Tests.{eq-eqb, ne-eqb}
 use lib.Dec.{eqb}
 use lib.ListN.{length, getD, take, drop, length-take, length-drop, take-append-drop}
 use lib.Seq.{take-suc, drop-cons, getD-drop, length-take-le, drop-drop}
-use Rattle.lists.specs.Lists.{every, allZero, sameNumbers}
+use Rattle.lists.specs.Lists.{every, sameNumbers}
 use Rattle.lists.proofs.Tests.{cond-self}
 use Rattle.lists.proofs.Slices.{drop-next, take-next, drop-end}
-use Rattle.lists.proofs.Appends.{zero-append, same-append}
+use Rattle.lists.proofs.Appends.{every-append, same-append}
 
 -- ---- a count that is 0 just where a test holds so far
 
@@ -34,31 +34,34 @@ count-miss c p q e f = e ∙ go p
 next-byte : (l : List ℕ) (at i : ℕ) → at + i < length l → take (i + 1) (drop at l) ≡ take i (drop at l) ++ (getD l (at + i) 0 ∷ [])
 next-byte l at i h = take-next (drop at l) i 0 (omega (arith, length-drop at l)) ∙ ap (λ (x : ℕ). take i (drop at l) ++ (x ∷ [])) (getD-drop at l i 0)
 
--- ---- all zero
+-- ---- all the same byte
 
-module _ (l : List ℕ) (at : ℕ) where
-  pub zero-more : (i : ℕ) → at + i < length l → allZero (take (i + 1) (drop at l)) ≡ cond (allZero (take i (drop at l))) (eqb (getD l (at + i) 0) 0) false
-  zero-more i h =
-      ap allZero (next-byte l at i h)
-      ∙ zero-append (take i (drop at l)) (getD l (at + i) 0 ∷ [])
-      ∙ ap (λ (t : Bool). cond (allZero (take i (drop at l))) t false) (unfold allZero every in cond-self (eqb (getD l (at + i) 0) 0))
+module _ (v : ℕ) (l : List ℕ) (at : ℕ) where
+  abbrev are : List ℕ → Bool
+  are xs = every (λ x. eqb x v) xs
 
-  pub zero-first : (n : ℕ) → at < length l → 0 < n → (getD l at 0 ≡ 0 → ⊥) → allZero (take n (drop at l)) ≡ false
-  unfolding allZero every
-  zero-first zero h z n = absurd (omega arith)
-  zero-first (suc n) h z e = rw (drop-next l at 0 h, ne-eqb (getD l at 0) 0 e)
+  pub filled-more : (i : ℕ) → at + i < length l → are (take (i + 1) (drop at l)) ≡ cond (are (take i (drop at l))) (eqb (getD l (at + i) 0) v) false
+  filled-more i h =
+      ap are (next-byte l at i h)
+      ∙ every-append (λ x. eqb x v) (take i (drop at l)) (getD l (at + i) 0 ∷ [])
+      ∙ ap (λ (t : Bool). cond (are (take i (drop at l))) t false) (unfold every in cond-self (eqb (getD l (at + i) 0) v))
 
-  zero-piece : (n : ℕ) → allZero (drop at l) ≡ cond (allZero (take n (drop at l))) (allZero (drop (at + n) l)) false
-  zero-piece n =
-      ap allZero (sym (take-append-drop n (drop at l)))
-      ∙ zero-append (take n (drop at l)) (drop n (drop at l))
-      ∙ ap (λ (t : List ℕ). cond (allZero (take n (drop at l))) (allZero t) false) (drop-drop n at l)
+  pub filled-first : (n : ℕ) → at < length l → 0 < n → (getD l at 0 ≡ v → ⊥) → are (take n (drop at l)) ≡ false
+  unfolding every
+  filled-first zero h z n = absurd (omega arith)
+  filled-first (suc n) h z e = rw (drop-next l at 0 h, ne-eqb (getD l at 0) v e)
 
-  pub zero-stop : (n : ℕ) → allZero (take n (drop at l)) ≡ false → allZero (drop at l) ≡ false
-  zero-stop n e = zero-piece n ∙ rw e
+  filled-piece : (n : ℕ) → are (drop at l) ≡ cond (are (take n (drop at l))) (are (drop (at + n) l)) false
+  filled-piece n =
+      ap are (sym (take-append-drop n (drop at l)))
+      ∙ every-append (λ x. eqb x v) (take n (drop at l)) (drop n (drop at l))
+      ∙ ap (λ (t : List ℕ). cond (are (take n (drop at l))) (are t) false) (drop-drop n at l)
 
-  pub zero-on : (n : ℕ) → allZero (take n (drop at l)) ≡ true → allZero (drop at l) ≡ allZero (drop (at + n) l)
-  zero-on n e = zero-piece n ∙ rw e
+  pub filled-stop : (n : ℕ) → are (take n (drop at l)) ≡ false → are (drop at l) ≡ false
+  filled-stop n e = filled-piece n ∙ rw e
+
+  pub filled-on : (n : ℕ) → are (take n (drop at l)) ≡ true → are (drop at l) ≡ are (drop (at + n) l)
+  filled-on n e = filled-piece n ∙ rw e
 
 -- ---- the same
 

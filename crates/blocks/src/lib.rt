@@ -4,7 +4,7 @@ ghost use mathlib.Core.List.{_++_};
 ghost use Prim.Native.Nat.{ℕ, _+_, _*_, _%_, _≤_, _<_, min};
 ghost use lib.Dec.{eqb};
 ghost use lib.ListN.{length, take, drop, replicate};
-ghost use Rattle.lists.specs.Lists.{allZero, sameNumbers};
+ghost use Rattle.lists.specs.Lists.{every, allZero, sameNumbers};
 ghost use Rattle.lists.specs.Rows.{fill};
 ghost use Rattle.model.specs.Image.{blockFrom};
 use numbers::Cell;
@@ -15,15 +15,15 @@ pub fn least(a: usize, b: usize) -> usize
     if a < b { a } else { b }
 }
 
-// How many of the n bytes at `at` are not 0. No exit from the loop and a count of 8 bits, so that the compiler takes many bytes at a time.
-fn nonzero(part: &[u8], at: usize, n: usize) -> u8
+// How many of the n bytes at `at` are not a given one. No exit from the loop and a count of 8 bits, so that the compiler takes many bytes at a time.
+fn others(part: &[u8], at: usize, n: usize, byte: u8) -> u8
     requires { ⌜ (n ≤ 64) × (at + n ≤ length (now part)) ⌝ }
-    ensures { λ r. ⌜ eqb r 0 ≡ allZero (take n (drop at (now (part .entry)))) ⌝ }
+    ensures { λ r. ⌜ eqb r 0 ≡ every (λ x. eqb x byte) (take n (drop at (now (part .entry)))) ⌝ }
 {
     let mut count: u8 = 0;
     let mut i: usize = 0;
     while i < n {
-        if part[at + i] != 0 {
+        if part[at + i] != byte {
             count += 1;
         }
         i += 1;
@@ -31,39 +31,39 @@ fn nonzero(part: &[u8], at: usize, n: usize) -> u8
     count
 }
 
-// Whether the 64 bytes at `at` are all 0. The first byte settles most blocks.
-fn piece_zero(part: &[u8], at: usize) -> bool
+// Whether the 64 bytes at `at` are all the given one. The first byte settles most blocks.
+fn piece_filled(part: &[u8], at: usize, byte: u8) -> bool
     requires { ⌜ at + 64 ≤ length (now part) ⌝ }
-    ensures { λ r. ⌜ r ≡ allZero (take 64 (drop at (now (part .entry)))) ⌝ }
+    ensures { λ r. ⌜ r ≡ every (λ x. eqb x byte) (take 64 (drop at (now (part .entry)))) ⌝ }
 {
-    if part[at] != 0 {
+    if part[at] != byte {
         return false;
     }
-    nonzero(part, at, 64) == 0
+    others(part, at, 64, byte) == 0
 }
 
-// In pieces of 64 bytes, and what is left.
-pub fn all_zero(part: &[u8]) -> bool
-    ensures { λ r. ⌜ r ≡ allZero (now (part .entry)) ⌝ }
+// Whether all bytes are the given one: in pieces of 64 bytes, and what is left.
+pub fn filled(part: &[u8], byte: u8) -> bool
+    ensures { λ r. ⌜ r ≡ every (λ x. eqb x byte) (now (part .entry)) ⌝ }
 {
     let mut at: usize = 0;
     while 64 <= part.len() - at {
-        if !piece_zero(part, at) {
+        if !piece_filled(part, at, byte) {
             return false;
         }
         at += 64;
     }
-    nonzero(part, at, part.len() - at) == 0
+    others(part, at, part.len() - at, byte) == 0
 }
 
 // The same of whole pieces: nothing is left, so that a cell of one piece is one test.
-pub fn pieces_zero(part: &[u8]) -> bool
+pub fn pieces_filled(part: &[u8], byte: u8) -> bool
     requires { ⌜ (64 ≤ length (now part)) × (length (now part) % 64 ≡ 0) ⌝ }
-    ensures { λ r. ⌜ r ≡ allZero (now (part .entry)) ⌝ }
+    ensures { λ r. ⌜ r ≡ every (λ x. eqb x byte) (now (part .entry)) ⌝ }
 {
     let mut at: usize = 0;
     loop {
-        if !piece_zero(part, at) {
+        if !piece_filled(part, at, byte) {
             return false;
         }
         at += 64;
@@ -71,6 +71,19 @@ pub fn pieces_zero(part: &[u8]) -> bool
             return true;
         }
     }
+}
+
+pub fn all_zero(part: &[u8]) -> bool
+    ensures { λ r. ⌜ r ≡ allZero (now (part .entry)) ⌝ }
+{
+    filled(part, 0)
+}
+
+pub fn pieces_zero(part: &[u8]) -> bool
+    requires { ⌜ (64 ≤ length (now part)) × (length (now part) % 64 ≡ 0) ⌝ }
+    ensures { λ r. ⌜ r ≡ allZero (now (part .entry)) ⌝ }
+{
+    pieces_filled(part, 0)
 }
 
 // How many of the n bytes at `at` differ.
@@ -138,14 +151,20 @@ pub fn copy_block(pool: &[u8], from: usize, out: &mut [u8], to: usize, n: usize)
     copy_in(&pool[from..end], &mut out[to..]);
 }
 
-pub fn clear(part: &mut [u8])
-    ensures { λ _. ⌜ now (part .exit) ≡ replicate (length (now (part .entry))) 0 ⌝ }
+pub fn fill_with(part: &mut [u8], byte: u8)
+    ensures { λ _. ⌜ now (part .exit) ≡ replicate (length (now (part .entry))) byte ⌝ }
 {
     let mut i: usize = 0;
     while i < part.len() {
-        part[i] = 0;
+        part[i] = byte;
         i = i + 1;
     }
+}
+
+pub fn clear(part: &mut [u8])
+    ensures { λ _. ⌜ now (part .exit) ≡ replicate (length (now (part .entry))) 0 ⌝ }
+{
+    fill_with(part, 0);
 }
 
 pub fn clear_cell(pool: &mut [u8], c: Cell, bytes: usize)

@@ -26,7 +26,7 @@ pub data Item : Type 0 where
 changed-none : (bytes : ℕ) (call : Call) (ok : Bool) (w : TillView) → isOnTill call ≡ false → changed bytes call ok w ≡ w
 unfolding changed
 changed-none bytes (callLayout c) ok w e = refl
-changed-none bytes (callBackup t image) ok w e = absurd (false≢true (sym e))
+changed-none bytes (callBackup era t image) ok w e = absurd (false≢true (sym e))
 changed-none bytes (callRestore t v output) ok w e = refl
 changed-none bytes (callRetire t v) ok w e = absurd (false≢true (sym e))
 changed-none bytes (callListing t) ok w e = refl

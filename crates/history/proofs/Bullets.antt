@@ -11,9 +11,10 @@ use lib.Dec.{eqb, leb, ltb}
 use borrow.Author.Tests.{le-ltb, lt-ltb, leb-true, leb-false}
 use Rattle.lists.proofs.Tests.{by-test}
 use Rattle.model.specs.Measures.{Shape}
+use Rattle.model.specs.Image.{Era}
 use Rattle.model.specs.State.{State}
 use Rattle.model.specs.Trace.{longestChain}
-use Rattle.model.specs.Calls.{tillOf, heldFrom, backupOf, restoreOf, restoreRefusal, retireOf, listingOf, listingRefusal, RestoreAnswer, ListingAnswer, retire, backup}
+use Rattle.model.specs.Calls.{tillOf, heldFrom, backupBy, restoreOf, restoreRefusal, retireOf, listingOf, listingRefusal, RestoreAnswer, ListingAnswer, retire, backup}
 use Rattle.history.specs.Calls.{Call, callBackup, callRestore, callRetire, callListing, Buffers, Answer, laidOut, backedUp, restored, retired, listed, tallied, answerOf, refusalIn}
 use Rattle.history.specs.Keeper.{Kept, KeptTill, Keeper, noTill, keptTill, filed, fed, keptFrom, oldestKept, newestKept}
 use Rattle.history.specs.View.{VersionView, TillView, viewOf, viewAt, isOnTill, tillNamed, chainShown, shownFrom, oldestShown, newestShown, restoreShown, retireShown, answerShown}
@@ -153,9 +154,9 @@ module _ (s : Shape) (b : Buffers) (st : State) (k : Keeper) (l : Left s b st) (
       none output (w ∷ ws) a = absurd a
 
   -- an accepted backup
-  room : (t : ℕ) (image : List ℕ) → backupOf (b .pool) (b .table) t image .refusal ≡ 0 → Roomy (answerOf b (callBackup t image))
+  room : (era : Era) (t : ℕ) (image : List ℕ) → backupBy era (b .pool) (b .table) t image .refusal ≡ 0 → Roomy (answerOf b (callBackup era t image))
   unfolding answerOf refusalIn
-  room t image z = (
+  room era t image z = (
     λ e. suc-ne-zero 13 (sym (ap refusalIn e) ∙ z),
     λ e. suc-ne-zero 15 (sym (ap refusalIn e) ∙ z),
   )
@@ -163,9 +164,9 @@ module _ (s : Shape) (b : Buffers) (st : State) (k : Keeper) (l : Left s b st) (
   Given : ℕ → ℕ → Answer → Type 0
   Given t n a = refusalIn a ≡ 0 → (numberIn a ≡ n) × (leb (s .capacities .tills) t ≡ false)
 
-  backup-is : (t : ℕ) (image : List ℕ) → Given t (suc (shown t .last)) (answerShown s (shown t) (callBackup t image))
+  backup-is : (era : Era) (t : ℕ) (image : List ℕ) → Given t (suc (shown t .last)) (answerShown s (shown t) (callBackup era t image))
   unfolding answerShown Given refusalIn numberIn
-  backup-is t image = go (leb (s .capacities .tills) t) refl
+  backup-is era t image = go (leb (s .capacities .tills) t) refl
     where
       later : leb (s .capacities .tills) t ≡ false → (b₁ b₂ b₃ : Bool)
           → Given t (suc (shown t .last))
@@ -186,14 +187,14 @@ module _ (s : Shape) (b : Buffers) (st : State) (k : Keeper) (l : Left s b st) (
           later q (eqb (length image) 0 || ltb (s .measures .blockBytes * s .capacities .blocks) (length image))
           (leb (s .capacities .versions) (length (shown t .versions))) (eqb (shown t .last) 65535)
 
-  backup-given : (t : ℕ) (image : List ℕ) → backupOf (b .pool) (b .table) t image .refusal ≡ 0
-      → (backupOf (b .pool) (b .table) t image .version ≡ suc (shown t .last)) × (leb (s .capacities .tills) t ≡ false)
+  backup-given : (era : Era) (t : ℕ) (image : List ℕ) → backupBy era (b .pool) (b .table) t image .refusal ≡ 0
+      → (backupBy era (b .pool) (b .table) t image .version ≡ suc (shown t .last)) × (leb (s .capacities .tills) t ≡ false)
   unfolding answerOf tillNamed refusalIn numberIn Given shown
-  backup-given t image z = subst (Given t (suc (shown t .last))) (sym (answer-is (callBackup t image) refl (room t image z))) (backup-is t image) z
+  backup-given era t image z = subst (Given t (suc (shown t .last))) (sym (answer-is (callBackup era t image) refl (room era t image z))) (backup-is era t image) z
 
-  fed-last : (t : ℕ) (image : List ℕ) → t < length k → keptTill (fed k (callBackup t image) true) t .last ≡ suc (keptTill k t .last)
+  fed-last : (era : Era) (t : ℕ) (image : List ℕ) → t < length k → keptTill (fed k (callBackup era t image) true) t .last ≡ suc (keptTill k t .last)
   unfolding fed keptTill filed
-  fed-last t image h = ap (λ (y : KeptTill). y .last) (getD-set-same k t (filed (keptTill k t) image) noTill h)
+  fed-last era t image h = ap (λ (y : KeptTill). y .last) (getD-set-same k t (filed (keptTill k t) image) noTill h)
 
   last-is : (t : ℕ) → shown t .last ≡ keptTill k t .last
   unfolding shown
@@ -241,9 +242,9 @@ module _ (s : Shape) (b : Buffers) (st : State) (k : Keeper) (l : Left s b st) (
           agree-newest (s .measures .blockBytes) (keptTill k t .versions) (shown t .versions) (unfold shown in z .tills t .1),
           last-is t,
         )));
-    backup = λ t image e.
-        let g = backup-given t image e in
-        g .0 ∙ ap suc (last-is t) ∙ sym (fed-last t image (omega (arith, leb-false (s .capacities .tills) t (g .1), z .many)));
+    backup = λ era t image e.
+        let g = backup-given era t image e in
+        g .0 ∙ ap suc (last-is t) ∙ sym (fed-last era t image (omega (arith, leb-false (s .capacities .tills) t (g .1), z .many)));
     goes = retire-goes;
     retire = retire-given;
   }

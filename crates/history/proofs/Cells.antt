@@ -16,7 +16,7 @@ use Rattle.lists.proofs.Rises.{rises-first}
 use Rattle.lists.proofs.Tests.{clause, every-head, every-tail}
 use Rattle.lists.proofs.Uses.{in-uses, uses, uses-append, uses-in}
 use Rattle.model.specs.Measures.{Shape}
-use Rattle.model.specs.State.{Pointer, nullPointer, direct, indirect, nullPosition, held, removed, Segment, Shelf, Version, Till, State}
+use Rattle.model.specs.State.{Pointer, nullPointer, blankPointer, direct, indirect, nullPosition, blankPosition, held, removed, Segment, Shelf, Version, Till, State}
 use Rattle.model.specs.Records.{isHeld, cellOf, cellsOf, namedCells, positionAt}
 use Rattle.model.specs.Sound.{isSound, isTill, isNumbered, leadsTo, nextPointers, allPointers}
 use Rattle.model.specs.Calls.{emptyTill, tillOf, heldFrom}
@@ -47,6 +47,7 @@ position-of : (c : ℕ) (seg : Segment) → 0 < uses c (cellsOf seg)
 unfolding cellsOf uses
 position-of c [] h = absurd (not-suc-le-zero h)
 position-of c (nullPosition ∷ seg) h = let z = position-of c seg h in (suc (z .0), z .1, z .2)
+position-of c (blankPosition ∷ seg) h = let z = position-of c seg h in (suc (z .0), z .1, z .2)
 position-of c (held d n ∷ seg) h = go (eqb c d) refl (λ l. position-of c seg l)
   where
     go : (t : Bool) → eqb c d ≡ t
@@ -59,6 +60,7 @@ position-of c (removed ∷ seg) h = let z = position-of c seg h in (suc (z .0), 
 -- the pointer, the version and the till that lead to a position
 leads-is : (k i : ℕ) (p : Pointer) → leadsTo k i p ≡ true → p ≡ direct k i
 leads-is k i nullPointer h = absurd (false≢true h)
+leads-is k i blankPointer h = absurd (false≢true h)
 leads-is k i (direct k′ i′) h = ap₂ direct (sym (eqb-true k k′ (clause _ 0 h))) (sym (eqb-true i i′ (clause _ 1 h)))
 leads-is k i (indirect n) h = absurd (false≢true h)
 

@@ -11,7 +11,7 @@ use borrow.Author.Tests.{ltb-true, ltb-false}
 use Rattle.lists.proofs.Counted.{largest-most}
 use Rattle.lists.proofs.Tests.{by-test, clause}
 use Rattle.model.specs.Measures.{Shape}
-use Rattle.model.specs.State.{Pointer, nullPointer, direct, indirect, Shelf, Version, Till, State}
+use Rattle.model.specs.State.{Pointer, nullPointer, blankPointer, direct, indirect, Shelf, Version, Till, State}
 use Rattle.model.specs.Trace.{hopsVia, hops, longestChain}
 use Rattle.model.specs.Sound.{isSound, leads, nextPointers, areTraceable}
 use Rattle.model.specs.Calls.{emptyTill, tillOf, heldFrom}
@@ -25,12 +25,14 @@ use Rattle.history.proofs.Traced.{till-ok}
 plain-hops : (a : Shelf) (p : Pointer) (f : ℕ → ℕ) → leads a [] p ≡ true → hopsVia p f ≤ 0
 unfolding hopsVia
 plain-hops a nullPointer f h = zero-le
+plain-hops a blankPointer f h = zero-le
 plain-hops a (direct k i) f h = zero-le
 plain-hops a (indirect n) f h = absurd (false≢true h)
 
 next-hops : (p : Pointer) (f : ℕ → ℕ) (m : ℕ) → ((n : ℕ) → f n ≤ m) → hopsVia p f ≤ suc m
 unfolding hopsVia
 next-hops nullPointer f m h = zero-le
+next-hops blankPointer f m h = zero-le
 next-hops (direct k i) f m h = zero-le
 next-hops (indirect n) f m h = suc-le-suc (h n)
 

@@ -9,7 +9,7 @@ use Rattle.lists.specs.Lists.{rises}
 use Rattle.lists.specs.Rows.{chunks}
 use Rattle.lists.proofs.Cuts.{chunks-joined}
 use Rattle.model.specs.Measures.{Shape}
-use Rattle.model.specs.State.{Pointer, nullPointer, direct, indirect, Shelf, Version, State}
+use Rattle.model.specs.State.{Pointer, nullPointer, blankPointer, direct, indirect, Shelf, Version, State}
 use Rattle.model.specs.Image.{imageBlocks}
 use Rattle.model.specs.Table.{stateToBytes, cellsIn}
 use Rattle.model.specs.Sound.{Store, nextPointers}
@@ -33,6 +33,7 @@ use Rattle.history.proofs.Bullets.{restores, answers}
 direct-kind : (p : Pointer) → IsDirect p → isDirectKind (kindOf p) ≡ true
 unfolding isDirectKind
 direct-kind nullPointer h = absurd h
+direct-kind blankPointer h = absurd h
 direct-kind (direct k i) h = refl
 direct-kind (indirect n) h = absurd h
 

@@ -26,8 +26,8 @@ use Rattle.history.proofs.Steps.{Left, left-one, accepted-same}
 -- what a call that was accepted or refused makes of what is kept of its till
 unfoldable pub change : Call → Bool → KeptTill → KeptTill
 change (callLayout c) ok y = y
-change (callBackup t image) true y = filed y image
-change (callBackup t image) false y = y
+change (callBackup era t image) true y = filed y image
+change (callBackup era t image) false y = y
 change (callRestore t v output) ok y = y
 change (callRetire t v) true y = struckOut y v
 change (callRetire t v) false y = y
@@ -37,8 +37,8 @@ change callTally ok y = y
 fed-is : (k : Keeper) (call : Call) (ok : Bool) → fed k call ok ≡ set k (tillNamed call) (change call ok (keptTill k (tillNamed call)))
 unfolding fed tillNamed change keptTill
 fed-is k (callLayout c) ok = sym (set-getD k 0 noTill)
-fed-is k (callBackup t image) true = refl
-fed-is k (callBackup t image) false = sym (set-getD k t noTill)
+fed-is k (callBackup era t image) true = refl
+fed-is k (callBackup era t image) false = sym (set-getD k t noTill)
 fed-is k (callRestore t v output) ok = sym (set-getD k t noTill)
 fed-is k (callRetire t v) true = refl
 fed-is k (callRetire t v) false = sym (set-getD k t noTill)
@@ -69,11 +69,11 @@ module _ (s : Shape) (pr : Proper (s .measures)) (st : State) (h : isSound s st 
       (changed (s .measures .blockBytes) call (isAccepted s st call) (viewAt (s .measures .blockBytes) st (tillNamed call)))
   unfolding change changed isAccepted answerIn refusalIn tillNamed
   own-agrees (callLayout c) y a = a
-  own-agrees (callBackup t image) y a = go (eqb (outcomeRefusal (backup s st t image)) 0)
+  own-agrees (callBackup era t image) y a = go (eqb (outcomeRefusal (backup era s st t image)) 0)
     where
-      go : (ok : Bool) → AgreeTill (s .measures .blockBytes) (change (callBackup t image) ok y)
-          (changed (s .measures .blockBytes) (callBackup t image) ok (viewAt (s .measures .blockBytes) st t))
-      go true = unfold change changed in till-filed (s .measures .blockBytes) y (viewAt (s .measures .blockBytes) st t) image a
+      go : (ok : Bool) → AgreeTill (s .measures .blockBytes) (change (callBackup era t image) ok y)
+          (changed (s .measures .blockBytes) (callBackup era t image) ok (viewAt (s .measures .blockBytes) st t))
+      go true = unfold change changed in till-filed (s .measures .blockBytes) era y (viewAt (s .measures .blockBytes) st t) image a
       go false = unfold change changed in a
   own-agrees (callRestore t v output) y a = a
   own-agrees (callRetire t v) y a = go (eqb (outcomeRefusal (retire s st t v)) 0)
@@ -89,7 +89,7 @@ module _ (s : Shape) (pr : Proper (s .measures)) (st : State) (h : isSound s st 
   change-none : (call : Call) → leb (s .capacities .tills) (tillNamed call) ≡ true → (y : KeptTill) → change call (isAccepted s st call) y ≡ y
   unfolding change isAccepted answerIn refusalIn tillNamed
   change-none (callLayout c) e y = refl
-  change-none (callBackup t image) e y = unfold backup outcomeRefusal in rw e refl
+  change-none (callBackup era t image) e y = unfold backup outcomeRefusal in rw e refl
   change-none (callRestore t v output) e y = refl
   change-none (callRetire t v) e y = unfold retire outcomeRefusal in rw e refl
   change-none (callListing t) e y = refl

@@ -8,7 +8,7 @@ use lib.Seq.{getD-set-same, getD-set-other}
 use Rattle.lists.proofs.Tests.{clause}
 use Rattle.model.specs.Measures.{Shape}
 use Rattle.model.specs.State.{Shelf, Version, Till, State}
-use Rattle.model.specs.Image.{imageBlocks}
+use Rattle.model.specs.Image.{Era, imageBlocks}
 use Rattle.model.specs.Sound.{isSound, isTill, allPointers}
 use Rattle.model.specs.Calls.{emptyTill, tillOf, heldBefore, closeUp, After}
 use Rattle.laws.proofs.Fits.{Proper}
@@ -33,7 +33,7 @@ serves-till s a b st sv u = view-again s a b (allPointers (st .tills)) sv (getD 
 
 -- ---- backup
 
-module _ (s : Shape) (pr : Proper (s .measures)) (st : State) (h : isSound s st ≡ true) (t : ℕ) (image : List ℕ) (a : After) (f : Filed s st t image a) where
+module _ (era : Era) (s : Shape) (pr : Proper (s .measures)) (st : State) (h : isSound s st ≡ true) (t : ℕ) (image : List ℕ) (a : After) (f : Filed era s st t image a) where
   till-is : tillOf (a .state) t ≡ f .till
   unfolding tillOf
   till-is = ap (λ (ts : List Till). getD ts t emptyTill) (f .tills) ∙ getD-set-same (st .tills) t (f .till) emptyTill (f .there)
@@ -43,23 +43,23 @@ module _ (s : Shape) (pr : Proper (s .measures)) (st : State) (h : isSound s st 
   old-views = views-again s (st .shelf) (f .placed) (allPointers (st .tills)) (f .kept) (getD (st .tills) t emptyTill .versions) (λ k i. till-among k i (st .tills) t)
 
   new-view : viewVersions (s .measures .blockBytes) (f .placed) (f .version ∷ [])
-      ≡ record { number = suc (tillOf st t .last); length = length image; image = image; kinds = map newKind (imageBlocks (s .measures .blockBytes) image) } ∷ []
+      ≡ record { number = suc (tillOf st t .last); length = length image; image = image; kinds = map (newKind era) (imageBlocks (s .measures .blockBytes) image) } ∷ []
   unfolding viewVersions
   new-view =
       ap (λ (w : VersionView). w ∷ [])
-      (view-path _ _ _ _ _ _ _ _ (f .number) (f .bytes) (new-image (s .measures) pr (f .placed) image (f .version) (f .good) (f .bytes) (f .size))
-      (new-kinds (s .measures) (f .placed) (imageBlocks (s .measures .blockBytes) image) (f .version .pointers) (f .good) (f .size)))
+      (view-path _ _ _ _ _ _ _ _ (f .number) (f .bytes) (new-image era (s .measures) pr (f .placed) image (f .version) (f .good) (f .bytes) (f .size))
+      (new-kinds era (s .measures) (f .placed) (imageBlocks (s .measures .blockBytes) image) (f .version .pointers) (f .good) (f .size)))
 
   all-views : viewVersions (s .measures .blockBytes) (f .placed) (f .till .versions)
-      ≡ shownWith (s .measures .blockBytes) (viewAt (s .measures .blockBytes) st t) image .versions
+      ≡ shownWith era (s .measures .blockBytes) (viewAt (s .measures .blockBytes) st t) image .versions
   unfolding isTill shownWith viewOf
   all-views =
       ap (viewVersions (s .measures .blockBytes) (f .placed)) (f .versions)
-      ∙ views-extended s (f .placed) (f .exact) (imageBlocks (s .measures .blockBytes) image) (f .version) (f .good) (tillOf st t .versions) (clause _ 1 (f .before))
+      ∙ views-extended era s (f .placed) (f .exact) (imageBlocks (s .measures .blockBytes) image) (f .version) (f .good) (tillOf st t .versions) (clause _ 1 (f .before))
       (cuts s pr st h (f .placed) (f .kept) (tillOf st t .versions) (till-ok s pr st h t (f .there)) (unfold tillOf in (λ k i. till-among k i (st .tills) t)))
-      ∙ ap₂ (λ (l n : List VersionView). turnNewest (s .measures .blockBytes) (imageBlocks (s .measures .blockBytes) image) l ++ n) old-views new-view
+      ∙ ap₂ (λ (l n : List VersionView). turnNewest era (s .measures .blockBytes) (imageBlocks (s .measures .blockBytes) image) l ++ n) old-views new-view
 
-  pub filed-own : viewAt (s .measures .blockBytes) (a .state) t ≡ shownWith (s .measures .blockBytes) (viewAt (s .measures .blockBytes) st t) image
+  pub filed-own : viewAt (s .measures .blockBytes) (a .state) t ≡ shownWith era (s .measures .blockBytes) (viewAt (s .measures .blockBytes) st t) image
   filed-own =
       serves-till s (f .placed) (a .state .shelf) (a .state) (f .swept) t
       ∙ ap (viewOf (s .measures .blockBytes) (f .placed)) till-is

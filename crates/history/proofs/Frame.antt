@@ -8,6 +8,7 @@ use native.Mathlib.Omega.{arith}
 use lib.Dec.{eqb}
 use borrow.Author.Tests.{ne-eqb}
 use Rattle.model.specs.Measures.{Shape}
+use Rattle.model.specs.Image.{Era}
 use Rattle.model.specs.State.{State, Outcome, refused, done}
 use Rattle.model.specs.Sound.{isSound}
 use Rattle.model.specs.Calls.{backup, retire, After}
@@ -20,12 +21,12 @@ use Rattle.history.proofs.Filing.{filed-own, filed-other, retired-own, 
 use Rattle.history.proofs.Numbered.{Numbered, backup-numbered, retire-numbered}
 
 module _ (s : Shape) (pr : Proper (s .measures)) (st : State) (h : isSound s st ≡ true) where
-  backup-own : (t : ℕ) (image : List ℕ) (o : Outcome After) → Numbered o → backup s st t image ≡ o
+  backup-own : (era : Era) (t : ℕ) (image : List ℕ) (o : Outcome After) → Numbered o → backup era s st t image ≡ o
       → viewAt (s .measures .blockBytes) (stateOr st o) t
-      ≡ changed (s .measures .blockBytes) (callBackup t image) (eqb (outcomeRefusal o) 0) (viewAt (s .measures .blockBytes) st t)
+      ≡ changed (s .measures .blockBytes) (callBackup era t image) (eqb (outcomeRefusal o) 0) (viewAt (s .measures .blockBytes) st t)
   unfolding stateOr changed outcomeRefusal
-  backup-own t image (refused n) g q = rw (ne-eqb n 0 (λ z. omega (arith, g, z))) refl
-  backup-own t image (done a) g q = filed-own s pr st h t image a (backup-filed s pr t image st a h q)
+  backup-own era t image (refused n) g q = rw (ne-eqb n 0 (λ z. omega (arith, g, z))) refl
+  backup-own era t image (done a) g q = filed-own era s pr st h t image a (backup-filed era s pr t image st a h q)
 
   retire-own : (t v : ℕ) (o : Outcome After) → Numbered o → retire s st t v ≡ o
       → viewAt (s .measures .blockBytes) (stateOr st o) t
@@ -40,17 +41,17 @@ module _ (s : Shape) (pr : Proper (s .measures)) (st : State) (h : isSound s st 
       ≡ changed (s .measures .blockBytes) call (isAccepted s st call) (viewAt (s .measures .blockBytes) st (tillNamed call))
   unfolding stateAfter changed isAccepted answerIn refusalIn tillNamed
   frame-own (callLayout c) = refl
-  frame-own (callBackup t image) = backup-own t image (backup s st t image) (backup-numbered s st t image) refl
+  frame-own (callBackup era t image) = backup-own era t image (backup era s st t image) (backup-numbered era s st t image) refl
   frame-own (callRestore t v output) = refl
   frame-own (callRetire t v) = retire-own t v (retire s st t v) (retire-numbered s st t v) refl
   frame-own (callListing t) = refl
   frame-own callTally = refl
 
-  backup-other : (t : ℕ) (image : List ℕ) (u : ℕ) → (u ≡ t → ⊥) → (o : Outcome After) → backup s st t image ≡ o
+  backup-other : (era : Era) (t : ℕ) (image : List ℕ) (u : ℕ) → (u ≡ t → ⊥) → (o : Outcome After) → backup era s st t image ≡ o
       → viewAt (s .measures .blockBytes) (stateOr st o) u ≡ viewAt (s .measures .blockBytes) st u
   unfolding stateOr
-  backup-other t image u ne (refused n) q = refl
-  backup-other t image u ne (done a) q = filed-other s pr st h t image a (backup-filed s pr t image st a h q) u ne
+  backup-other era t image u ne (refused n) q = refl
+  backup-other era t image u ne (done a) q = filed-other era s pr st h t image a (backup-filed era s pr t image st a h q) u ne
 
   retire-other : (t v u : ℕ) → (u ≡ t → ⊥) → (o : Outcome After) → retire s st t v ≡ o
       → viewAt (s .measures .blockBytes) (stateOr st o) u ≡ viewAt (s .measures .blockBytes) st u
@@ -63,7 +64,7 @@ module _ (s : Shape) (pr : Proper (s .measures)) (st : State) (h : isSound s st 
       → viewAt (s .measures .blockBytes) (stateAfter s st call) u ≡ viewAt (s .measures .blockBytes) st u
   unfolding stateAfter tillNamed
   frame-other (callLayout c) u ne = refl
-  frame-other (callBackup t image) u ne = backup-other t image u ne (backup s st t image) refl
+  frame-other (callBackup era t image) u ne = backup-other era t image u ne (backup era s st t image) refl
   frame-other (callRestore t v output) u ne = refl
   frame-other (callRetire t v) u ne = retire-other t v u ne (retire s st t v) refl
   frame-other (callListing t) u ne = refl

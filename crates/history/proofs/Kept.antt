@@ -15,14 +15,17 @@ use Rattle.lists.specs.Over.{over}
 use Rattle.lists.proofs.First.{first-none, isNone}
 use Rattle.lists.proofs.Rises.{rises-first}
 use Rattle.lists.proofs.Same.{same-refl}
-use Rattle.model.specs.State.{Block}
-use Rattle.model.specs.Image.{imageBlocks}
+use Rattle.lists.proofs.Tests.{by-test}
+use Rattle.model.specs.State.{Block, Pointer}
+use Rattle.model.specs.Image.{Era, isBlank, imageBlocks}
+use Rattle.model.specs.Turn.{indirectAt, turnsTo}
 use Rattle.history.specs.Keeper.{Kept, KeptTill, keptFrom, oldestKept, newestKept, filed, struckOut}
-use Rattle.history.specs.Kinds.{Kind, zeroKind, directKind, indirectKind, kindAt}
+use Rattle.history.specs.Kinds.{Kind, zeroKind, blankKind, directKind, indirectKind, kindAt}
 use Rattle.history.specs.View.{VersionView, TillView, newKind, turnedKind, withKinds, turnNewest, shownWith, takeOverKind, dropVersion, shownWithout, shownFrom, oldestShown, newestShown}
 
 unfoldable pub isDirectKind : Kind → Bool
 isDirectKind zeroKind = false
+isDirectKind blankKind = false
 isDirectKind directKind = true
 isDirectKind (indirectKind n) = false
 
@@ -53,39 +56,42 @@ AgreeTill bytes y w = (w .last ≡ y .last) × Agree bytes (y .versions) (w .ver
 
 -- ---- a block that the new image has
 
-turned-shared : (new : List Block) (k : Kind) (b : Block) (i : ℕ) → i < length new → b ≡ getD new i [] → isDirectKind (turnedKind new k b) ≡ false
-unfolding turnedKind isDirectKind isNone
-turned-shared new zeroKind b i l e = refl
-turned-shared new directKind b i l e = go (firstFrom (sameNumbers b) 0 new) (first-none (sameNumbers b) [] new 0 i l (ap (sameNumbers b) (sym e) ∙ same-refl b))
+turned-shared : (era : Era) (new : List Block) (k : Kind) (b : Block) (i : ℕ) → i < length new → b ≡ getD new i [] → isDirectKind (turnedKind era new k b) ≡ false
+unfolding turnedKind turnsTo isDirectKind isNone
+turned-shared era new zeroKind b i l e = refl
+turned-shared era new blankKind b i l e = refl
+turned-shared era new directKind b i l e =
+    by-test (λ (o : Option Pointer). isDirectKind (kindAt o) ≡ false) (isBlank era b) (λ q. refl)
+    (λ q. go (firstFrom (sameNumbers b) 0 new) (first-none (sameNumbers b) [] new 0 i l (ap (sameNumbers b) (sym e) ∙ same-refl b)))
   where
-    go : (o : Option ℕ) → isNone o ≡ false → isDirectKind (kindAt o) ≡ false
+    go : (o : Option ℕ) → isNone o ≡ false → isDirectKind (kindAt (indirectAt o)) ≡ false
     go none q = absurd (false≢true (sym q))
     go (some n) q = refl
-turned-shared new (indirectKind n) b i l e = refl
+turned-shared era new (indirectKind n) b i l e = refl
 
-over-shared : (new : List Block) (ks : List Kind) (bs : List Block) (n i : ℕ) → n < length bs → i < length new → getD bs n [] ≡ getD new i []
-    → isDirectKind (getD (over (turnedKind new) ks bs) n zeroKind) ≡ false
+over-shared : (era : Era) (new : List Block) (ks : List Kind) (bs : List Block) (n i : ℕ) → n < length bs → i < length new → getD bs n [] ≡ getD new i []
+    → isDirectKind (getD (over (turnedKind era new) ks bs) n zeroKind) ≡ false
 unfolding isDirectKind
-over-shared new [] bs n i ln li e = refl
-over-shared new (k ∷ ks) [] n i ln li e = absurd (omega (arith, ln))
-over-shared new (k ∷ ks) (b ∷ bs) zero i ln li e = turned-shared new k b i li e
-over-shared new (k ∷ ks) (b ∷ bs) (suc n) i ln li e = over-shared new ks bs n i (omega (arith, ln)) li e
+over-shared era new [] bs n i ln li e = refl
+over-shared era new (k ∷ ks) [] n i ln li e = absurd (omega (arith, ln))
+over-shared era new (k ∷ ks) (b ∷ bs) zero i ln li e = turned-shared era new k b i li e
+over-shared era new (k ∷ ks) (b ∷ bs) (suc n) i ln li e = over-shared era new ks bs n i (omega (arith, ln)) li e
 
 module _ (bytes : ℕ) where
   -- ---- a version is filed
 
-  new-shown : (n n′ p : ℕ) (image : List ℕ) → n ≡ n′
-      → Shows bytes (record { number = n′; image = image; previous = p }) [] (record { number = n; length = length image; image = image; kinds = map newKind (imageBlocks bytes image) })
-  new-shown n n′ p image e = record { number = e; size = refl; image = refl; shared = tt }
+  new-shown : (era : Era) (n n′ p : ℕ) (image : List ℕ) → n ≡ n′
+      → Shows bytes (record { number = n′; image = image; previous = p }) [] (record { number = n; length = length image; image = image; kinds = map (newKind era) (imageBlocks bytes image) })
+  new-shown era n n′ p image e = record { number = e; size = refl; image = refl; shared = tt }
 
-  agree-filed : (n n′ : ℕ) (image : List ℕ) → n ≡ n′ → (xs : List Kept) (ws : List VersionView) → Agree bytes xs ws
+  agree-filed : (era : Era) (n n′ : ℕ) (image : List ℕ) → n ≡ n′ → (xs : List Kept) (ws : List VersionView) → Agree bytes xs ws
       → Agree bytes (xs ++ (record { number = n′; image = image; previous = newestKept xs } ∷ []))
-      (turnNewest bytes (imageBlocks bytes image) ws ++ (record { number = n; length = length image; image = image; kinds = map newKind (imageBlocks bytes image) } ∷ []))
+      (turnNewest era bytes (imageBlocks bytes image) ws ++ (record { number = n; length = length image; image = image; kinds = map (newKind era) (imageBlocks bytes image) } ∷ []))
   unfolding turnNewest withKinds newestKept
-  agree-filed n n′ image e [] [] a = (new-shown n n′ 0 image e, tt)
-  agree-filed n n′ image e [] (w ∷ ws) a = absurd a
-  agree-filed n n′ image e (x ∷ xs) [] a = absurd a
-  agree-filed n n′ image e (x ∷ []) (w ∷ []) a =
+  agree-filed era n n′ image e [] [] a = (new-shown era n n′ 0 image e, tt)
+  agree-filed era n n′ image e [] (w ∷ ws) a = absurd a
+  agree-filed era n n′ image e (x ∷ xs) [] a = absurd a
+  agree-filed era n n′ image e (x ∷ []) (w ∷ []) a =
       let f = a .0 in (
         record {
           number = f .number;
@@ -94,21 +100,21 @@ module _ (bytes : ℕ) where
           shared = (
             le-refl (x .number),
             λ q k i lk li same.
-                ap (λ (l : List ℕ). isDirectKind (getD (over (turnedKind (imageBlocks bytes image)) (w .kinds) (imageBlocks bytes l)) k zeroKind)) (f .image)
-                ∙ over-shared (imageBlocks bytes image) (w .kinds) (imageBlocks bytes (x .image)) k i lk li same,
+                ap (λ (l : List ℕ). isDirectKind (getD (over (turnedKind era (imageBlocks bytes image)) (w .kinds) (imageBlocks bytes l)) k zeroKind)) (f .image)
+                ∙ over-shared era (imageBlocks bytes image) (w .kinds) (imageBlocks bytes (x .image)) k i lk li same,
           );
         },
-        (new-shown n n′ (x .number) image e, tt),
+        (new-shown era n n′ (x .number) image e, tt),
       )
-  agree-filed n n′ image e (x ∷ []) (w ∷ v ∷ ws) a = absurd (a .1)
-  agree-filed n n′ image e (x ∷ y ∷ xs) (w ∷ []) a = absurd (a .1)
-  agree-filed n n′ image e (x ∷ y ∷ xs) (w ∷ v ∷ ws) a =
+  agree-filed era n n′ image e (x ∷ []) (w ∷ v ∷ ws) a = absurd (a .1)
+  agree-filed era n n′ image e (x ∷ y ∷ xs) (w ∷ []) a = absurd (a .1)
+  agree-filed era n n′ image e (x ∷ y ∷ xs) (w ∷ v ∷ ws) a =
       let f = a .0 in
-      (record { number = f .number; size = f .size; image = f .image; shared = f .shared }, agree-filed n n′ image e (y ∷ xs) (v ∷ ws) (a .1))
+      (record { number = f .number; size = f .size; image = f .image; shared = f .shared }, agree-filed era n n′ image e (y ∷ xs) (v ∷ ws) (a .1))
 
-  pub till-filed : (y : KeptTill) (w : TillView) (image : List ℕ) → AgreeTill bytes y w → AgreeTill bytes (filed y image) (shownWith bytes w image)
+  pub till-filed : (era : Era) (y : KeptTill) (w : TillView) (image : List ℕ) → AgreeTill bytes y w → AgreeTill bytes (filed y image) (shownWith era bytes w image)
   unfolding filed shownWith
-  till-filed y w image a = (ap suc (a .0), agree-filed (suc (w .last)) (suc (y .last)) image (ap suc (a .0)) (y .versions) (w .versions) (a .1))
+  till-filed era y w image a = (ap suc (a .0), agree-filed era (suc (w .last)) (suc (y .last)) image (ap suc (a .0)) (y .versions) (w .versions) (a .1))
 
   -- ---- a version is struck
 

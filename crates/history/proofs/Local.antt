@@ -7,14 +7,14 @@ use mathlib.Core.Option.{Option, none, some}
 use Prim.Native.Nat.{ℕ, suc, _*_}
 use lib.ListN.{length, drop}
 use lib.Dec.{eqb, leb, ltb}
-use Rattle.lists.specs.Lists.{every, firstFrom, allZero}
+use Rattle.lists.specs.Lists.{every, firstFrom}
 use Rattle.lists.proofs.Tests.{by-test}
 use Rattle.model.specs.Measures.{Shape}
 use Rattle.model.specs.State.{Block, Shelf, Version, Till, State, Outcome, refused, done}
-use Rattle.model.specs.Image.{imageBlocks, imageSegments}
+use Rattle.model.specs.Image.{Era, isBare, imageBlocks, imageSegments}
 use Rattle.model.specs.Records.{isFree, equals}
 use Rattle.model.specs.Runs.{Run, findRun}
-use Rattle.model.specs.Place.{Placed, nonNull, writeRun, writeRecord, shareOrWrite, placeSegment, afterSome, placeNext, placeAll}
+use Rattle.model.specs.Place.{Placed, stored, writeRun, writeRecord, shareOrWrite, placeSegment, afterSome, placeNext, placeAll}
 use Rattle.model.specs.Trace.{imageOf}
 use Rattle.model.specs.Calls.{tillOf, heldFrom, restoreFrom, restoreRefusal, restore, heldBefore, retireFrom, retire, fileIn, placeAndFile, backup, listTill, listingRefusal, listingIn, RestoreAnswer, After}
 use Rattle.history.specs.Calls.{Call, callLayout, callBackup, callRestore, callRetire, callListing, callTally, Answer, backedUp, restored, retired, listed, outcomeRefusal, outcomeNumber, answerIn}
@@ -27,38 +27,38 @@ abbrev NoRoom : {A : Type 0} → Outcome A → Type 0
 NoRoom (refused n) = (n ≡ 14) ⊎ (n ≡ 16)
 NoRoom (done a) = Unit {0}
 
-run-room : (a : Shelf) (seg : List Block) (k : ℕ) (o : Option Run) → NoRoom (writeRun a seg k o)
+run-room : (era : Era) (a : Shelf) (seg : List Block) (k : ℕ) (o : Option Run) → NoRoom (writeRun era a seg k o)
 unfolding writeRun
-run-room a seg k none = inr refl
-run-room a seg k (some run) = tt
+run-room era a seg k none = inr refl
+run-room era a seg k (some run) = tt
 
-record-room : (a : Shelf) (seg : List Block) (o : Option ℕ) → NoRoom (writeRecord a seg o)
+record-room : (era : Era) (a : Shelf) (seg : List Block) (o : Option ℕ) → NoRoom (writeRecord era a seg o)
 unfolding writeRecord
-record-room a seg none = inl refl
-record-room a seg (some k) = run-room a seg k (findRun a (length (nonNull seg)))
+record-room era a seg none = inl refl
+record-room era a seg (some k) = run-room era a seg k (findRun a (length (stored era seg)))
 
-either-room : (a : Shelf) (seg : List Block) (o : Option ℕ) → NoRoom (shareOrWrite a seg o)
+either-room : (era : Era) (a : Shelf) (seg : List Block) (o : Option ℕ) → NoRoom (shareOrWrite era a seg o)
 unfolding shareOrWrite
-either-room a seg none = record-room a seg (firstFrom isFree 0 (a .records))
-either-room a seg (some k) = tt
+either-room era a seg none = record-room era a seg (firstFrom isFree 0 (a .records))
+either-room era a seg (some k) = tt
 
-segment-room : (a : Shelf) (seg : List Block) → NoRoom (placeSegment a seg)
+segment-room : (era : Era) (a : Shelf) (seg : List Block) → NoRoom (placeSegment era a seg)
 unfolding placeSegment
-segment-room a seg = by-test NoRoom (every allZero seg) (λ e. tt) (λ e. either-room a seg (firstFrom (equals a seg) 0 (a .records)))
+segment-room era a seg = by-test NoRoom (every (isBare era) seg) (λ e. tt) (λ e. either-room era a seg (firstFrom (equals era a seg) 0 (a .records)))
 
-next-room : (o : Outcome Placed) (seg : List Block) → NoRoom o → NoRoom (placeNext o seg)
+next-room : (era : Era) (o : Outcome Placed) (seg : List Block) → NoRoom o → NoRoom (placeNext era o seg)
 unfolding placeNext afterSome
-next-room (refused n) seg h = h
-next-room (done p) seg h = go (placeSegment (p .shelf) seg) (segment-room (p .shelf) seg)
+next-room era (refused n) seg h = h
+next-room era (done p) seg h = go (placeSegment era (p .shelf) seg) (segment-room era (p .shelf) seg)
   where
     go : (o : Outcome Placed) → NoRoom o → NoRoom (afterSome (p .pointers) o)
     go (refused n) h = h
     go (done q) h = tt
 
-all-room : (o : Outcome Placed) (segs : List (List Block)) → NoRoom o → NoRoom (placeAll o segs)
+all-room : (era : Era) (o : Outcome Placed) (segs : List (List Block)) → NoRoom o → NoRoom (placeAll era o segs)
 unfolding placeAll
-all-room o [] h = h
-all-room o (seg ∷ segs) h = all-room (placeNext o seg) segs (next-room o seg h)
+all-room era o [] h = h
+all-room era o (seg ∷ segs) h = all-room era (placeNext era o seg) segs (next-room era o seg h)
 
 -- ---- each call
 
@@ -69,19 +69,19 @@ Roomy a = (a ≡ backedUp 14 0 → ⊥) × (a ≡ backedUp 16 0 → ⊥)
 abbrev answerFrom : Outcome After → Answer
 answerFrom o = backedUp (outcomeRefusal o) (outcomeNumber o)
 
-file-answer : (s : Shape) (st : State) (t : ℕ) (image : List ℕ) (blocks : List Block) (till : Till) (o : Outcome Placed) → NoRoom o
-    → Roomy (answerFrom (fileIn s st t image blocks till o)) → answerFrom (fileIn s st t image blocks till o) ≡ backedUp 0 (suc (till .last))
+file-answer : (era : Era) (s : Shape) (st : State) (t : ℕ) (image : List ℕ) (blocks : List Block) (till : Till) (o : Outcome Placed) → NoRoom o
+    → Roomy (answerFrom (fileIn era s st t image blocks till o)) → answerFrom (fileIn era s st t image blocks till o) ≡ backedUp 0 (suc (till .last))
 unfolding fileIn outcomeRefusal outcomeNumber
-file-answer s st t image blocks till (refused n) (inl e) r = absurd (r .0 (ap (λ (k : ℕ). backedUp k 0) e))
-file-answer s st t image blocks till (refused n) (inr e) r = absurd (r .1 (ap (λ (k : ℕ). backedUp k 0) e))
-file-answer s st t image blocks till (done p) h r = refl
+file-answer era s st t image blocks till (refused n) (inl e) r = absurd (r .0 (ap (λ (k : ℕ). backedUp k 0) e))
+file-answer era s st t image blocks till (refused n) (inr e) r = absurd (r .1 (ap (λ (k : ℕ). backedUp k 0) e))
+file-answer era s st t image blocks till (done p) h r = refl
 
-backup-shown : (s : Shape) (st : State) (t : ℕ) (image : List ℕ) → Roomy (answerFrom (backup s st t image))
-    → answerFrom (backup s st t image) ≡ answerShown s (viewAt (s .measures .blockBytes) st t) (callBackup t image)
+backup-shown : (era : Era) (s : Shape) (st : State) (t : ℕ) (image : List ℕ) → Roomy (answerFrom (backup era s st t image))
+    → answerFrom (backup era s st t image) ≡ answerShown s (viewAt (s .measures .blockBytes) st t) (callBackup era t image)
 unfolding answerShown backup viewOf
-backup-shown s st t image =
+backup-shown era s st t image =
     subst (λ (n : ℕ). Is (cond none (backedUp 3 0) (cond size (backedUp 4 0) (cond (leb (s .capacities .versions) n) (backedUp 11 0) (cond top (backedUp 12 0) (backedUp 0 (suc (tillOf st t .last)))))))
-    (cond none (refused 3) (cond size (refused 4) (cond (leb (s .capacities .versions) (length (tillOf st t .versions))) (refused 11) (cond top (refused 12) (placeAndFile s st t image (tillOf st t)))))))
+    (cond none (refused 3) (cond size (refused 4) (cond (leb (s .capacities .versions) (length (tillOf st t .versions))) (refused 11) (cond top (refused 12) (placeAndFile era s st t image (tillOf st t)))))))
     (sym (views-length (s .measures .blockBytes) (st .shelf) (tillOf st t .versions)))
     (step none 3 _ _ (step size 4 _ _ (step (leb (s .capacities .versions) (length (tillOf st t .versions))) 11 _ _ (step top 12 _ _ filed))))
   where
@@ -97,12 +97,12 @@ backup-shown s st t image =
     Is : Answer → Outcome After → Type 0
     Is a o = Roomy (answerFrom o) → answerFrom o ≡ a
 
-    filed : Is (backedUp 0 (suc (tillOf st t .last))) (placeAndFile s st t image (tillOf st t))
+    filed : Is (backedUp 0 (suc (tillOf st t .last))) (placeAndFile era s st t image (tillOf st t))
     filed =
         unfold placeAndFile in
-        file-answer s st t image (imageBlocks (s .measures .blockBytes) image) (tillOf st t)
-        (placeAll (done (record { shelf = st .shelf; pointers = [] })) (imageSegments (s .measures .blockBytes) (s .measures .segmentBlocks) image))
-        (all-room (done (record { shelf = st .shelf; pointers = [] })) (imageSegments (s .measures .blockBytes) (s .measures .segmentBlocks) image) tt)
+        file-answer era s st t image (imageBlocks (s .measures .blockBytes) image) (tillOf st t)
+        (placeAll era (done (record { shelf = st .shelf; pointers = [] })) (imageSegments (s .measures .blockBytes) (s .measures .segmentBlocks) image))
+        (all-room era (done (record { shelf = st .shelf; pointers = [] })) (imageSegments (s .measures .blockBytes) (s .measures .segmentBlocks) image) tt)
 
     step : (b : Bool) (n : ℕ) (o : Outcome After) (a : Answer) → Is a o → Is (cond b (backedUp n 0) a) (cond b (refused n) o)
     step true n o a h r = unfold outcomeRefusal outcomeNumber in refl
@@ -153,7 +153,7 @@ listing-shown s st t =
 -- a backup that is answered 14 or 16
 abbrev pub HasRoom : Call → Answer → Type 0
 HasRoom (callLayout c) a = Unit {0}
-HasRoom (callBackup t image) a = Roomy a
+HasRoom (callBackup era t image) a = Roomy a
 HasRoom (callRestore t v output) a = Unit {0}
 HasRoom (callRetire t v) a = Unit {0}
 HasRoom (callListing t) a = Unit {0}
@@ -164,7 +164,7 @@ pub answer-in : (s : Shape) (st : State) (call : Call) → isOnTill call ≡ tru
     → answerIn s st call ≡ answerShown s (viewAt (s .measures .blockBytes) st (tillNamed call)) call
 unfolding answerIn tillNamed
 answer-in s st (callLayout c) on room = absurd (false≢true on)
-answer-in s st (callBackup t image) on room = backup-shown s st t image room
+answer-in s st (callBackup era t image) on room = backup-shown era s st t image room
 answer-in s st (callRestore t v output) on room = restore-shown s st t v output
 answer-in s st (callRetire t v) on room = retire-shown s st t v
 answer-in s st (callListing t) on room = listing-shown s st t

@@ -5,64 +5,64 @@ use mathlib.Core.Option.{Option, none, some}
 use Prim.Native.Nat.{ℕ, _*_, _<_}
 use lib.ListN.{length}
 use lib.Dec.{eqb, leb, ltb, lit<}
-use Rattle.lists.specs.Lists.{every, firstFrom, allZero}
+use Rattle.lists.specs.Lists.{every, firstFrom}
 use Rattle.lists.proofs.Tests.{by-test}
 use Rattle.model.specs.Measures.{Shape}
 use Rattle.model.specs.State.{Block, Shelf, Version, State, Outcome, refused, done}
-use Rattle.model.specs.Image.{imageBlocks, imageSegments}
+use Rattle.model.specs.Image.{Era, isBare, imageBlocks, imageSegments}
 use Rattle.model.specs.Records.{isFree, equals}
 use Rattle.model.specs.Runs.{Run, findRun}
-use Rattle.model.specs.Place.{Placed, nonNull, writeRun, writeRecord, shareOrWrite, placeSegment, afterSome, placeNext, placeAll}
+use Rattle.model.specs.Place.{Placed, stored, writeRun, writeRecord, shareOrWrite, placeSegment, afterSome, placeNext, placeAll}
 use Rattle.model.specs.Calls.{tillOf, heldFrom, heldBefore, retireFrom, fileIn, placeAndFile, backup, retire}
 
 abbrev pub Numbered : {A : Type 0} → Outcome A → Type 0
 Numbered (refused n) = 0 < n
 Numbered (done a) = Unit {0}
 
-run-numbered : (a : Shelf) (seg : List Block) (k : ℕ) (o : Option Run) → Numbered (writeRun a seg k o)
+run-numbered : (era : Era) (a : Shelf) (seg : List Block) (k : ℕ) (o : Option Run) → Numbered (writeRun era a seg k o)
 unfolding writeRun
-run-numbered a seg k none = lit< tt
-run-numbered a seg k (some run) = tt
+run-numbered era a seg k none = lit< tt
+run-numbered era a seg k (some run) = tt
 
-record-numbered : (a : Shelf) (seg : List Block) (o : Option ℕ) → Numbered (writeRecord a seg o)
+record-numbered : (era : Era) (a : Shelf) (seg : List Block) (o : Option ℕ) → Numbered (writeRecord era a seg o)
 unfolding writeRecord
-record-numbered a seg none = lit< tt
-record-numbered a seg (some k) = run-numbered a seg k (findRun a (length (nonNull seg)))
+record-numbered era a seg none = lit< tt
+record-numbered era a seg (some k) = run-numbered era a seg k (findRun a (length (stored era seg)))
 
-either-numbered : (a : Shelf) (seg : List Block) (o : Option ℕ) → Numbered (shareOrWrite a seg o)
+either-numbered : (era : Era) (a : Shelf) (seg : List Block) (o : Option ℕ) → Numbered (shareOrWrite era a seg o)
 unfolding shareOrWrite
-either-numbered a seg none = record-numbered a seg (firstFrom isFree 0 (a .records))
-either-numbered a seg (some k) = tt
+either-numbered era a seg none = record-numbered era a seg (firstFrom isFree 0 (a .records))
+either-numbered era a seg (some k) = tt
 
-segment-numbered : (a : Shelf) (seg : List Block) → Numbered (placeSegment a seg)
+segment-numbered : (era : Era) (a : Shelf) (seg : List Block) → Numbered (placeSegment era a seg)
 unfolding placeSegment
-segment-numbered a seg = by-test Numbered (every allZero seg) (λ e. tt) (λ e. either-numbered a seg (firstFrom (equals a seg) 0 (a .records)))
+segment-numbered era a seg = by-test Numbered (every (isBare era) seg) (λ e. tt) (λ e. either-numbered era a seg (firstFrom (equals era a seg) 0 (a .records)))
 
-next-numbered : (o : Outcome Placed) (seg : List Block) → Numbered o → Numbered (placeNext o seg)
+next-numbered : (era : Era) (o : Outcome Placed) (seg : List Block) → Numbered o → Numbered (placeNext era o seg)
 unfolding placeNext afterSome
-next-numbered (refused n) seg h = h
-next-numbered (done p) seg h = go (placeSegment (p .shelf) seg) (segment-numbered (p .shelf) seg)
+next-numbered era (refused n) seg h = h
+next-numbered era (done p) seg h = go (placeSegment era (p .shelf) seg) (segment-numbered era (p .shelf) seg)
   where
     go : (o : Outcome Placed) → Numbered o → Numbered (afterSome (p .pointers) o)
     go (refused n) h = h
     go (done q) h = tt
 
-all-numbered : (o : Outcome Placed) (segs : List (List Block)) → Numbered o → Numbered (placeAll o segs)
+all-numbered : (era : Era) (o : Outcome Placed) (segs : List (List Block)) → Numbered o → Numbered (placeAll era o segs)
 unfolding placeAll
-all-numbered o [] h = h
-all-numbered o (seg ∷ segs) h = all-numbered (placeNext o seg) segs (next-numbered o seg h)
+all-numbered era o [] h = h
+all-numbered era o (seg ∷ segs) h = all-numbered era (placeNext era o seg) segs (next-numbered era o seg h)
 
-pub backup-numbered : (s : Shape) (st : State) (t : ℕ) (image : List ℕ) → Numbered (backup s st t image)
+pub backup-numbered : (era : Era) (s : Shape) (st : State) (t : ℕ) (image : List ℕ) → Numbered (backup era s st t image)
 unfolding backup placeAndFile
-backup-numbered s st t image =
+backup-numbered era s st t image =
     by-test Numbered (leb (s .capacities .tills) t) (λ e. lit< tt)
     (λ e. by-test Numbered (eqb (length image) 0 || ltb (s .measures .blockBytes * s .capacities .blocks) (length image)) (λ e. lit< tt)
     (λ e. by-test Numbered (leb (s .capacities .versions) (length (tillOf st t .versions))) (λ e. lit< tt)
     (λ e. by-test Numbered (eqb (tillOf st t .last) 65535) (λ e. lit< tt)
-    (λ e. go (placeAll (done (record { shelf = st .shelf; pointers = [] })) (imageSegments (s .measures .blockBytes) (s .measures .segmentBlocks) image))
-    (all-numbered (done (record { shelf = st .shelf; pointers = [] })) (imageSegments (s .measures .blockBytes) (s .measures .segmentBlocks) image) tt)))))
+    (λ e. go (placeAll era (done (record { shelf = st .shelf; pointers = [] })) (imageSegments (s .measures .blockBytes) (s .measures .segmentBlocks) image))
+    (all-numbered era (done (record { shelf = st .shelf; pointers = [] })) (imageSegments (s .measures .blockBytes) (s .measures .segmentBlocks) image) tt)))))
   where
-    go : (o : Outcome Placed) → Numbered o → Numbered (fileIn s st t image (imageBlocks (s .measures .blockBytes) image) (tillOf st t) o)
+    go : (o : Outcome Placed) → Numbered o → Numbered (fileIn era s st t image (imageBlocks (s .measures .blockBytes) image) (tillOf st t) o)
     go (refused n) h = unfold fileIn in h
     go (done p) h = unfold fileIn in tt
 

@@ -4,6 +4,7 @@ use mathlib.Core.Bool.{true}
 use Prim.Native.Nat.{ℕ}
 use mathlib.Core.List.{List}
 use Rattle.model.specs.Measures.{Shape}
+use Rattle.model.specs.Image.{Era}
 use Rattle.model.specs.State.{State, Outcome, refused, done}
 use Rattle.model.specs.Sound.{isSound}
 use Rattle.model.specs.Calls.{backup, retire, After}
@@ -13,10 +14,10 @@ use Rattle.laws.proofs.Retire.{retire-sound}
 use Rattle.history.specs.Calls.{Call, callLayout, callBackup, callRestore, callRetire, callListing, callTally, stateOr, stateAfter}
 
 module _ (s : Shape) (pr : Proper (s .measures)) (st : State) (h : isSound s st ≡ true) where
-  backup-good : (t : ℕ) (image : List ℕ) (o : Outcome After) → backup s st t image ≡ o → isSound s (stateOr st o) ≡ true
+  backup-good : (era : Era) (t : ℕ) (image : List ℕ) (o : Outcome After) → backup era s st t image ≡ o → isSound s (stateOr st o) ≡ true
   unfolding stateOr
-  backup-good t image (refused n) q = h
-  backup-good t image (done a) q = backup-sound s pr t image st a h q
+  backup-good era t image (refused n) q = h
+  backup-good era t image (done a) q = backup-sound era s pr t image st a h q
 
   retire-good : (t v : ℕ) (o : Outcome After) → retire s st t v ≡ o → isSound s (stateOr st o) ≡ true
   unfolding stateOr
@@ -26,7 +27,7 @@ module _ (s : Shape) (pr : Proper (s .measures)) (st : State) (h : isSound s st 
   pub sound-after : (call : Call) → isSound s (stateAfter s st call) ≡ true
   unfolding stateAfter
   sound-after (callLayout c) = h
-  sound-after (callBackup t image) = backup-good t image (backup s st t image) refl
+  sound-after (callBackup era t image) = backup-good era t image (backup era s st t image) refl
   sound-after (callRestore t v output) = h
   sound-after (callRetire t v) = retire-good t v (retire s st t v) refl
   sound-after (callListing t) = h

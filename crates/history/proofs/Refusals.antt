@@ -9,7 +9,7 @@ use Rattle.lists.proofs.Tests.{by-test}
 use Rattle.model.specs.Measures.{Shape}
 use Rattle.model.specs.State.{Shelf, Version, Outcome, refused, done}
 use Rattle.model.specs.Sound.{Store, storeOf}
-use Rattle.model.specs.Calls.{layoutOf, backup, backupIn, backupOf, backupAnswer, restore, restoreFrom, restoreIn, restoreOf, restoreRefusal, RestoreAnswer, heldFrom, tillOf, retire, retireIn, retireOf, retireAnswer, listingIn, listingOf, listingRefusal, listTill, ListingAnswer, tallyIn, tallyOf, After}
+use Rattle.model.specs.Calls.{layoutOf, backup, backupIn, backupBy, backupAnswer, restore, restoreFrom, restoreIn, restoreOf, restoreRefusal, RestoreAnswer, heldFrom, tillOf, retire, retireIn, retireOf, retireAnswer, listingIn, listingOf, listingRefusal, listTill, ListingAnswer, tallyIn, tallyOf, After}
 use Rattle.laws.proofs.Empty.{layout-refused}
 use Rattle.history.specs.Calls.{Call, callLayout, callBackup, callRestore, callRetire, callListing, callTally, Buffers, refusalOf, buffersAfter, Answer, laidOut, backedUp, restored, retired, listed, tallied, answerOf}
 
@@ -21,17 +21,17 @@ pub alters-nothing : (b : Buffers) (call : Call) → ¬ (refusalOf b call ≡ 0)
 unfolding refusalOf buffersAfter
 alters-nothing b (callLayout c) h =
     unfold layoutOf in (let r = layout-refused _ _ _ (b .pool) (b .table) h in same-buffers b _ _ (r .0) (r .1))
-alters-nothing b (callBackup t image) h = unfold backupOf in go (storeOf (b .pool) (b .table)) h
+alters-nothing b (callBackup era t image) h = unfold backupBy in go (storeOf (b .pool) (b .table)) h
   where
     one : (s : Shape) (o : Outcome After) → ¬ (backupAnswer (b .pool) (b .table) s o .refusal ≡ 0)
         → record { pool = backupAnswer (b .pool) (b .table) s o .pool; table = backupAnswer (b .pool) (b .table) s o .table } ≡ b
     one s (refused n) h = unfold backupAnswer in refl
     one s (done a) h = unfold backupAnswer in absurd (h refl)
 
-    go : (o : Option Store) → ¬ (backupIn o (b .pool) (b .table) t image .refusal ≡ 0)
-        → record { pool = backupIn o (b .pool) (b .table) t image .pool; table = backupIn o (b .pool) (b .table) t image .table } ≡ b
+    go : (o : Option Store) → ¬ (backupIn era o (b .pool) (b .table) t image .refusal ≡ 0)
+        → record { pool = backupIn era o (b .pool) (b .table) t image .pool; table = backupIn era o (b .pool) (b .table) t image .table } ≡ b
     go none h = unfold backupIn in refl
-    go (some x) h = unfold backupIn in one (x .shape) (backup (x .shape) (x .state) t image) h
+    go (some x) h = unfold backupIn in one (x .shape) (backup era (x .shape) (x .state) t image) h
 alters-nothing b (callRestore t v output) h = refl
 alters-nothing b (callRetire t v) h = unfold retireOf in go (storeOf (b .pool) (b .table)) h
   where
@@ -50,7 +50,7 @@ alters-nothing b callTally h = refl
 -- the answer of a refusal
 unfoldable pub refusedWith : ℕ → Call → Answer
 refusedWith n (callLayout c) = laidOut n
-refusedWith n (callBackup t image) = backedUp n 0
+refusedWith n (callBackup era t image) = backedUp n 0
 refusedWith n (callRestore t v output) = restored (record { refusal = n; length = 0; hops = 0; output = output })
 refusedWith n (callRetire t v) = retired n 0
 refusedWith n (callListing t) = listed (record { refusal = n; oldest = 0; newest = 0; last = 0 })
@@ -82,17 +82,17 @@ listing-zero t (some x) = by-test ZeroListing (leb (x .shape .capacities .tills)
 pub answers-number-only : (b : Buffers) (call : Call) → ¬ (refusalOf b call ≡ 0) → answerOf b call ≡ refusedWith (refusalOf b call) call
 unfolding refusalOf answerOf refusedWith
 answers-number-only b (callLayout c) h = refl
-answers-number-only b (callBackup t image) h = unfold backupOf in go (storeOf (b .pool) (b .table)) h
+answers-number-only b (callBackup era t image) h = unfold backupBy in go (storeOf (b .pool) (b .table)) h
   where
     one : (s : Shape) (o : Outcome After) → ¬ (backupAnswer (b .pool) (b .table) s o .refusal ≡ 0)
         → backedUp (backupAnswer (b .pool) (b .table) s o .refusal) (backupAnswer (b .pool) (b .table) s o .version) ≡ backedUp (backupAnswer (b .pool) (b .table) s o .refusal) 0
     one s (refused n) h = unfold backupAnswer in refl
     one s (done a) h = unfold backupAnswer in absurd (h refl)
 
-    go : (o : Option Store) → ¬ (backupIn o (b .pool) (b .table) t image .refusal ≡ 0)
-        → backedUp (backupIn o (b .pool) (b .table) t image .refusal) (backupIn o (b .pool) (b .table) t image .version) ≡ backedUp (backupIn o (b .pool) (b .table) t image .refusal) 0
+    go : (o : Option Store) → ¬ (backupIn era o (b .pool) (b .table) t image .refusal ≡ 0)
+        → backedUp (backupIn era o (b .pool) (b .table) t image .refusal) (backupIn era o (b .pool) (b .table) t image .version) ≡ backedUp (backupIn era o (b .pool) (b .table) t image .refusal) 0
     go none h = unfold backupIn in refl
-    go (some x) h = unfold backupIn in one (x .shape) (backup (x .shape) (x .state) t image) h
+    go (some x) h = unfold backupIn in one (x .shape) (backup era (x .shape) (x .state) t image) h
 answers-number-only b (callRestore t v output) h = unfold restoreOf in ap restored (restore-zero t v output (storeOf (b .pool) (b .table)) h)
 answers-number-only b (callRetire t v) h = unfold retireOf in go (storeOf (b .pool) (b .table)) h
   where

@@ -10,7 +10,7 @@ use Rattle.lists.specs.Lists.{counted, largest, rises}
 use Rattle.lists.proofs.Counted.{counted-same}
 use Rattle.lists.proofs.Tests.{clause, every-at}
 use Rattle.model.specs.Measures.{Shape}
-use Rattle.model.specs.State.{Pointer, nullPointer, direct, indirect, Shelf, Version, Till, State}
+use Rattle.model.specs.State.{Pointer, nullPointer, blankPointer, direct, indirect, Shelf, Version, Till, State}
 use Rattle.model.specs.Trace.{imageOf, hopsVia, hops, longestChain}
 use Rattle.model.specs.Sound.{isSound, isTill, isNumbered}
 use Rattle.model.specs.Calls.{emptyTill, tillOf, heldFrom, oldestNumber, newestNumber}
@@ -56,6 +56,7 @@ module _ (bytes : ℕ) (a : Shelf) where
   hops-of : (p : Pointer) (f g : ℕ → ℕ) → ((n : ℕ) → f n ≡ g n) → hopsVia p f ≡ hopsOfKind (kindOf p) g
   unfolding hopsVia hopsOfKind
   hops-of nullPointer f g h = refl
+  hops-of blankPointer f g h = refl
   hops-of (direct k i) f g h = refl
   hops-of (indirect n) f g h = ap suc (h n)
 

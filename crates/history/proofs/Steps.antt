@@ -9,7 +9,7 @@ use Rattle.model.specs.Measures.{Shape}
 use Rattle.model.specs.State.{State, Outcome, refused, done}
 use Rattle.model.specs.Table.{stateToWords, stateToBytes}
 use Rattle.model.specs.Sound.{isSound, Store, storeOf}
-use Rattle.model.specs.Calls.{emptyState, layoutOf, backup, backupIn, backupOf, backupAnswer, restoreIn, restoreOf, retire, retireIn, retireOf, retireAnswer, listingIn, listingOf, tallyIn, tallyOf, After}
+use Rattle.model.specs.Calls.{emptyState, layoutOf, backup, backupIn, backupBy, backupAnswer, restoreIn, restoreOf, retire, retireIn, retireOf, retireAnswer, listingIn, listingOf, tallyIn, tallyOf, After}
 use Rattle.laws.proofs.Fits.{Fit, range-fit}
 use Rattle.laws.proofs.RoundTrip.{round-trip}
 use Rattle.laws.proofs.Empty.{empty-sound, layout-refused, layout-accepted}
@@ -48,8 +48,8 @@ left-one s b st call e r = record { fit = e .fit; pool = words call r .0; table 
         → (buffersAfter b call .pool ≡ stateToBytes (stateAfter s st call)) × (buffersAfter b call .table ≡ stateToWords s (stateAfter s st call))
     words (callLayout c) r =
         unfold buffersAfter stateAfter layoutOf in (let z = layout-refused _ _ _ (b .pool) (b .table) r in (z .0 ∙ e .pool, z .1 ∙ e .table))
-    words (callBackup t image) r =
-        unfold buffersAfter stateAfter backupOf backupIn in rw (left-store s b st e) (backup-words s b st (backup s st t image) (e .pool) (e .table))
+    words (callBackup era t image) r =
+        unfold buffersAfter stateAfter backupBy backupIn in rw (left-store s b st e) (backup-words s b st (backup era s st t image) (e .pool) (e .table))
     words (callRestore t v output) r = unfold buffersAfter stateAfter in (e .pool, e .table)
     words (callRetire t v) r =
         unfold buffersAfter stateAfter retireOf retireIn in rw (left-store s b st e) (retire-words s b st (retire s st t v) (e .pool) (e .table))
@@ -73,10 +73,10 @@ left-laid s pool table h =
 pub answer-same : (s : Shape) (b : Buffers) (st : State) (call : Call) → Left s b st → answerOf b call ≡ answerIn s st call
 unfolding answerOf answerIn
 answer-same s b st (callLayout c) e = ap₂ (λ (pool table : List ℕ). laidOut (layoutOf c pool table .refusal)) (e .pool) (e .table)
-answer-same s b st (callBackup t image) e =
-    unfold backupOf in
-    (ap (λ (o : Option Store). backedUp (backupIn o (b .pool) (b .table) t image .refusal) (backupIn o (b .pool) (b .table) t image .version)) (left-store s b st e)
-    ∙ (unfold backupIn in go (backup s st t image)))
+answer-same s b st (callBackup era t image) e =
+    unfold backupBy in
+    (ap (λ (o : Option Store). backedUp (backupIn era o (b .pool) (b .table) t image .refusal) (backupIn era o (b .pool) (b .table) t image .version)) (left-store s b st e)
+    ∙ (unfold backupIn in go (backup era s st t image)))
   where
     go : (o : Outcome After) → backedUp (backupAnswer (b .pool) (b .table) s o .refusal) (backupAnswer (b .pool) (b .table) s o .version) ≡ backedUp (outcomeRefusal o) (outcomeNumber o)
     go (refused n) = unfold backupAnswer outcomeRefusal outcomeNumber in refl
@@ -103,7 +103,7 @@ answers-same s (call ∷ calls) b st e r =
 pub refusal-in : (b : Buffers) (call : Call) → refusalIn (answerOf b call) ≡ refusalOf b call
 unfolding refusalIn answerOf refusalOf
 refusal-in b (callLayout c) = refl
-refusal-in b (callBackup t image) = refl
+refusal-in b (callBackup era t image) = refl
 refusal-in b (callRestore t v output) = refl
 refusal-in b (callRetire t v) = refl
 refusal-in b (callListing t) = refl

@@ -15,14 +15,14 @@ use Rattle.lists.proofs.Counts.{count-append}
 use Rattle.lists.proofs.Each.{each-at, each-counted}
 use Rattle.lists.proofs.Tests.{clause, every-at}
 use Rattle.model.specs.Measures.{Shape, partsFor, isWithin}
-use Rattle.model.specs.State.{Block, Pointer, nullPointer, direct, indirect, Position, Shelf, Version, State}
+use Rattle.model.specs.State.{Block, Pointer, nullPointer, blankPointer, direct, indirect, Position, Shelf, Version, State}
 use Rattle.model.specs.Image.{imageBlocks}
 use Rattle.model.specs.Records.{isHeld, cellOf, cellAt, positionAt}
 use Rattle.model.specs.Trace.{endOf, blockAt, tracedBlock, tracedBlocks, imageOf}
 use Rattle.model.specs.Sound.{isSound, isTill, hasLength, endsZero, areTraceable, leadsTo, allPointers}
 use Rattle.model.specs.Calls.{emptyTill, tillOf}
 use Rattle.laws.proofs.Sweep.{named-one}
-use Rattle.laws.proofs.Clean.{Whole, zero-whole}
+use Rattle.laws.proofs.Clean.{Whole, zero-whole, blank-whole}
 use Rattle.laws.proofs.Counts.{at, leads-itself}
 use Rattle.laws.proofs.Place.{held-named, counted-held}
 use Rattle.laws.proofs.Measures.{parts-some}
@@ -39,6 +39,7 @@ module _ (s : Shape) (pr : Proper (s .measures)) (st : State) (h : isSound s st 
   pub block-whole : (p : Pointer) → ((k i : ℕ) → leadsTo k i p ≡ true → 0 < count (leadsTo k i) (allPointers (st .tills))) → Whole (s .measures) (blockAt (s .measures .blockBytes) (st .shelf) p)
   unfolding blockAt cellAt positionAt
   block-whole nullPointer g = zero-whole (s .measures)
+  block-whole blankPointer g = blank-whole (s .measures)
   block-whole (direct k i) g =
       let p : Position = at (st .shelf .records) k i in
       let held : isHeld p ≡ true = counted-held p (omega (arith, valid .counts k i, g k i (leads-itself k i))) in

@@ -18,20 +18,20 @@ use Rattle.lists.proofs.Counts.{count-append}
 use Rattle.lists.proofs.Sets.{map-at}
 use Rattle.lists.proofs.Tests.{clause}
 use Rattle.model.specs.Measures.{Measures, Shape, partsFor}
-use Rattle.model.specs.State.{Block, Pointer, nullPointer, direct, indirect, Shelf, Version, Till}
-use Rattle.model.specs.Image.{imageBlocks}
-use Rattle.model.specs.Turn.{target, indirectTo, turn}
+use Rattle.model.specs.State.{Block, Pointer, nullPointer, blankPointer, direct, indirect, Shelf, Version, Till}
+use Rattle.model.specs.Image.{Era, isBare, imageBlocks}
+use Rattle.model.specs.Turn.{target, foundOr, turn}
 use Rattle.model.specs.Trace.{endOf, blockAt, tracedBlock, tracedBlocks, imageOf}
 use Rattle.model.specs.Sound.{isNull, leadsTo, nextPointers, areTraceable}
 use Rattle.model.specs.Calls.{newestPointers, withNewestPointers, takeOver, closeUp}
 use Rattle.laws.proofs.Sweep.{Exact}
-use Rattle.laws.proofs.Place.{isIndirect}
+use Rattle.laws.proofs.Bare.{isIndirect, isBarePointer}
 use Rattle.laws.proofs.Serves.{pointersOf, Serves, traced-again}
 use Rattle.laws.proofs.Turn.{NewOk, extended, traced-same, turn-length, plain-end, lead-at, last-plain}
 use Rattle.laws.proofs.Takeover.{close-traced}
 use Rattle.laws.proofs.Image.{blocks-joined}
 use Rattle.laws.proofs.Fits.{Proper}
-use Rattle.history.specs.Kinds.{Kind, zeroKind, directKind, kindOf, kindAt}
+use Rattle.history.specs.Kinds.{Kind, zeroKind, blankKind, directKind, kindOf, kindAt}
 use Rattle.history.specs.View.{VersionView, viewVersions, viewOf, newKind, turnedKind, withKinds, turnNewest, takeOverKind, dropVersion}
 
 pub view-path : (n n′ l l′ : ℕ) (i i′ : List ℕ) (k k′ : List Kind) → n ≡ n′ → l ≡ l′ → i ≡ i′ → k ≡ k′
@@ -75,21 +75,23 @@ module _ (s : Shape) (a b : Shelf) (ps : List Pointer) (sv : Serves (s .measures
 
 -- ---- pointers that turn
 
-turned-kind : (m : Measures) (p : Shelf) (bs : List Block) (q : Pointer) → kindOf (indirectTo q (target p bs q)) ≡ turnedKind bs (kindOf q) (blockAt (m .blockBytes) p q)
+turned-kind : (era : Era) (m : Measures) (p : Shelf) (bs : List Block) (q : Pointer)
+    → kindOf (foundOr q (target era p bs q)) ≡ turnedKind era bs (kindOf q) (blockAt (m .blockBytes) p q)
 unfolding target turnedKind blockAt
-turned-kind m p bs nullPointer = refl
-turned-kind m p bs (direct k i) = go (target p bs (direct k i))
+turned-kind era m p bs nullPointer = refl
+turned-kind era m p bs blankPointer = refl
+turned-kind era m p bs (direct k i) = go (target era p bs (direct k i))
   where
-    go : (o : Option ℕ) → kindOf (indirectTo (direct k i) o) ≡ kindAt o
+    go : (o : Option Pointer) → kindOf (foundOr (direct k i) o) ≡ kindAt o
     go none = refl
-    go (some n) = refl
-turned-kind m p bs (indirect n) = refl
+    go (some q) = refl
+turned-kind era m p bs (indirect n) = refl
 
-turned-kinds : (m : Measures) (p : Shelf) (bs : List Block) (qs : List Pointer)
-    → map kindOf (turn p bs qs) ≡ over (turnedKind bs) (map kindOf qs) (map (blockAt (m .blockBytes) p) qs)
+turned-kinds : (era : Era) (m : Measures) (p : Shelf) (bs : List Block) (qs : List Pointer)
+    → map kindOf (turn era p bs qs) ≡ over (turnedKind era bs) (map kindOf qs) (map (blockAt (m .blockBytes) p) qs)
 unfolding turn
-turned-kinds m p bs [] = refl
-turned-kinds m p bs (q ∷ qs) = ap₂ _∷_ (turned-kind m p bs q) (turned-kinds m p bs qs)
+turned-kinds era m p bs [] = refl
+turned-kinds era m p bs (q ∷ qs) = ap₂ _∷_ (turned-kind era m p bs q) (turned-kinds era m p bs qs)
 
 -- the blocks of a newest version, whose pointers are not indirect
 plain-blocks : (m : Measures) (p : Shelf) (v : Version) → ((n : ℕ) → isIndirect (getD (v .pointers) n nullPointer) ≡ false)
@@ -103,36 +105,44 @@ plain-blocks m p v h =
 
 -- ---- the new version
 
-pub new-blocks : (m : Measures) (p : Shelf) (bs : List Block) (newV : Version) → NewOk m p bs (newV .pointers) → length (newV .pointers) ≡ length bs
+pub new-blocks : (era : Era) (m : Measures) (p : Shelf) (bs : List Block) (newV : Version) → NewOk era m p bs (newV .pointers) → length (newV .pointers) ≡ length bs
     → tracedBlocks (m .blockBytes) p (newV ∷ []) ≡ bs
 unfolding tracedBlocks tracedBlock endOf
-new-blocks m p bs newV ok n =
+new-blocks era m p bs newV ok n =
     ap (counted (tracedBlock (m .blockBytes) p (newV ∷ [])) 0) n
     ∙ counted-is (tracedBlock (m .blockBytes) p (newV ∷ [])) [] 0 bs (λ j h.
     ap (tracedBlock (m .blockBytes) p (newV ∷ [])) (zero-add j) ∙ ap (blockAt (m .blockBytes) p) (plain-end (getD (newV .pointers) j nullPointer) _ (ok .plain j)) ∙ ok .traced j h)
 
-pub new-image : (m : Measures) → Proper m → (p : Shelf) (image : List ℕ) (newV : Version) → NewOk m p (imageBlocks (m .blockBytes) image) (newV .pointers)
+pub new-image : (era : Era) (m : Measures) → Proper m → (p : Shelf) (image : List ℕ) (newV : Version) → NewOk era m p (imageBlocks (m .blockBytes) image) (newV .pointers)
     → newV .length ≡ length image → length (newV .pointers) ≡ length (imageBlocks (m .blockBytes) image) → imageOf (m .blockBytes) p (newV ∷ []) ≡ image
 unfolding imageOf
-new-image m pr p image newV ok l n =
-    ap₂ (λ (k : ℕ) (bs : List Block). take k (joined bs)) l (new-blocks m p (imageBlocks (m .blockBytes) image) newV ok n)
+new-image era m pr p image newV ok l n =
+    ap₂ (λ (k : ℕ) (bs : List Block). take k (joined bs)) l (new-blocks era m p (imageBlocks (m .blockBytes) image) newV ok n)
     ∙ ap (take (length image)) (blocks-joined m pr image)
     ∙ take-at image (fill (partsFor (m .blockBytes) (length image) * m .blockBytes - length image) []) (length image) refl
 
-pub new-kinds : (m : Measures) (p : Shelf) (bs : List Block) (new : List Pointer) → NewOk m p bs new → length new ≡ length bs → map kindOf new ≡ map newKind bs
-new-kinds m p bs new ok n = go new bs n (ok .plain) (ok .nulls)
+pub new-kinds : (era : Era) (m : Measures) (p : Shelf) (bs : List Block) (new : List Pointer) → NewOk era m p bs new → length new ≡ length bs
+    → map kindOf new ≡ map (newKind era) bs
+new-kinds era m p bs new ok n = go new bs n (ok .plain) (ok .nulls) (ok .bares)
   where
-    one : (q : Pointer) (b : Block) → isIndirect q ≡ false → isNull q ≡ allZero b → kindOf q ≡ newKind b
-    one nullPointer b i e = unfold newKind in ap (λ (t : Bool). cond t zeroKind directKind) e
-    one (direct k j) b i e = unfold newKind in ap (λ (t : Bool). cond t zeroKind directKind) e
-    one (indirect k) b i e = absurd (false≢true (sym i))
+    kind : Bool → Bool → Kind
+    kind bare null = cond bare (cond null zeroKind blankKind) directKind
+
+    one : (q : Pointer) → isIndirect q ≡ false → kindOf q ≡ kind (isBarePointer q) (isNull q)
+    one nullPointer i = refl
+    one blankPointer i = refl
+    one (direct k j) i = refl
+    one (indirect k) i = absurd (false≢true (sym i))
 
     go : (qs : List Pointer) (bs : List Block) → length qs ≡ length bs → ((j : ℕ) → isIndirect (getD qs j nullPointer) ≡ false)
-        → ((j : ℕ) → j < length bs → isNull (getD qs j nullPointer) ≡ allZero (getD bs j [])) → map kindOf qs ≡ map newKind bs
-    go [] [] n f g = refl
-    go [] (b ∷ bs) n f g = absurd (omega (arith, n))
-    go (q ∷ qs) [] n f g = absurd (omega (arith, n))
-    go (q ∷ qs) (b ∷ bs) n f g = ap₂ _∷_ (one q b (f 0) (g 0 (omega arith))) (go qs bs (omega (arith, n)) (λ j. f (suc j)) (λ j l. g (suc j) (omega (arith, l))))
+        → ((j : ℕ) → j < length bs → isNull (getD qs j nullPointer) ≡ allZero (getD bs j []))
+        → ((j : ℕ) → j < length bs → isBarePointer (getD qs j nullPointer) ≡ isBare era (getD bs j [])) → map kindOf qs ≡ map (newKind era) bs
+    go [] [] n f g h = refl
+    go [] (b ∷ bs) n f g h = absurd (omega (arith, n))
+    go (q ∷ qs) [] n f g h = absurd (omega (arith, n))
+    go (q ∷ qs) (b ∷ bs) n f g h =
+        ap₂ _∷_ (one q (f 0) ∙ ap₂ kind (h 0 (omega arith)) (g 0 (omega arith)) ∙ (unfold newKind in refl))
+        (go qs bs (omega (arith, n)) (λ j. f (suc j)) (λ j l. g (suc j) (omega (arith, l))) (λ j l. h (suc j) (omega (arith, l))))
 
 -- ---- with a new version
 
@@ -141,24 +151,24 @@ abbrev pub Cut : ℕ → Shelf → List Version → Type 0
 Cut bytes p [] = Unit {0}
 Cut bytes p (v ∷ vs) = (imageBlocks bytes (imageOf bytes p (v ∷ vs)) ≡ tracedBlocks bytes p (v ∷ vs)) × Cut bytes p vs
 
-module _ (s : Shape) (p : Shelf) (x : Exact p) (bs : List Block) (newV : Version) (ok : NewOk (s .measures) p bs (newV .pointers)) where
+module _ (era : Era) (s : Shape) (p : Shelf) (x : Exact p) (bs : List Block) (newV : Version) (ok : NewOk era (s .measures) p bs (newV .pointers)) where
   pub views-extended : (vs : List Version) → areTraceable (s .measures .blockBytes) (s .capacities .blocks) p vs ≡ true → Cut (s .measures .blockBytes) p vs
-      → viewVersions (s .measures .blockBytes) p (extended s p x bs newV ok vs)
-      ≡ turnNewest (s .measures .blockBytes) bs (viewVersions (s .measures .blockBytes) p vs) ++ viewVersions (s .measures .blockBytes) p (newV ∷ [])
+      → viewVersions (s .measures .blockBytes) p (extended era s p x bs newV ok vs)
+      ≡ turnNewest era (s .measures .blockBytes) bs (viewVersions (s .measures .blockBytes) p vs) ++ viewVersions (s .measures .blockBytes) p (newV ∷ [])
   unfolding viewVersions turnNewest withKinds extended withNewestPointers newestPointers areTraceable nextPointers tracedBlock
   views-extended [] h c = refl
   views-extended (v ∷ []) h c =
       ap {B = List VersionView} (λ (w : VersionView). w ∷ viewVersions (s .measures .blockBytes) p (newV ∷ []))
       (view-path _ _ _ _ _ _ _ _ refl refl
-      (image-same (s .measures) p p v (record { number = v .number; length = v .length; pointers = turn p bs (v .pointers) }) [] (newV ∷ []) refl
-      (turn-length p bs (v .pointers)) (traced-same s p x bs newV ok v [] h))
-      (turned-kinds (s .measures) p bs (v .pointers)
-      ∙ ap (over (turnedKind bs) (map kindOf (v .pointers)))
+      (image-same (s .measures) p p v (record { number = v .number; length = v .length; pointers = turn era p bs (v .pointers) }) [] (newV ∷ []) refl
+      (turn-length era p bs (v .pointers)) (traced-same era s p x bs newV ok v [] h))
+      (turned-kinds era (s .measures) p bs (v .pointers)
+      ∙ ap (over (turnedKind era bs) (map kindOf (v .pointers)))
       (sym (c .0 ∙ plain-blocks (s .measures) p v (λ n. last-plain p (getD (v .pointers) n nullPointer) (lead-at p [] (v .pointers) (clause _ 1 h) n))))))
   views-extended (v ∷ w ∷ vs) h c =
       ap₂ _∷_
       (view-path _ _ _ _ _ _ _ _ refl refl
-      (image-same (s .measures) p p v v (w ∷ vs) (extended s p x bs newV ok (w ∷ vs)) refl refl (traced-same s p x bs newV ok v (w ∷ vs) h))
+      (image-same (s .measures) p p v v (w ∷ vs) (extended era s p x bs newV ok (w ∷ vs)) refl refl (traced-same era s p x bs newV ok v (w ∷ vs) h))
       refl)
       (views-extended (w ∷ vs) (clause _ 3 h) (c .1))
 
@@ -167,6 +177,7 @@ module _ (s : Shape) (p : Shelf) (x : Exact p) (bs : List Block) (newV : Version
 take-kind : (gone : List Pointer) (p : Pointer) → kindOf (takeOver gone p) ≡ takeOverKind (map kindOf gone) (kindOf p)
 unfolding takeOverKind
 take-kind gone nullPointer = refl
+take-kind gone blankPointer = refl
 take-kind gone (direct k i) = refl
 take-kind gone (indirect n) = sym (List·getD-map kindOf gone n nullPointer)
 

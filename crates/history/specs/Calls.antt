@@ -6,14 +6,16 @@ use mathlib.Core.List.{List, [], _∷_}
 use mathlib.Core.Option.{some}
 use lib.Dec.{eqb}
 use Rattle.model.specs.Measures.{Shape}
+use Rattle.model.specs.Image.{Era}
 use Rattle.model.specs.State.{State, Outcome, refused, done}
 use Rattle.model.specs.Table.{stateToWords, stateToBytes}
-use Rattle.model.specs.Calls.{layoutOf, backupOf, restoreOf, retireOf, listingOf, tallyOf, backup, restore, retire, listingIn, tallyIn, RestoreAnswer, ListingAnswer, TallyAnswer, After}
+use Rattle.model.specs.Calls.{layoutOf, backupBy, restoreOf, retireOf, listingOf, tallyOf, backup, restore, retire, listingIn, tallyIn, RestoreAnswer, ListingAnswer, TallyAnswer, After}
 
--- A call with its arguments, any of them. Table length takes no buffer and is no call of the list.
+-- A call with its arguments, any of them; a backup was made before blank blocks were known, or with them. Table length takes no buffer and is no call
+-- of the list.
 pub data Call : Type 0 where
   callLayout : (capacities : Shape) → Call
-  callBackup : (till : ℕ) (image : List ℕ) → Call
+  callBackup : (era : Era) (till : ℕ) (image : List ℕ) → Call
   callRestore : (till version : ℕ) (output : List ℕ) → Call
   callRetire : (till version : ℕ) → Call
   callListing : (till : ℕ) → Call
@@ -27,7 +29,7 @@ pub record Buffers : Type 0 where
 -- the number of the refusal, or 0
 unfoldable pub refusalOf : Buffers → Call → ℕ
 refusalOf b (callLayout c) = layoutOf c (b .pool) (b .table) .refusal
-refusalOf b (callBackup t image) = backupOf (b .pool) (b .table) t image .refusal
+refusalOf b (callBackup era t image) = backupBy era (b .pool) (b .table) t image .refusal
 refusalOf b (callRestore t v output) = restoreOf (b .pool) (b .table) t v output .refusal
 refusalOf b (callRetire t v) = retireOf (b .pool) (b .table) t v .refusal
 refusalOf b (callListing t) = listingOf (b .pool) (b .table) t .refusal
@@ -36,7 +38,7 @@ refusalOf b callTally = tallyOf (b .pool) (b .table) .refusal
 -- the buffers after a call
 unfoldable pub buffersAfter : Buffers → Call → Buffers
 buffersAfter b (callLayout c) = record { pool = layoutOf c (b .pool) (b .table) .pool; table = layoutOf c (b .pool) (b .table) .table }
-buffersAfter b (callBackup t image) = record { pool = backupOf (b .pool) (b .table) t image .pool; table = backupOf (b .pool) (b .table) t image .table }
+buffersAfter b (callBackup era t image) = record { pool = backupBy era (b .pool) (b .table) t image .pool; table = backupBy era (b .pool) (b .table) t image .table }
 buffersAfter b (callRestore t v output) = b
 buffersAfter b (callRetire t v) = record { pool = retireOf (b .pool) (b .table) t v .pool; table = retireOf (b .pool) (b .table) t v .table }
 buffersAfter b (callListing t) = b
@@ -57,7 +59,7 @@ pub data Answer : Type 0 where
 
 unfoldable pub answerOf : Buffers → Call → Answer
 answerOf b (callLayout c) = laidOut (layoutOf c (b .pool) (b .table) .refusal)
-answerOf b (callBackup t image) = backedUp (backupOf (b .pool) (b .table) t image .refusal) (backupOf (b .pool) (b .table) t image .version)
+answerOf b (callBackup era t image) = backedUp (backupBy era (b .pool) (b .table) t image .refusal) (backupBy era (b .pool) (b .table) t image .version)
 answerOf b (callRestore t v output) = restored (restoreOf (b .pool) (b .table) t v output)
 answerOf b (callRetire t v) = retired (retireOf (b .pool) (b .table) t v .refusal) (retireOf (b .pool) (b .table) t v .length)
 answerOf b (callListing t) = listed (listingOf (b .pool) (b .table) t)
@@ -80,7 +82,7 @@ answersOf b (c ∷ cs) = answerOf b c ∷ answersOf (buffersAfter b c) cs
 -- every lay out of the list is refused when it is made
 abbrev pub refusedLayout : Buffers → Call → Type 0
 refusedLayout b (callLayout c) = ¬ (layoutOf c (b .pool) (b .table) .refusal ≡ 0)
-refusedLayout b (callBackup t image) = Unit {0}
+refusedLayout b (callBackup era t image) = Unit {0}
 refusedLayout b (callRestore t v output) = Unit {0}
 refusedLayout b (callRetire t v) = Unit {0}
 refusedLayout b (callListing t) = Unit {0}
@@ -98,7 +100,7 @@ stateOr st (done a) = a .state
 
 unfoldable pub stateAfter : Shape → State → Call → State
 stateAfter s st (callLayout c) = st
-stateAfter s st (callBackup t image) = stateOr st (backup s st t image)
+stateAfter s st (callBackup era t image) = stateOr st (backup era s st t image)
 stateAfter s st (callRestore t v output) = st
 stateAfter s st (callRetire t v) = stateOr st (retire s st t v)
 stateAfter s st (callListing t) = st
@@ -119,7 +121,7 @@ outcomeNumber (done a) = a .answer
 -- what each call answers on a state: there is always a sound store, so no call gets 10
 unfoldable pub answerIn : Shape → State → Call → Answer
 answerIn s st (callLayout c) = laidOut (layoutOf c (stateToBytes st) (stateToWords s st) .refusal)
-answerIn s st (callBackup t image) = backedUp (outcomeRefusal (backup s st t image)) (outcomeNumber (backup s st t image))
+answerIn s st (callBackup era t image) = backedUp (outcomeRefusal (backup era s st t image)) (outcomeNumber (backup era s st t image))
 answerIn s st (callRestore t v output) = restored (restore s st t v output)
 answerIn s st (callRetire t v) = retired (outcomeRefusal (retire s st t v)) (outcomeNumber (retire s st t v))
 answerIn s st (callListing t) = listed (listingIn (some (record { shape = s; state = st })) t)

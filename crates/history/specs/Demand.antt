@@ -8,13 +8,13 @@ use mathlib.Core.Option.{some}
 use lib.ListN.{length, getD, drop}
 use Rattle.lists.specs.Lists.{counted, count, rises, isIn, allZero}
 use Rattle.model.specs.Measures.{Shape}
-use Rattle.model.specs.State.{Block, Pointer, nullPointer, direct, indirect, State}
-use Rattle.model.specs.Image.{imageBlocks}
+use Rattle.model.specs.State.{Block, Pointer, nullPointer, blankPointer, direct, indirect, State}
+use Rattle.model.specs.Image.{Era, withBlanks, isBare, imageBlocks}
 use Rattle.model.specs.Records.{namedCells, cellAt, positionAt, cellOf, isHeld}
 use Rattle.model.specs.Trace.{longestChain}
 use Rattle.model.specs.Table.{stateToWords, stateToBytes, cellsIn}
 use Rattle.model.specs.Sound.{storeOf, nextPointers}
-use Rattle.model.specs.Calls.{layoutOf, backupOf, restoreOf, RestoreAnswer, retireOf, listingOf, ListingAnswer, tallyOf, emptyState, tillOf, heldFrom}
+use Rattle.model.specs.Calls.{layoutOf, backupBy, restoreOf, RestoreAnswer, retireOf, listingOf, ListingAnswer, tallyOf, emptyState, tillOf, heldFrom}
 use Rattle.history.specs.Calls.{Call, callBackup, Buffers, buffersAfterAll, answersOf, refusedLayouts, stateAfterAll, answersIn}
 use Rattle.history.specs.Keeper.{Kept, Keeper, freshKeeper, keptTill, fed, fedAll, keptFrom, oldestKept, newestKept}
 
@@ -24,6 +24,7 @@ pointersHeld st t v = nextPointers (heldFrom v (tillOf st t .versions))
 
 abbrev pub IsDirect : Pointer → Type 0
 IsDirect nullPointer = ⊥
+IsDirect blankPointer = ⊥
 IsDirect (direct k i) = Unit {0}
 IsDirect (indirect n) = ⊥
 
@@ -72,8 +73,8 @@ module _ (bytes : ℕ) (st : State) (k : Keeper) (b : Buffers) where
         × (listingAt t .newest ≡ newestKept (keptTill k t .versions))
         × (listingAt t .last ≡ keptTill k t .last)
     -- "an accepted backup the keeper's new last number"
-    pub backup : (t : ℕ) (image : List ℕ) → backupOf (b .pool) (b .table) t image .refusal ≡ 0
-        → backupOf (b .pool) (b .table) t image .version ≡ keptTill (fed k (callBackup t image) true) t .last
+    pub backup : (era : Era) (t : ℕ) (image : List ℕ) → backupBy era (b .pool) (b .table) t image .refusal ≡ 0
+        → backupBy era (b .pool) (b .table) t image .version ≡ keptTill (fed k (callBackup era t image) true) t .last
     -- a held version "now goes", whichever it is
     pub goes : (t v : ℕ) (x : Kept) (newer : List Kept) → IsKept t v x newer → retireOf (b .pool) (b .table) t v .refusal ≡ 0
     -- "an accepted retire the struck image's length"
@@ -85,10 +86,10 @@ module _ (bytes : ℕ) (st : State) (k : Keeper) (b : Buffers) where
   blockOf x n = getD (imageBlocks bytes (x .image)) n []
 
   pub record Shares : Type 0 where
-    -- "If a non-null block of an image equals a block of the next newer version's image, its pointer is not direct", where the older "was the till's newest
-    -- when the newer one was taken"
+    -- "If a … block of an image equals a block of the next newer version's image, its pointer is not direct", where the older "was the till's newest when
+    -- the newer one was taken"; "the blocks exempt from sharing are the null and the blank"
     pub notDirect : (t v : ℕ) (x y : Kept) (newer : List Kept) (n i : ℕ) → IsKept t v x (y ∷ newer) → y .previous ≡ x .number
-        → n < length (imageBlocks bytes (x .image)) → i < length (imageBlocks bytes (y .image)) → ¬ (allZero (blockOf x n) ≡ true) → blockOf x n ≡ blockOf y i
+        → n < length (imageBlocks bytes (x .image)) → i < length (imageBlocks bytes (y .image)) → ¬ (isBare withBlanks (blockOf x n) ≡ true) → blockOf x n ≡ blockOf y i
         → ¬ IsDirect (getD (pointersHeld st t v) n nullPointer)
 
   -- "The occupied cells (those that positions name), the cells with a byte other than zero, and the cells that some held version's direct pointer leads

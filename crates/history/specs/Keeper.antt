@@ -52,8 +52,8 @@ struckOut t v = record { last = t .last; versions = keep (λ (x : Kept). not (eq
 -- Fed the arguments of a call and whether it was accepted, and nothing out of pool or table.
 unfoldable pub fed : Keeper → Call → Bool → Keeper
 fed k (callLayout c) ok = k
-fed k (callBackup t image) true = set k t (filed (keptTill k t) image)
-fed k (callBackup t image) false = k
+fed k (callBackup era t image) true = set k t (filed (keptTill k t) image)
+fed k (callBackup era t image) false = k
 fed k (callRestore t v output) ok = k
 fed k (callRetire t v) true = set k t (struckOut (keptTill k t) v)
 fed k (callRetire t v) false = k

@@ -4,15 +4,16 @@ use mathlib.Core.Bool.{Bool, true, false, cond, _||_}
 use mathlib.Core.List.{List, [], _∷_, _++_, map}
 use lib.ListN.{length, getD, drop}
 use lib.Dec.{eqb, leb, ltb}
-use Rattle.lists.specs.Lists.{counted, firstFrom, sameNumbers, allZero, largest}
+use Rattle.lists.specs.Lists.{counted, allZero, largest}
 use Rattle.lists.specs.Over.{over}
 use Rattle.model.specs.Measures.{Shape}
 use Rattle.model.specs.State.{Block, Shelf, Version, Till, State}
-use Rattle.model.specs.Image.{imageBlocks}
+use Rattle.model.specs.Image.{Era, isBare, imageBlocks}
+use Rattle.model.specs.Turn.{turnsTo}
 use Rattle.model.specs.Trace.{imageOf}
 use Rattle.model.specs.Calls.{tillOf, RestoreAnswer, restoreRefusal, listingRefusal}
 use Rattle.history.specs.Calls.{Call, callLayout, callBackup, callRestore, callRetire, callListing, callTally, Answer, laidOut, backedUp, restored, retired, listed, tallied}
-use Rattle.history.specs.Kinds.{Kind, zeroKind, directKind, indirectKind, kindOf, kindAt, hopsOfKind}
+use Rattle.history.specs.Kinds.{Kind, zeroKind, blankKind, directKind, indirectKind, kindOf, kindAt, hopsOfKind}
 
 -- A version as its till shows it: number, length, image, what each pointer is and where an indirect one leads.
 pub record VersionView : Type 0 where
@@ -51,41 +52,43 @@ chainShown (w ∷ newer) = largest (counted (hopsShown (w ∷ newer)) 0 (length 
 -- the till that a call is on; a lay out and a tally change none
 unfoldable pub tillNamed : Call → ℕ
 tillNamed (callLayout c) = 0
-tillNamed (callBackup t image) = t
+tillNamed (callBackup era t image) = t
 tillNamed (callRestore t v output) = t
 tillNamed (callRetire t v) = t
 tillNamed (callListing t) = t
 tillNamed callTally = 0
 
 -- a new version's pointer for a block
-unfoldable pub newKind : Block → Kind
-newKind b = cond (allZero b) zeroKind directKind
+unfoldable pub newKind : Era → Block → Kind
+newKind era b = cond (isBare era b) (cond (allZero b) zeroKind blankKind) directKind
 
--- A pointer of the previous version, and its block: a direct one turns indirect, to the lowest equal block of the new image, if there is one.
-unfoldable pub turnedKind : List Block → Kind → Block → Kind
-turnedKind new zeroKind b = zeroKind
-turnedKind new directKind b = kindAt (firstFrom (sameNumbers b) 0 new)
-turnedKind new (indirectKind n) b = indirectKind n
+-- A pointer of the previous version, and its block: a direct one turns blank or indirect, if it does.
+unfoldable pub turnedKind : Era → List Block → Kind → Block → Kind
+turnedKind era new zeroKind b = zeroKind
+turnedKind era new blankKind b = blankKind
+turnedKind era new directKind b = kindAt (turnsTo era new b)
+turnedKind era new (indirectKind n) b = indirectKind n
 
 unfoldable pub withKinds : VersionView → List Kind → VersionView
 withKinds w ks = record { number = w .number; length = w .length; image = w .image; kinds = ks }
 
-unfoldable pub turnNewest : ℕ → List Block → List VersionView → List VersionView
-turnNewest bytes new [] = []
-turnNewest bytes new (w ∷ []) = withKinds w (over (turnedKind new) (w .kinds) (imageBlocks bytes (w .image))) ∷ []
-turnNewest bytes new (w ∷ x ∷ ws) = w ∷ turnNewest bytes new (x ∷ ws)
+unfoldable pub turnNewest : Era → ℕ → List Block → List VersionView → List VersionView
+turnNewest era bytes new [] = []
+turnNewest era bytes new (w ∷ []) = withKinds w (over (turnedKind era new) (w .kinds) (imageBlocks bytes (w .image))) ∷ []
+turnNewest era bytes new (w ∷ x ∷ ws) = w ∷ turnNewest era bytes new (x ∷ ws)
 
-unfoldable pub shownWith : ℕ → TillView → List ℕ → TillView
-shownWith bytes w image = record {
+unfoldable pub shownWith : Era → ℕ → TillView → List ℕ → TillView
+shownWith era bytes w image = record {
   last = suc (w .last);
   versions =
-      turnNewest bytes (imageBlocks bytes image) (w .versions)
-      ++ (record { number = suc (w .last); length = length image; image = image; kinds = map newKind (imageBlocks bytes image) } ∷ []);
+      turnNewest era bytes (imageBlocks bytes image) (w .versions)
+      ++ (record { number = suc (w .last); length = length image; image = image; kinds = map (newKind era) (imageBlocks bytes image) } ∷ []);
 }
 
 -- A pointer of a retired version's older neighbour: an indirect one takes over what it named, of the retired version's.
 unfoldable pub takeOverKind : List Kind → Kind → Kind
 takeOverKind gone zeroKind = zeroKind
+takeOverKind gone blankKind = blankKind
 takeOverKind gone directKind = directKind
 takeOverKind gone (indirectKind n) = getD gone n zeroKind
 
@@ -103,8 +106,8 @@ shownWithout w n = record { last = w .last; versions = dropVersion n (w .version
 -- What the till shows after a call that was accepted or refused: a function of what it showed before and of the call's arguments.
 unfoldable pub changed : ℕ → Call → Bool → TillView → TillView
 changed bytes (callLayout c) ok w = w
-changed bytes (callBackup t image) true w = shownWith bytes w image
-changed bytes (callBackup t image) false w = w
+changed bytes (callBackup era t image) true w = shownWith era bytes w image
+changed bytes (callBackup era t image) false w = w
 changed bytes (callRestore t v output) ok w = w
 changed bytes (callRetire t v) true w = shownWithout w v
 changed bytes (callRetire t v) false w = w
@@ -115,7 +118,7 @@ changed bytes callTally ok w = w
 
 abbrev pub isOnTill : Call → Bool
 isOnTill (callLayout c) = false
-isOnTill (callBackup t image) = true
+isOnTill (callBackup era t image) = true
 isOnTill (callRestore t v output) = true
 isOnTill (callRetire t v) = true
 isOnTill (callListing t) = true
@@ -146,7 +149,7 @@ retireShown (w ∷ newer) = retired 0 (w .length)
 
 unfoldable pub answerShown : Shape → TillView → Call → Answer
 answerShown s w (callLayout c) = laidOut 0
-answerShown s w (callBackup t image) =
+answerShown s w (callBackup era t image) =
     cond (leb (s .capacities .tills) t) (backedUp 3 0)
     (cond (eqb (length image) 0 || ltb (s .measures .blockBytes * s .capacities .blocks) (length image)) (backedUp 4 0)
     (cond (leb (s .capacities .versions) (length (w .versions))) (backedUp 11 0)

@@ -13,7 +13,7 @@ use Rattle.lists.proofs.Masks.{ones-mask, mask-lt}
 use Rattle.model.specs.Measures.{Measures}
 use Rattle.model.specs.Records.{isHeld, cellOf, freeSegment, cellsOf}
 use Rattle.model.specs.Runs.{Run}
-use Rattle.model.specs.State.{Position, nullPosition, held, removed, Segment, Shelf}
+use Rattle.model.specs.State.{Position, nullPosition, blankPosition, held, removed, Segment, Shelf}
 use Rattle.model.specs.Sweep.{goes, stays, struck, moved}
 use Rattle.model.specs.Table.{shelfIn, recordsIn}
 use Rattle.laws.proofs.Runs.{RunOk, Free, FoundOk, find-ok}
@@ -36,6 +36,7 @@ use Rattle.kept.proofs.Walks.{length-picked, stays-picked}
 
 split-bit : (p : Position) → _≡_ {A = ℕ} (cond (isHeld p) 1 0) (cond (goes p) 1 0 + cond (stays p) 1 0)
 split-bit nullPosition = refl
+split-bit blankPosition = refl
 split-bit (held c zero) = refl
 split-bit (held c (suc n)) = refl
 split-bit removed = refl

@@ -14,7 +14,7 @@ use Rattle.lists.proofs.Sets.{map-at}
 use Rattle.lists.proofs.Uses.{uses, in-uses, not-in, uses-here, uses-in, each-used}
 use Rattle.model.specs.Records.{namedCells, cellsOf, cellOf}
 use Rattle.model.specs.Runs.{freeCells, Run, scan, findRun}
-use Rattle.model.specs.State.{Block, Segment, nullPosition, held, removed, Shelf}
+use Rattle.model.specs.State.{Block, Segment, nullPosition, blankPosition, held, removed, Shelf}
 use Rattle.laws.proofs.Named.{inside-any}
 use Rattle.laws.proofs.Sweep.{Exact, named-one}
 use Rattle.laws.proofs.Uses.{bit}
@@ -75,7 +75,9 @@ pub cell-range : (n : ℕ) → 1 ≤ n → (seg : Segment) → Each (λ (c : ℕ
 unfolding cellsOf
 cell-range n h [] e j = omega arith
 cell-range n h (nullPosition ∷ ps) e zero = omega arith
+cell-range n h (blankPosition ∷ ps) e zero = omega arith
 cell-range n h (nullPosition ∷ ps) e (suc j) = cell-range n h ps e j
+cell-range n h (blankPosition ∷ ps) e (suc j) = cell-range n h ps e j
 cell-range n h (held c m ∷ ps) e zero = e .0
 cell-range n h (held c m ∷ ps) e (suc j) = cell-range n h ps (e .1) j
 cell-range n h (removed ∷ ps) e zero = omega arith

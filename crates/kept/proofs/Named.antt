@@ -22,7 +22,7 @@ use Rattle.lists.proofs.Slices.{drop-next, drop-end}
 use Rattle.lists.proofs.Apart.{marked-at}
 use Rattle.model.specs.Measures.{Measures, recordWords}
 use Rattle.model.specs.Records.{isHeld, cellOf, cellsOf, namedCells}
-use Rattle.model.specs.State.{nullPosition, held, removed, Segment, Shelf, Block}
+use Rattle.model.specs.State.{nullPosition, blankPosition, held, removed, Segment, Shelf, Block}
 use Rattle.model.specs.Table.{shelfIn, recordsIn}
 use Rattle.laws.proofs.Sweep.{Exact}
 use Rattle.records.specs.Records.{recordIn, recordOf}
@@ -55,6 +55,7 @@ cells-none : (seg : Segment) → maskOf isHeld seg ≡ 0 → cellsOf seg ≡ []
 unfolding cellsOf
 cells-none [] e = refl
 cells-none (nullPosition ∷ seg) e = cells-none seg (mask-none isHeld nullPosition seg e .1)
+cells-none (blankPosition ∷ seg) e = cells-none seg (mask-none isHeld blankPosition seg e .1)
 cells-none (held c n ∷ seg) e = absurd (false≢true (sym (mask-none isHeld (held c n) seg e .0)))
 cells-none (removed ∷ seg) e = cells-none seg (mask-none isHeld removed seg e .1)
 

@@ -18,7 +18,7 @@ use Rattle.lists.proofs.Rows.{fill-zeros, zeros-fill}
 use Rattle.lists.proofs.Sets.{map-set}
 use Rattle.model.specs.Image.{zeroBlock}
 use Rattle.model.specs.Records.{isHeld, cellOf, cellsOf}
-use Rattle.model.specs.State.{Block, Position, nullPosition, held, removed, Segment}
+use Rattle.model.specs.State.{Block, Position, nullPosition, blankPosition, held, removed, Segment}
 use Rattle.model.specs.Sweep.{goes, stays, clearCells}
 use Rattle.pool.specs.Pool.{copyTo, clearAt, takeAt, freeAt, choose, along}
 use Rattle.kept.specs.Kept.{filled}
@@ -55,6 +55,7 @@ pub held-picked : (seg : Segment) → cellsOf seg ≡ picked isHeld seg
 unfolding cellsOf picked
 held-picked [] = refl
 held-picked (nullPosition ∷ ps) = held-picked ps
+held-picked (blankPosition ∷ ps) = held-picked ps
 held-picked (held c n ∷ ps) = rw (held-picked ps)
 held-picked (removed ∷ ps) = held-picked ps
 
@@ -62,6 +63,7 @@ pub goes-picked : (seg : Segment) → cellsOf (keep goes seg) ≡ picked goes se
 unfolding cellsOf picked keep
 goes-picked [] = refl
 goes-picked (nullPosition ∷ ps) = goes-picked ps
+goes-picked (blankPosition ∷ ps) = goes-picked ps
 goes-picked (held c zero ∷ ps) = rw (goes-picked ps)
 goes-picked (held c (suc n) ∷ ps) = goes-picked ps
 goes-picked (removed ∷ ps) = goes-picked ps
@@ -70,6 +72,7 @@ pub stays-picked : (seg : Segment) → cellsOf (keep stays seg) ≡ picked stays
 unfolding cellsOf picked keep
 stays-picked [] = refl
 stays-picked (nullPosition ∷ ps) = stays-picked ps
+stays-picked (blankPosition ∷ ps) = stays-picked ps
 stays-picked (held c zero ∷ ps) = stays-picked ps
 stays-picked (held c (suc n) ∷ ps) = rw (stays-picked ps)
 stays-picked (removed ∷ ps) = stays-picked ps

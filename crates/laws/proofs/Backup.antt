@@ -17,8 +17,8 @@ use Rattle.lists.proofs.Same.{zeros-zero}
 use Rattle.lists.proofs.Rises.{rises-snoc}
 use Rattle.lists.proofs.Counts.{count-append}
 use Rattle.model.specs.Measures.{Measures, Shape, isWithin, partsFor}
-use Rattle.model.specs.State.{Block, Pointer, nullPointer, direct, indirect, Shelf, Version, Till, State, Outcome, refused, done}
-use Rattle.model.specs.Image.{zeroBlock, imageBlocks, imageSegments}
+use Rattle.model.specs.State.{Block, Pointer, nullPointer, blankPointer, direct, indirect, Shelf, Version, Till, State, Outcome, refused, done}
+use Rattle.model.specs.Image.{zeroBlock, Era, isBare, imageBlocks, imageSegments}
 use Rattle.model.specs.Records.{isHeld, positionAt}
 use Rattle.model.specs.Place.{Placed, placeAll}
 use Rattle.model.specs.Turn.{turn, turning}
@@ -30,7 +30,8 @@ use Rattle.laws.proofs.Fits.{Proper}
 use Rattle.laws.proofs.Measures.{parts-some}
 use Rattle.laws.proofs.Sweep.{Exact}
 use Rattle.laws.proofs.Counts.{at, leads-itself}
-use Rattle.laws.proofs.Place.{PlacedOk, isIndirect, counted-held}
+use Rattle.laws.proofs.Bare.{isIndirect, isBarePointer}
+use Rattle.laws.proofs.Place.{PlacedOk, counted-held}
 use Rattle.laws.proofs.Segments.{PlaceOk, place-ok}
 use Rattle.laws.proofs.Image.{blocks-length, segments-ok, segments-joined, padding, last-zero}
 use Rattle.laws.proofs.Newest.{versions-append, newest-count, newest-numbers, newest-length}
@@ -53,6 +54,7 @@ nulls-uncounted k i (q ∷ qs) h = omega (arith, one q (h 0 (zero-lt-suc (length
   where
     one : (q : Pointer) → isNull q ≡ true → _≡_ {A = ℕ} (cond (leadsTo k i q) 1 0) 0
     one nullPointer e = refl
+    one blankPointer e = absurd (false≢true e)
     one (direct k′ i′) e = absurd (false≢true e)
     one (indirect n) e = absurd (false≢true e)
 
@@ -61,7 +63,7 @@ replicate-at zero j b h = absurd (not-suc-le-zero h)
 replicate-at (suc n) zero b h = refl
 replicate-at (suc n) (suc j) b h = replicate-at n j b (le-of-suc-le-suc h)
 
-module _ (m : Measures) (a p : Shelf) (bs : List Block) (pad : ℕ) (ps : List Pointer) (ok : PlacedOk m a p (bs ++ replicate pad (zeroBlock (m .blockBytes))) ps) where
+module _ (era : Era) (m : Measures) (a p : Shelf) (bs : List Block) (pad : ℕ) (ps : List Pointer) (ok : PlacedOk era m a p (bs ++ replicate pad (zeroBlock (m .blockBytes))) ps) where
   n : ℕ
   n = length bs
 
@@ -73,12 +75,14 @@ module _ (m : Measures) (a p : Shelf) (bs : List Block) (pad : ℕ) (ps : List P
   unfolding n
   in-all j h = omega (arith, h, length-append bs (replicate pad (zeroBlock (m .blockBytes))))
 
-  pub new-ok : NewOk m p bs (take (length bs) ps)
+  pub new-ok : NewOk era m p bs (take (length bs) ps)
   unfolding n
   new-ok = record {
     traced = λ j h. ap (blockAt (m .blockBytes) p) (getD-take n ps j nullPointer h) ∙ ok .traced j (in-all j h) ∙ List·getD-append bs _ [] j h;
     nulls = λ j h. ap isNull (getD-take n ps j nullPointer h) ∙ ok .nulls j (in-all j h) ∙ ap allZero (List·getD-append bs _ [] j h);
+    bares = λ j h. ap isBarePointer (getD-take n ps j nullPointer h) ∙ ok .bares j (in-all j h) ∙ ap (isBare era) (List·getD-append bs _ [] j h);
     plain = plain-take n ps (ok .plain);
+    cells = ok .fits .cells;
   }
 
   pub new-length : length (take (length bs) ps) ≡ length bs
@@ -101,16 +105,16 @@ module _ (m : Measures) (a p : Shelf) (bs : List Block) (pad : ℕ) (ps : List P
 
 -- ---- the till's versions with the new one
 
-module _ (s : Shape) (p : Shelf) (x : Exact p) (bs : List Block) (newV : Version) (ok : NewOk (s .measures) p bs (newV .pointers)) where
+module _ (era : Era) (s : Shape) (p : Shelf) (x : Exact p) (bs : List Block) (newV : Version) (ok : NewOk era (s .measures) p bs (newV .pointers)) where
   ext : List Version → List Version
-  ext vs = extended s p x bs newV ok vs
+  ext vs = extended era s p x bs newV ok vs
 
   one-version : (k i : ℕ) → count (leadsTo k i) (pointersOf (newV ∷ [])) ≡ count (leadsTo k i) (newV .pointers)
   unfolding joined
   one-version k i = ap (count (leadsTo k i)) (append-nil (newV .pointers))
 
   pub ext-count : (k i : ℕ) (vs : List Version)
-      → count (leadsTo k i) (pointersOf (extended s p x bs newV ok vs)) + count (leadsTo k i) (turning p bs (newestPointers vs))
+      → count (leadsTo k i) (pointersOf (extended era s p x bs newV ok vs)) + count (leadsTo k i) (turning era p bs (newestPointers vs))
       ≡ count (leadsTo k i) (pointersOf vs) + count (leadsTo k i) (newV .pointers)
   unfolding extended
   ext-count k i [] = unfold withNewestPointers newestPointers turning keep count joined in empty
@@ -120,19 +124,19 @@ module _ (s : Shape) (p : Shelf) (x : Exact p) (bs : List Block) (newV : Version
   ext-count k i (v ∷ vs) =
       omega (
         arith,
-        versions-append k i (withNewestPointers (v ∷ vs) (turn p bs (newestPointers (v ∷ vs)))) (newV ∷ []),
+        versions-append k i (withNewestPointers (v ∷ vs) (turn era p bs (newestPointers (v ∷ vs)))) (newV ∷ []),
         one-version k i,
-        newest-count k i v vs (turn p bs (newestPointers (v ∷ vs))),
-        turn-count (s .measures) p x bs k i (newestPointers (v ∷ vs)),
+        newest-count k i v vs (turn era p bs (newestPointers (v ∷ vs))),
+        turn-count era (s .measures) p x bs k i (newestPointers (v ∷ vs)),
       )
 
-  ext-numbers : (vs : List Version) → map (λ (v : Version). v .number) (extended s p x bs newV ok vs) ≡ map (λ (v : Version). v .number) vs ++ (newV .number ∷ [])
+  ext-numbers : (vs : List Version) → map (λ (v : Version). v .number) (extended era s p x bs newV ok vs) ≡ map (λ (v : Version). v .number) vs ++ (newV .number ∷ [])
   unfolding extended
-  ext-numbers vs = newest-numbers vs (turn p bs (newestPointers vs)) (newV ∷ [])
+  ext-numbers vs = newest-numbers vs (turn era p bs (newestPointers vs)) (newV ∷ [])
 
-  ext-length : (vs : List Version) → length (extended s p x bs newV ok vs) ≡ suc (length vs)
+  ext-length : (vs : List Version) → length (extended era s p x bs newV ok vs) ≡ suc (length vs)
   unfolding extended
-  ext-length vs = newest-length vs (turn p bs (newestPointers vs)) (newV ∷ []) ∙ add-one (length vs)
+  ext-length vs = newest-length vs (turn era p bs (newestPointers vs)) (newV ∷ []) ∙ add-one (length vs)
 
 -- the till's numbers with the new one
 numbered : (s : Shape) (last : ℕ) (vs ws : List Version) → isNumbered (s .capacities .versions) (record { last = last; versions = vs }) ≡ true
@@ -159,11 +163,12 @@ plain-leads p (q ∷ qs) f g = rw (one q (f 0) (λ k i e. g k i (omega (arith, a
   where
     one : (q : Pointer) → isIndirect q ≡ false → ((k i : ℕ) → leadsTo k i q ≡ true → isHeld (at (p .records) k i) ≡ true) → leads p [] q ≡ true
     one nullPointer e r = refl
+    one blankPointer e r = refl
     one (direct k i) e r = unfold positionAt in r k i (leads-itself k i)
     one (indirect m) e r = absurd (false≢true (sym e))
 
 -- What an accepted backup of `image` at till `t` of `st` did: the segments were placed, the new version joined the till, and the shelf was swept.
-pub record Filed (s : Shape) (st : State) (t : ℕ) (image : List ℕ) (a : After) : Type 0 where
+pub record Filed (era : Era) (s : Shape) (st : State) (t : ℕ) (image : List ℕ) (a : After) : Type 0 where
   pub there : t < length (st .tills)
   pub answer : a .answer ≡ suc (tillOf st t .last)
   -- the shelf with the segments placed keeps what all pointers lead to
@@ -175,12 +180,12 @@ pub record Filed (s : Shape) (st : State) (t : ℕ) (image : List ℕ) (a : Afte
   pub number : version .number ≡ suc (tillOf st t .last)
   pub bytes : version .length ≡ length image
   pub size : length (version .pointers) ≡ length (imageBlocks (s .measures .blockBytes) image)
-  pub good : NewOk (s .measures) placed (imageBlocks (s .measures .blockBytes) image) (version .pointers)
+  pub good : NewOk era (s .measures) placed (imageBlocks (s .measures .blockBytes) image) (version .pointers)
   -- its till
   pub before : isTill s placed (tillOf st t) ≡ true
   pub till : Till
   pub last : till .last ≡ suc (tillOf st t .last)
-  pub versions : till .versions ≡ extended s placed exact (imageBlocks (s .measures .blockBytes) image) version good (tillOf st t .versions)
+  pub versions : till .versions ≡ extended era s placed exact (imageBlocks (s .measures .blockBytes) image) version good (tillOf st t .versions)
   pub tills : a .state .tills ≡ set (st .tills) t till
   -- the sweep keeps what all pointers lead to
   pub swept : Serves (s .measures) placed (a .state .shelf) (allPointers (a .state .tills))
@@ -188,11 +193,11 @@ pub record Filed (s : Shape) (st : State) (t : ℕ) (image : List ℕ) (a : Afte
 
 -- ---- the state after a backup
 
-module _ (s : Shape) (pr : Proper (s .measures)) (st : State) (h : isSound s st ≡ true) (t : ℕ) (ht : t < length (st .tills)) (image : List ℕ)
+module _ (era : Era) (s : Shape) (pr : Proper (s .measures)) (st : State) (h : isSound s st ≡ true) (t : ℕ) (ht : t < length (st .tills)) (image : List ℕ)
     (some-bytes : 0 < length image) (few-bytes : length image ≤ s .measures .blockBytes * s .capacities .blocks) (room : length (tillOf st t .versions) < s .capacities .versions)
     (number : tillOf st t .last ≡ 65535 → ⊥)
     (placed : Placed)
-    (ok : PlacedOk (s .measures) (st .shelf) (placed .shelf) (joined (imageSegments (s .measures .blockBytes) (s .measures .segmentBlocks) image)) (placed .pointers)) where
+    (ok : PlacedOk era (s .measures) (st .shelf) (placed .shelf) (joined (imageSegments (s .measures .blockBytes) (s .measures .segmentBlocks) image)) (placed .pointers)) where
   bs : List Block
   bs = imageBlocks (s .measures .blockBytes) image
 
@@ -202,21 +207,21 @@ module _ (s : Shape) (pr : Proper (s .measures)) (st : State) (h : isSound s st 
   valid : Valid s st
   valid = sound-valid s st h
 
-  ok′ : PlacedOk (s .measures) (st .shelf) (placed .shelf) (bs ++ replicate (padding (s .measures) pr image) (zeroBlock (s .measures .blockBytes))) (placed .pointers)
+  ok′ : PlacedOk era (s .measures) (st .shelf) (placed .shelf) (bs ++ replicate (padding (s .measures) pr image) (zeroBlock (s .measures .blockBytes))) (placed .pointers)
   unfolding bs
-  ok′ = subst (λ (l : List Block). PlacedOk (s .measures) (st .shelf) (placed .shelf) l (placed .pointers)) (segments-joined (s .measures) pr image) ok
+  ok′ = subst (λ (l : List Block). PlacedOk era (s .measures) (st .shelf) (placed .shelf) l (placed .pointers)) (segments-joined (s .measures) pr image) ok
 
-  good : NewOk (s .measures) (placed .shelf) bs (newV .pointers)
+  good : NewOk era (s .measures) (placed .shelf) bs (newV .pointers)
   unfolding newV bs
-  good = new-ok (s .measures) (st .shelf) (placed .shelf) bs (padding (s .measures) pr image) (placed .pointers) ok′
+  good = new-ok era (s .measures) (st .shelf) (placed .shelf) bs (padding (s .measures) pr image) (placed .pointers) ok′
 
   same-count : (k i : ℕ) → count (leadsTo k i) (placed .pointers) ≡ count (leadsTo k i) (newV .pointers)
   unfolding newV bs
-  same-count = new-count (s .measures) (st .shelf) (placed .shelf) bs (padding (s .measures) pr image) (placed .pointers) ok′
+  same-count = new-count era (s .measures) (st .shelf) (placed .shelf) bs (padding (s .measures) pr image) (placed .pointers) ok′
 
   size : length (newV .pointers) ≡ partsFor (s .measures .blockBytes) (length image)
   unfolding newV bs
-  size = new-length (s .measures) (st .shelf) (placed .shelf) bs (padding (s .measures) pr image) (placed .pointers) ok′ ∙ blocks-length (s .measures) pr image
+  size = new-length era (s .measures) (st .shelf) (placed .shelf) bs (padding (s .measures) pr image) (placed .pointers) ok′ ∙ blocks-length (s .measures) pr image
 
   placed-held : (k i : ℕ) → 0 < count (leadsTo k i) (newV .pointers) → isHeld (at (placed .shelf .records) k i) ≡ true
   placed-held k i q = counted-held (at (placed .shelf .records) k i) (omega (arith, q, ok .counts k i, same-count k i))
@@ -264,12 +269,12 @@ module _ (s : Shape) (pr : Proper (s .measures)) (st : State) (h : isSound s st 
   vs = tillOf st t .versions
 
   rs : List Pointer
-  rs = turning (placed .shelf) bs (newestPointers vs)
+  rs = turning era (placed .shelf) bs (newestPointers vs)
 
   after : Till
-  after = tillWith (tillOf st t) (turn (placed .shelf) bs (newestPointers vs)) (length image) (take (length bs) (placed .pointers))
+  after = tillWith (tillOf st t) (turn era (placed .shelf) bs (newestPointers vs)) (length image) (take (length bs) (placed .pointers))
 
-  after-versions : after .versions ≡ extended s (placed .shelf) (ok .exact) bs newV good vs
+  after-versions : after .versions ≡ extended era s (placed .shelf) (ok .exact) bs newV good vs
   unfolding after tillWith extended newV bs vs
   after-versions = refl
 
@@ -278,11 +283,11 @@ module _ (s : Shape) (pr : Proper (s .measures)) (st : State) (h : isSound s st 
   after-till =
       all-true _ (
         numbered s (tillOf st t .last) vs (after .versions) (unfold vs in clause _ 0 before) (unfold vs in room) number
-            (ap length after-versions ∙ ext-length s (placed .shelf) (ok .exact) bs newV good vs)
-            (ap (map (λ (v : Version). v .number)) after-versions ∙ (unfold newV in ext-numbers s (placed .shelf) (ok .exact) bs newV good vs)),
+            (ap length after-versions ∙ ext-length era s (placed .shelf) (ok .exact) bs newV good vs)
+            (ap (map (λ (v : Version). v .number)) after-versions ∙ (unfold newV in ext-numbers era s (placed .shelf) (ok .exact) bs newV good vs)),
         (
           ap (areTraceable (s .measures .blockBytes) (s .capacities .blocks) (placed .shelf)) after-versions
-              ∙ extended-traceable s (placed .shelf) (ok .exact) bs newV good len lead end vs (unfold vs in clause _ 1 before),
+              ∙ extended-traceable era s (placed .shelf) (ok .exact) bs newV good len lead end vs (unfold vs in clause _ 1 before),
           tt,
         ),
       )
@@ -301,7 +306,7 @@ module _ (s : Shape) (pr : Proper (s .measures)) (st : State) (h : isSound s st 
         same-count k i,
         pointers-set k i (st .tills) t after ht,
         ap (λ (l : List Version). count (leadsTo k i) (pointersOf l)) after-versions,
-        ext-count s (placed .shelf) (ok .exact) bs newV good k i (getD (st .tills) t emptyTill .versions),
+        ext-count era s (placed .shelf) (ok .exact) bs newV good k i (getD (st .tills) t emptyTill .versions),
       )
 
   fin : Finished (s .measures) (placed .shelf) (sweep (s .measures) (release (placed .shelf) rs)) ps
@@ -329,7 +334,7 @@ module _ (s : Shape) (pr : Proper (s .measures)) (st : State) (h : isSound s st 
       })
       (fin .positive)
 
-  filed : Filed s st t image (record { state = withTill st t (tillWith (tillOf st t) (turn (placed .shelf) (imageBlocks (s .measures .blockBytes) image) (newestPointers (tillOf st t .versions))) (length image) (take (length (imageBlocks (s .measures .blockBytes) image)) (placed .pointers))) (sweep (s .measures) (release (placed .shelf) (turning (placed .shelf) (imageBlocks (s .measures .blockBytes) image) (newestPointers (tillOf st t .versions))))); answer = suc (tillOf st t .last) })
+  filed : Filed era s st t image (record { state = withTill st t (tillWith (tillOf st t) (turn era (placed .shelf) (imageBlocks (s .measures .blockBytes) image) (newestPointers (tillOf st t .versions))) (length image) (take (length (imageBlocks (s .measures .blockBytes) image)) (placed .pointers))) (sweep (s .measures) (release (placed .shelf) (turning era (placed .shelf) (imageBlocks (s .measures .blockBytes) image) (newestPointers (tillOf st t .versions))))); answer = suc (tillOf st t .last) })
   unfolding bs newV vs rs after ps withTill
   filed = record {
     there = ht;
@@ -340,7 +345,7 @@ module _ (s : Shape) (pr : Proper (s .measures)) (st : State) (h : isSound s st 
     version = newV;
     number = refl;
     bytes = refl;
-    size = new-length (s .measures) (st .shelf) (placed .shelf) bs (padding (s .measures) pr image) (placed .pointers) ok′;
+    size = new-length era (s .measures) (st .shelf) (placed .shelf) bs (padding (s .measures) pr image) (placed .pointers) ok′;
     good = good;
     before = before;
     till = after;
@@ -353,10 +358,10 @@ module _ (s : Shape) (pr : Proper (s .measures)) (st : State) (h : isSound s st 
 
 -- ---- backup
 
-pub backup-filed : (s : Shape) → Proper (s .measures) → (t : ℕ) (image : List ℕ) (st : State) (a : After) → isSound s st ≡ true
-    → backup s st t image ≡ done a → Filed s st t image a
+pub backup-filed : (era : Era) (s : Shape) → Proper (s .measures) → (t : ℕ) (image : List ℕ) (st : State) (a : After) → isSound s st ≡ true
+    → backup era s st t image ≡ done a → Filed era s st t image a
 unfolding backup placeAndFile
-backup-filed s pr t image st a h e =
+backup-filed era s pr t image st a h e =
     let (e₁, r₁) = passed (leb (s .capacities .tills) t) 3 _ a e in
     let (e₂, r₂) = passed (eqb (length image) 0 || ltb (s .measures .blockBytes * s .capacities .blocks) (length image)) 4 _ a r₁ in
     let (e₃, r₃) = passed (leb (s .capacities .versions) (length (tillOf st t .versions))) 11 _ a r₂ in
@@ -364,20 +369,20 @@ backup-filed s pr t image st a h e =
     let (z, big) = or-false (eqb (length image) 0) (ltb (s .measures .blockBytes * s .capacities .blocks) (length image)) e₂ in
     let v : Valid s st = sound-valid s st h in
     let segs : List (List Block) = imageSegments (s .measures .blockBytes) (s .measures .segmentBlocks) image in
-    go (placeAll (done (record { shelf = st .shelf; pointers = [] })) segs)
-    (place-ok (s .measures) (st .shelf) segs (v .fits) (v .exact) (segments-ok (s .measures) pr image))
+    go (placeAll era (done (record { shelf = st .shelf; pointers = [] })) segs)
+    (place-ok era (s .measures) (st .shelf) segs (v .fits) (v .exact) (segments-ok (s .measures) pr image))
     (omega (arith, leb-false (s .capacities .tills) t e₁, v .tillCount)) (omega (arith, eqb-false (length image) 0 z))
     (ltb-false (s .measures .blockBytes * s .capacities .blocks) (length image) big) (leb-false (s .capacities .versions) (length (tillOf st t .versions)) e₃)
     (eqb-false (tillOf st t .last) 65535 e₄) r₄
   where
-    go : (o : Outcome Placed) → PlaceOk (s .measures) (st .shelf) (joined (imageSegments (s .measures .blockBytes) (s .measures .segmentBlocks) image)) o
+    go : (o : Outcome Placed) → PlaceOk era (s .measures) (st .shelf) (joined (imageSegments (s .measures .blockBytes) (s .measures .segmentBlocks) image)) o
         → t < length (st .tills) → 0 < length image → length image ≤ s .measures .blockBytes * s .capacities .blocks
         → length (tillOf st t .versions) < s .capacities .versions → (tillOf st t .last ≡ 65535 → ⊥)
-        → fileIn s st t image (imageBlocks (s .measures .blockBytes) image) (tillOf st t) o ≡ done a → Filed s st t image a
+        → fileIn era s st t image (imageBlocks (s .measures .blockBytes) image) (tillOf st t) o ≡ done a → Filed era s st t image a
     go (refused n) ok ht some few room num r = unfold fileIn in absurd (no-refusal n a r)
     go (done p) ok ht some few room num r =
-        unfold fileIn theAfter in subst (Filed s st t image) (ap (theAfter a) r) (filed s pr st h t ht image some few room num p ok)
+        unfold fileIn theAfter in subst (Filed era s st t image) (ap (theAfter a) r) (filed era s pr st h t ht image some few room num p ok)
 
-pub backup-sound : (s : Shape) → Proper (s .measures) → (t : ℕ) (image : List ℕ) (st : State) (a : After) → isSound s st ≡ true
-    → backup s st t image ≡ done a → isSound s (a .state) ≡ true
-backup-sound s pr t image st a h e = backup-filed s pr t image st a h e .sound
+pub backup-sound : (era : Era) (s : Shape) → Proper (s .measures) → (t : ℕ) (image : List ℕ) (st : State) (a : After) → isSound s st ≡ true
+    → backup era s st t image ≡ done a → isSound s (a .state) ≡ true
+backup-sound era s pr t image st a h e = backup-filed era s pr t image st a h e .sound

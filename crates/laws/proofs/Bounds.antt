@@ -15,7 +15,7 @@ use Rattle.lists.proofs.Counts.{count-most, hit, one-hit, total-at, total-same,
 use Rattle.lists.proofs.Each.{each-at}
 use Rattle.lists.proofs.Tests.{clause}
 use Rattle.model.specs.Measures.{Shape, inRange, isWithin}
-use Rattle.model.specs.State.{Pointer, nullPointer, direct, indirect, nullPosition, Version, Till, State}
+use Rattle.model.specs.State.{Pointer, nullPointer, blankPointer, direct, indirect, nullPosition, Version, Till, State}
 use Rattle.model.specs.Records.{isHeld, countOf}
 use Rattle.model.specs.Sound.{isSound, leadsTo, allPointers}
 use Rattle.laws.proofs.Sweep.{countIn}
@@ -71,6 +71,7 @@ module _ (s : Shape) (fit : Fit s) (st : State) (h : isSound s st ≡ true) wher
 
 unfoldable pub isDirect : Pointer → Bool
 isDirect nullPointer = false
+isDirect blankPointer = false
 isDirect (direct k i) = true
 isDirect (indirect n) = false
 
@@ -121,6 +122,7 @@ module _ (rows cols : ℕ) where
     where
       one : (p : Pointer) → ((k i : ℕ) → leadsTo k i p ≡ true → (k < rows) × (i < cols)) → grid (λ k i. cond (leadsTo k i p) 1 0) ≡ cond (isDirect p) 1 0
       one nullPointer h = unfold isDirect in grid-zero
+      one blankPointer h = unfold isDirect in grid-zero
       one (direct k i) h = unfold isDirect in (let z = h k i (leads-itself k i) in grid-one k i (z .0) (z .1))
       one (indirect n) h = unfold isDirect in grid-zero
 

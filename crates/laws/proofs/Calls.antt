@@ -5,10 +5,11 @@ use mathlib.Core.List.{List}
 use mathlib.Core.Option.{Option, some}
 use Prim.Native.Nat.{ℕ}
 use Rattle.model.specs.Measures.{Shape}
+use Rattle.model.specs.Image.{Era}
 use Rattle.model.specs.State.{State, Outcome, refused, done}
 use Rattle.model.specs.Table.{stateToWords, stateToBytes}
 use Rattle.model.specs.Sound.{isSound, Store, storeOf}
-use Rattle.model.specs.Calls.{layoutOf, emptyState, backup, backupAnswer, backupIn, backupOf, retire, retireAnswer, retireIn, retireOf, After}
+use Rattle.model.specs.Calls.{layoutOf, emptyState, backup, backupAnswer, backupIn, backupBy, retire, retireAnswer, retireIn, retireOf, After}
 use Rattle.laws.proofs.Fits.{Fit, range-fit}
 use Rattle.laws.proofs.Serves.{sound-valid}
 use Rattle.laws.proofs.RoundTrip.{round-trip, store-found}
@@ -33,15 +34,15 @@ module _ (pool table : List ℕ) (x : Store) (e : storeOf pool table ≡ some x)
   fit : Fit (x .shape)
   fit = range-fit (x .shape) (sound-valid (x .shape) (x .state) (store-found pool table x e .sound) .range)
 
-  pub backup-leaves : (t : ℕ) (image : List ℕ) → IsStore (backupOf pool table t image .pool) (backupOf pool table t image .table)
-  unfolding backupOf backupIn
-  backup-leaves t image = rw e (go (backup (x .shape) (x .state) t image) refl)
+  pub backup-leaves : (era : Era) (t : ℕ) (image : List ℕ) → IsStore (backupBy era pool table t image .pool) (backupBy era pool table t image .table)
+  unfolding backupBy backupIn
+  backup-leaves era t image = rw e (go (backup era (x .shape) (x .state) t image) refl)
     where
-      go : (o : Outcome After) → backup (x .shape) (x .state) t image ≡ o
+      go : (o : Outcome After) → backup era (x .shape) (x .state) t image ≡ o
           → IsStore (backupAnswer pool table (x .shape) o .pool) (backupAnswer pool table (x .shape) o .table)
       go (refused n) q = unfold backupAnswer in record { store = x; is = e }
       go (done a) q =
-          unfold backupAnswer in left (x .shape) (a .state) fit (backup-sound (x .shape) (fit .proper) t image (x .state) a (store-found pool table x e .sound) q)
+          unfold backupAnswer in left (x .shape) (a .state) fit (backup-sound era (x .shape) (fit .proper) t image (x .state) a (store-found pool table x e .sound) q)
 
   pub retire-leaves : (t v : ℕ) → IsStore (retireOf pool table t v .pool) (retireOf pool table t v .table)
   unfolding retireOf retireIn

@@ -13,8 +13,8 @@ use borrow.Author.Tests.{eqb-true, eqb-false, lt-ltb, ltb-true, ltb-false}
 use Rattle.lists.specs.Lists.{every, keep, count}
 use Rattle.lists.specs.Each.{Each}
 use Rattle.model.specs.Measures.{Measures}
-use Rattle.model.specs.State.{Block, nullPosition, held, removed, Segment, Shelf}
-use Rattle.model.specs.Image.{zeroBlock}
+use Rattle.model.specs.State.{Block, nullPosition, blankPosition, held, removed, Segment, Shelf}
+use Rattle.model.specs.Image.{zeroBlock, blankBlock}
 use Rattle.model.specs.Records.{freeSegment, isFree, isHeld, countOf, cellsOf, namedCells, cellAt}
 use Rattle.model.specs.Runs.{Run, findRun}
 use Rattle.model.specs.Sweep.{clearCells, goes, stays, struck, moved, freeRecord, strikeOnly, compact, removeFrom, sweepRecord, sweepFrom, sweep}
@@ -40,6 +40,10 @@ module _ (m : Measures) where
   unfolding zeroBlock
   zero-whole = length-replicate (m .blockBytes) 0
 
+  pub blank-whole : Whole (blankBlock (m .blockBytes))
+  unfolding blankBlock
+  blank-whole = length-replicate (m .blockBytes) 255
+
   all-clear : (cs : List ℕ) (cells : List Block) → Each Whole cells → Each Whole (clearCells (m .blockBytes) cells cs)
   unfolding clearCells
   all-clear [] cells h = h
@@ -60,6 +64,7 @@ struck-held : (seg : Segment) → (count isHeld (map struck seg) ≡ length (sta
 unfolding count staying keep cellsOf
 struck-held [] = (refl, refl)
 struck-held (nullPosition ∷ seg) = let h = struck-held seg in (omega (arith, h .0), omega (arith, h .1))
+struck-held (blankPosition ∷ seg) = let h = struck-held seg in (omega (arith, h .0), omega (arith, h .1))
 struck-held (held b zero ∷ seg) = let h = struck-held seg in (omega (arith, h .0), omega (arith, h .1))
 struck-held (held b (suc n) ∷ seg) = let h = struck-held seg in (omega (arith, h .0), omega (arith, h .1))
 struck-held (removed ∷ seg) = let h = struck-held seg in (omega (arith, h .0), omega (arith, h .1))
@@ -68,6 +73,7 @@ moved-held : (seg : Segment) (at : ℕ) → (count isHeld (moved at seg) ≡ len
 unfolding count staying keep cellsOf moved
 moved-held [] at = (refl, refl, refl)
 moved-held (nullPosition ∷ seg) at = let h = moved-held seg at in (omega (arith, h .0), omega (arith, h .1), ap suc (h .2))
+moved-held (blankPosition ∷ seg) at = let h = moved-held seg at in (omega (arith, h .0), omega (arith, h .1), ap suc (h .2))
 moved-held (held b zero ∷ seg) at = let h = moved-held seg at in (omega (arith, h .0), omega (arith, h .1), ap suc (h .2))
 moved-held (held b (suc n) ∷ seg) at = let h = moved-held seg (suc at) in (omega (arith, h .0), omega (arith, h .1), ap suc (h .2))
 moved-held (removed ∷ seg) at = let h = moved-held seg at in (omega (arith, h .0), omega (arith, h .1), ap suc (h .2))
@@ -213,7 +219,9 @@ pub clean-held : (seg : Segment) → count goes seg ≡ 0 → (i : ℕ) → isHe
 unfolding count
 clean-held [] e i h = absurd (false≢true h)
 clean-held (nullPosition ∷ seg) e zero h = absurd (false≢true h)
+clean-held (blankPosition ∷ seg) e zero h = absurd (false≢true h)
 clean-held (nullPosition ∷ seg) e (suc i) h = clean-held seg (omega (arith, e)) i h
+clean-held (blankPosition ∷ seg) e (suc i) h = clean-held seg (omega (arith, e)) i h
 clean-held (held b zero ∷ seg) e zero h = absurd (suc-ne-zero (count goes seg) (omega (arith, e)))
 clean-held (held b zero ∷ seg) e (suc i) h = clean-held seg (omega (arith, e)) i h
 clean-held (held b (suc n) ∷ seg) e zero h = zero-lt-suc n

@@ -16,7 +16,7 @@ use Rattle.lists.proofs.Each.{each-upd}
 use Rattle.lists.proofs.Sets.{upd-same}
 use Rattle.lists.proofs.Tests.{all-true, clause}
 use Rattle.model.specs.Measures.{Measures}
-use Rattle.model.specs.State.{Pointer, nullPointer, direct, indirect, Position, nullPosition, held, removed, Segment, Shelf}
+use Rattle.model.specs.State.{Pointer, nullPointer, blankPointer, direct, indirect, Position, nullPosition, blankPosition, held, removed, Segment, Shelf}
 use Rattle.model.specs.Records.{isHeld, isFree, isNullPosition, countOf, cellOf, cellsOf, namedCells}
 use Rattle.model.specs.Place.{oneMore}
 use Rattle.model.specs.Sweep.{oneLess, changeAt, changeAll}
@@ -38,6 +38,7 @@ positions-counted : (ps : List Pointer) (k i : ℕ) (seg : Segment) → areCount
 unfolding areCounted
 positions-counted ps k i [] h j e = absurd (false≢true e)
 positions-counted ps k i (nullPosition ∷ seg) h zero e = absurd (false≢true e)
+positions-counted ps k i (blankPosition ∷ seg) h zero e = absurd (false≢true e)
 positions-counted ps k i (held c n ∷ seg) h zero e =
     eqb-true n (count (leadsTo k i) ps) (clause _ 1 (clause _ 0 h)) ∙ ap (λ (x : ℕ). count (leadsTo k x) ps) (sym (add-zero i))
 positions-counted ps k i (removed ∷ seg) h zero e = absurd (false≢true e)
@@ -59,6 +60,7 @@ Led shelf ps = (k i : ℕ) → 0 < count (leadsTo k i) ps → isHeld (at (shelf 
 
 unheld : (p : Position) → isHeld p ≡ false → countOf p ≡ 0
 unheld nullPosition e = refl
+unheld blankPosition e = refl
 unheld (held c n) e = absurd (false≢true (sym e))
 unheld removed e = refl
 
@@ -86,6 +88,7 @@ counted-positions ps k i (p ∷ seg) h =
   where
     one : (p : Position) → (isHeld p ≡ true → (0 < countOf p) × (countOf p ≡ count (leadsTo k (i + 0)) ps)) → isCounted ps k i p ≡ true
     one nullPosition g = refl
+    one blankPosition g = refl
     one (held c n) g =
         all-true _ (lt-ltb 0 n (g refl .0), (eq-eqb n (count (leadsTo k i) ps) (g refl .1 ∙ ap (λ (x : ℕ). count (leadsTo k x) ps) (add-zero i)), tt))
     one removed g = refl
@@ -122,6 +125,7 @@ module _ (f : Position → Position) (c : Recount f) where
   pub change-at : (segs : List Segment) (p : Pointer) (k i : ℕ) → at (changeAt f segs p) k i ≡ cond (leadsTo k i p) (f (at segs k i)) (at segs k i)
   unfolding changeAt allOf
   change-at segs nullPointer k i = refl
+  change-at segs blankPointer k i = refl
   change-at segs (indirect n) k i = refl
   change-at segs (direct k′ i′) k i = go (eqb k k′) refl (eqb i i′) refl
     where
@@ -162,6 +166,7 @@ module _ (f : Position → Position) (c : Recount f) where
   same-cells [] i = refl
   same-cells (p ∷ seg) zero = c .cells p seg
   same-cells (nullPosition ∷ seg) (suc i) = same-cells seg i
+  same-cells (blankPosition ∷ seg) (suc i) = same-cells seg i
   same-cells (held b n ∷ seg) (suc i) = ap {B = List ℕ} (λ r. b ∷ r) (same-cells seg i)
   same-cells (removed ∷ seg) (suc i) = same-cells seg i
 
@@ -176,6 +181,7 @@ module _ (f : Position → Position) (c : Recount f) where
   change-named : (segs : List Segment) (p : Pointer) → namedCells (changeAt f segs p) ≡ namedCells segs
   unfolding changeAt namedCells
   change-named segs nullPointer = refl
+  change-named segs blankPointer = refl
   change-named segs (direct k i) = ap joined (map-set-same cellsOf segs k _ [] (same-cells (getD segs k []) i))
   change-named segs (indirect n) = refl
 
@@ -194,6 +200,7 @@ module _ (f : Position → Position) (c : Recount f) where
   change-fits : (m : Measures) (p : Pointer) (segs : List Segment) → Each (SegmentFits m) segs → Each (SegmentFits m) (changeAt f segs p)
   unfolding changeAt
   change-fits m nullPointer segs h = h
+  change-fits m blankPointer segs h = h
   change-fits m (direct k i) segs h = unfold changeIn in each-upd (SegmentFits m) (changeIn i) [] (same-fits m i) segs k h
   change-fits m (indirect n) segs h = h
 
@@ -205,6 +212,7 @@ module _ (f : Position → Position) (c : Recount f) where
   change-length : (segs : List Segment) (p : Pointer) → length (changeAt f segs p) ≡ length segs
   unfolding changeAt
   change-length segs nullPointer = refl
+  change-length segs blankPointer = refl
   change-length segs (direct k i) = length-set segs k _
   change-length segs (indirect n) = refl
 
@@ -217,6 +225,7 @@ module _ (f : Position → Position) (c : Recount f) where
 
 pub less-cell : (p : Position) → cellOf (oneLess p) ≡ cellOf p
 less-cell nullPosition = refl
+less-cell blankPosition = refl
 less-cell (held c n) = refl
 less-cell removed = refl
 
@@ -226,21 +235,25 @@ falls = record { none = refl; isHeld = heldOne; isNull = nullOne; cell = less-ce
   where
     heldOne : (p : Position) → isHeld (oneLess p) ≡ isHeld p
     heldOne nullPosition = refl
+    heldOne blankPosition = refl
     heldOne (held c n) = refl
     heldOne removed = refl
 
     nullOne : (p : Position) → isNullPosition (oneLess p) ≡ isNullPosition p
     nullOne nullPosition = refl
+    nullOne blankPosition = refl
     nullOne (held c n) = refl
     nullOne removed = refl
 
     cellsOne : (p : Position) (seg : Segment) → cellsOf (oneLess p ∷ seg) ≡ cellsOf (p ∷ seg)
     cellsOne nullPosition seg = unfold cellsOf in refl
+    cellsOne blankPosition seg = unfold cellsOf in refl
     cellsOne (held c n) seg = unfold cellsOf in refl
     cellsOne removed seg = unfold cellsOf in refl
 
 less-count : (p : Position) → countOf (oneLess p) ≡ countOf p - 1
 less-count nullPosition = refl
+less-count blankPosition = refl
 less-count (held c n) = let e : pred n ≡ n - 1 = omega arith in e
 less-count removed = refl
 
@@ -264,26 +277,31 @@ grows = record { none = refl; isHeld = heldOne; isNull = nullOne; cell = cellOne
   where
     heldOne : (p : Position) → isHeld (oneMore p) ≡ isHeld p
     heldOne nullPosition = refl
+    heldOne blankPosition = refl
     heldOne (held c n) = refl
     heldOne removed = refl
 
     nullOne : (p : Position) → isNullPosition (oneMore p) ≡ isNullPosition p
     nullOne nullPosition = refl
+    nullOne blankPosition = refl
     nullOne (held c n) = refl
     nullOne removed = refl
 
     cellOne : (p : Position) → cellOf (oneMore p) ≡ cellOf p
     cellOne nullPosition = refl
+    cellOne blankPosition = refl
     cellOne (held c n) = refl
     cellOne removed = refl
 
     cellsOne : (p : Position) (seg : Segment) → cellsOf (oneMore p ∷ seg) ≡ cellsOf (p ∷ seg)
     cellsOne nullPosition seg = unfold cellsOf in refl
+    cellsOne blankPosition seg = unfold cellsOf in refl
     cellsOne (held c n) seg = unfold cellsOf in refl
     cellsOne removed seg = unfold cellsOf in refl
 
 more-count : (p : Position) → isHeld p ≡ true → countOf (oneMore p) ≡ countOf p + 1
 more-count nullPosition h = absurd (false≢true h)
+more-count blankPosition h = absurd (false≢true h)
 more-count (held c n) h = omega arith
 more-count removed h = absurd (false≢true h)
 
@@ -329,6 +347,7 @@ raise-most (p ∷ ps) segs k i =
   where
     more : (p : Position) → countOf (oneMore p) ≤ countOf p + 1
     more nullPosition = zero-le
+    more blankPosition = zero-le
     more (held c n) = omega arith
     more removed = zero-le
 
@@ -354,6 +373,7 @@ positions-positive : (ps : List Pointer) (k i : ℕ) (seg : Segment) → areCoun
 unfolding areCounted
 positions-positive ps k i [] h j e = absurd (false≢true e)
 positions-positive ps k i (nullPosition ∷ seg) h zero e = absurd (false≢true e)
+positions-positive ps k i (blankPosition ∷ seg) h zero e = absurd (false≢true e)
 positions-positive ps k i (held c n ∷ seg) h zero e = ltb-true 0 n (clause _ 0 (clause _ 0 h))
 positions-positive ps k i (removed ∷ seg) h zero e = absurd (false≢true e)
 positions-positive ps k i (p ∷ seg) h (suc j) e = positions-positive ps k (suc i) seg (clause _ 1 h) j e

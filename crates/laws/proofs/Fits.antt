@@ -13,7 +13,7 @@ use Rattle.lists.specs.Each.{Each}
 use Rattle.lists.proofs.Tests.{clause}
 use Rattle.lists.proofs.Each.{every-each, each-at}
 use Rattle.model.specs.Measures.{Measures, Shape, isWithin, inRange, partsFor}
-use Rattle.model.specs.State.{Block, Pointer, nullPointer, direct, indirect, Position, nullPosition, Segment, Version, Till, State}
+use Rattle.model.specs.State.{Block, Pointer, nullPointer, blankPointer, direct, indirect, Position, nullPosition, Segment, Version, Till, State}
 use Rattle.model.specs.Records.{isHeld, positionAt}
 use Rattle.model.specs.Table.{kindUnit, shapeOf, stateToWords}
 use Rattle.model.specs.Sound.{isSound, isShaped, hasLength, isNumbered, isNull, leads, nextPointers, areTraceable, isTill}
@@ -46,6 +46,7 @@ range-fit s h =
 
 abbrev pub PointerFits : Pointer → Type 0
 PointerFits nullPointer = Unit {0}
+PointerFits blankPointer = Unit {0}
 PointerFits (direct k i) = (i < 16) × (k * 16 + i < kindUnit)
 PointerFits (indirect n) = n < kindUnit
 
@@ -96,6 +97,7 @@ module _ (s : Shape) (st : State) (l : Limits s st) where
   pointer-fits : (newer : List Pointer) → length newer ≤ s .capacities .blocks → (p : Pointer) → leads (st .shelf) newer p ≡ true → PointerFits p
   unfolding positionAt
   pointer-fits newer b nullPointer h = tt
+  pointer-fits newer b blankPointer h = tt
   pointer-fits newer b (direct k i) h =
       let hk : k < length (st .shelf .records) = record-in (st .shelf .records) k i h in
       let hi : i < length (getD (st .shelf .records) k []) = held-in (getD (st .shelf .records) k []) i h in

@@ -10,6 +10,7 @@ pub mod Sweep
 pub mod Clean
 pub mod Valid
 pub mod Counts
+pub mod Bare
 pub mod Place
 pub mod Segments
 pub mod Image

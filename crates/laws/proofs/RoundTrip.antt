@@ -21,25 +21,33 @@ use Rattle.lists.proofs.Rows.{length-joined, length-rows, length-fill, fill-spl
 use Rattle.lists.proofs.Cuts.{parts-rows, chunks-rows, chunks-joined, joined-chunks, map-back}
 use Rattle.lists.proofs.Masks.{half, odd}
 use Rattle.model.specs.Measures.{Shape, slotWords, tillWords, recordWords, tableWords, poolBytes, partsFor, inRange}
-use Rattle.model.specs.State.{Pointer, nullPointer, direct, indirect, Position, nullPosition, held, removed, Segment, Version, Till, State}
-use Rattle.model.specs.Records.{isHeld, isRemoved, cellOf, countOf, freeSegment}
+use Rattle.model.specs.State.{Pointer, nullPointer, blankPointer, direct, indirect, Position, nullPosition, blankPosition, held, removed, Segment, Version, Till, State}
+use Rattle.model.specs.Records.{isHeld, isRemoved, isBlankPosition, cellOf, countOf, freeSegment}
 use Rattle.model.specs.Table.{kindUnit, pointerWord, recordToWords, versionToWords, tillToWords, headerToWords, stateToWords, stateToBytes, shapeOf, pointerOf, wordToPointer, positionOf, positionsIn, segmentIn, recordsIn, cellsIn, shelfIn, versionIn, versionsIn, tillIn, tillsIn, tillsPart, recordsPart, stateIn}
 use Rattle.model.specs.Sound.{isSound, Store, ifSound, hasLengths, storeAs, storeOf}
 use Rattle.laws.proofs.Fits.{Fit, range-fit, PointerFits, VersionFits, TillFits, StateFits, state-fits}
 
 -- ---- a record
 
-position-back : (p : Position) → positionOf (cond (isHeld p) 1 0) (cond (isRemoved p) 1 0) (cellOf p) (countOf p) ≡ p
+position-back : (p : Position) → positionOf (cond (isHeld p) 1 0) (cond (isRemoved p) 1 0) (cond (isBlankPosition p) 1 0) (cellOf p) (countOf p) ≡ p
 unfolding positionOf
 position-back nullPosition = refl
+position-back blankPosition = refl
 position-back (held c n) = refl
 position-back removed = refl
 
-pub positions-back : (seg : Segment) → positionsIn (maskOf isHeld seg) (maskOf isRemoved seg) (map cellOf seg) (map countOf seg) ≡ seg
+pub positions-back : (seg : Segment) → positionsIn (maskOf isHeld seg) (maskOf isRemoved seg) (maskOf isBlankPosition seg) (map cellOf seg) (map countOf seg) ≡ seg
 unfolding positionsIn maskOf
 positions-back [] = refl
 positions-back (p ∷ seg) =
-    rw (odd (isHeld p) (maskOf isHeld seg), odd (isRemoved p) (maskOf isRemoved seg), half (isHeld p) (maskOf isHeld seg), half (isRemoved p) (maskOf isRemoved seg))
+    rw (
+      odd (isHeld p) (maskOf isHeld seg),
+      odd (isRemoved p) (maskOf isRemoved seg),
+      odd (isBlankPosition p) (maskOf isBlankPosition seg),
+      half (isHeld p) (maskOf isHeld seg),
+      half (isRemoved p) (maskOf isRemoved seg),
+      half (isBlankPosition p) (maskOf isBlankPosition seg),
+    )
     (ap₂ _∷_ (position-back p) (positions-back seg))
 
 pub length-record : (n : ℕ) (seg : Segment) → length seg ≡ n → length (recordToWords seg) ≡ recordWords n
@@ -55,7 +63,7 @@ segment-back n seg l =
     let later : take n (drop (3 + n) (recordToWords seg)) ≡ counts =
     ap (take n) (sym (drop-drop n 3 (recordToWords seg)) ∙ drop-at cells counts n (length-map seg cellOf ∙ l))
     ∙ take-all n counts (omega (arith, length-map seg countOf, l)) in
-    ap₂ (positionsIn (maskOf isHeld seg) (maskOf isRemoved seg)) first later ∙ positions-back seg
+    ap₂ (positionsIn (maskOf isHeld seg) (maskOf isRemoved seg) (maskOf isBlankPosition seg)) first later ∙ positions-back seg
 
 pub free-words : recordToWords (freeSegment 8) ≡ replicate 19 0
 unfolding recordToWords freeSegment maskOf
@@ -75,7 +83,7 @@ pub free-row : (n : ℕ) → recordToWords (freeSegment n) ≡ replicate (record
 unfolding recordToWords freeSegment
 free-row n =
     let w : recordWords n ≡ suc (suc (suc (n + n))) = omega arith in
-    rw (free-masks isHeld refl n, free-masks isRemoved refl n, free-numbers cellOf refl n, free-numbers countOf refl n, w, replicate-append-replicate {A = ℕ} n n 0)
+    rw (free-masks isHeld refl n, free-masks isRemoved refl n, free-masks isBlankPosition refl n, free-numbers cellOf refl n, free-numbers countOf refl n, w, replicate-append-replicate {A = ℕ} n n 0)
 
 -- ---- a pointer
 
@@ -91,9 +99,14 @@ pub indirect-word : (n : ℕ) → pointerWord (indirect n) ≡ 33554432 + n
 unfolding pointerWord
 indirect-word n = refl
 
+pub blank-word : pointerWord blankPointer ≡ 50331648
+unfolding pointerWord
+blank-word = refl
+
 pub pointer-back : (p : Pointer) → PointerFits p → wordToPointer (pointerWord p) ≡ p
 unfolding wordToPointer pointerWord pointerOf
 pointer-back nullPointer h = refl
+pointer-back blankPointer h = refl
 pointer-back (direct k i) h =
     let q : (kindUnit + (k * 16 + i)) / kindUnit ≡ 1 = omega arith in
     let r : (kindUnit + (k * 16 + i)) % kindUnit ≡ k * 16 + i = omega arith in

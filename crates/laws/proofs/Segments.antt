@@ -1,7 +1,7 @@
 -- Placing one segment, and all segments of an image: step 1 of a backup.
 use mathlib.Core.Path.{_≡_, refl, sym, ap, ap₂, _∙_, subst}
 use mathlib.Core.Logic.{_⊎_, inl, inr}
-use mathlib.Core.Bool.{Bool, true, false}
+use mathlib.Core.Bool.{Bool, true, false, cond}
 use mathlib.Core.List.{List, [], _∷_, _++_, map, append-nil, append-assoc}
 use mathlib.Core.Option.{Option, none, some}
 use Prim.Native.Nat.{ℕ, zero, suc, _+_, _-_, _<_}
@@ -17,18 +17,21 @@ use Rattle.lists.specs.Each.{Each}
 use Rattle.lists.proofs.Counts.{count-append}
 use Rattle.lists.proofs.Each.{each-at}
 use Rattle.lists.proofs.Puts.{first-found}
-use Rattle.lists.proofs.Tests.{by-test, every-head, every-tail}
+use Rattle.lists.proofs.Sets.{map-at}
+use Rattle.lists.proofs.Tests.{by-test, every-at}
 use Rattle.model.specs.Measures.{Measures}
-use Rattle.model.specs.State.{Block, Pointer, nullPointer, direct, indirect, Shelf, Outcome, refused, done}
+use Rattle.model.specs.State.{Block, Pointer, nullPointer, blankPointer, direct, indirect, Shelf, Outcome, refused, done}
+use Rattle.model.specs.Image.{Era, isBare}
 use Rattle.model.specs.Records.{isFree, cellAt, positionAt, equals}
 use Rattle.model.specs.Runs.{Run, findRun}
-use Rattle.model.specs.Place.{Placed, nonNull, share, write, writeRun, writeRecord, shareOrWrite, placeSegment, afterSome, placeNext, placeAll}
+use Rattle.model.specs.Place.{Placed, barePointer, stored, share, write, writeRun, writeRecord, shareOrWrite, placeSegment, afterSome, placeNext, placeAll}
 use Rattle.model.specs.Trace.{blockAt}
 use Rattle.model.specs.Sound.{isNull, leadsTo}
 use Rattle.laws.proofs.Runs.{RunOk, FoundOk, Free, find-ok}
 use Rattle.laws.proofs.Sweep.{Exact, countIn, blockIn}
 use Rattle.laws.proofs.Clean.{Whole, ShelfFits}
-use Rattle.laws.proofs.Place.{zero-eq, isIndirect, PlacedOk, share-ok, fill-ok}
+use Rattle.laws.proofs.Bare.{bare-eq, isIndirect, isBarePointer, bare-leads, bare-plain, bare-bare, bare-null}
+use Rattle.laws.proofs.Place.{PlacedOk, share-ok, fill-ok}
 use Rattle.laws.proofs.Counts.{leads-itself, pointer-counted}
 
 -- ---- the cases of placing one segment
@@ -39,29 +42,29 @@ IfDone P (refused n) = Unit {0}
 IfDone P (done p) = P p
 
 -- what holds where no record is needed, where one serves and where a free one is filled holds of what is placed
-module _ (P : Placed → Type 0) (a : Shelf) (seg : List Block)
-    (null : every allZero seg ≡ true → P (record { shelf = a; pointers = map (λ b. nullPointer) seg }))
-    (shared : every allZero seg ≡ false → (k : ℕ) → firstFrom (equals a seg) 0 (a .records) ≡ some k → P (share a seg k))
-    (filled : every allZero seg ≡ false → (k : ℕ) → firstFrom isFree 0 (a .records) ≡ some k → (run : Run) → findRun a (length (nonNull seg)) ≡ some run → P (write a seg k run)) where
-  module _ (ne : every allZero seg ≡ false) where
-    by-run : (k : ℕ) → firstFrom isFree 0 (a .records) ≡ some k → (o : Option Run) → findRun a (length (nonNull seg)) ≡ o → IfDone P (writeRun a seg k o)
+module _ (era : Era) (P : Placed → Type 0) (a : Shelf) (seg : List Block)
+    (bare : every (isBare era) seg ≡ true → P (record { shelf = a; pointers = map barePointer seg }))
+    (shared : every (isBare era) seg ≡ false → (k : ℕ) → firstFrom (equals era a seg) 0 (a .records) ≡ some k → P (share era a seg k))
+    (filled : every (isBare era) seg ≡ false → (k : ℕ) → firstFrom isFree 0 (a .records) ≡ some k → (run : Run) → findRun a (length (stored era seg)) ≡ some run → P (write era a seg k run)) where
+  module _ (ne : every (isBare era) seg ≡ false) where
+    by-run : (k : ℕ) → firstFrom isFree 0 (a .records) ≡ some k → (o : Option Run) → findRun a (length (stored era seg)) ≡ o → IfDone P (writeRun era a seg k o)
     unfolding writeRun
     by-run k e none q = tt
     by-run k e (some run) q = filled ne k e run q
 
-    by-record : (o : Option ℕ) → firstFrom isFree 0 (a .records) ≡ o → IfDone P (writeRecord a seg o)
+    by-record : (o : Option ℕ) → firstFrom isFree 0 (a .records) ≡ o → IfDone P (writeRecord era a seg o)
     unfolding writeRecord
     by-record none e = tt
-    by-record (some k) e = by-run k e (findRun a (length (nonNull seg))) refl
+    by-record (some k) e = by-run k e (findRun a (length (stored era seg))) refl
 
-    by-match : (o : Option ℕ) → firstFrom (equals a seg) 0 (a .records) ≡ o → IfDone P (shareOrWrite a seg o)
+    by-match : (o : Option ℕ) → firstFrom (equals era a seg) 0 (a .records) ≡ o → IfDone P (shareOrWrite era a seg o)
     unfolding shareOrWrite
     by-match none e = by-record (firstFrom isFree 0 (a .records)) refl
     by-match (some k) e = shared ne k e
 
-  pub segment-cases : IfDone P (placeSegment a seg)
+  pub segment-cases : IfDone P (placeSegment era a seg)
   unfolding placeSegment
-  segment-cases = by-test (IfDone P) (every allZero seg) null (λ ne. by-match ne (firstFrom (equals a seg) 0 (a .records)) refl)
+  segment-cases = by-test (IfDone P) (every (isBare era) seg) bare (λ ne. by-match ne (firstFrom (equals era a seg) 0 (a .records)) refl)
 
 -- a run that is found is free and long enough
 pub run-found : (a : Shelf) (need : ℕ) (run : Run) → findRun a need ≡ some run → RunOk (Free a) need run
@@ -69,54 +72,54 @@ run-found a need run e = subst (FoundOk (Free a) need) e (find-ok a need)
 
 -- ---- one segment
 
-null-count : (k i : ℕ) (bs : List Block) → count (leadsTo k i) (map (λ b. nullPointer) bs) ≡ 0
+bare-count : (k i : ℕ) (bs : List Block) → count (leadsTo k i) (map barePointer bs) ≡ 0
 unfolding count
-null-count k i [] = refl
-null-count k i (x ∷ bs) = ap (λ (n : ℕ). 0 + n) (null-count k i bs)
+bare-count k i [] = refl
+bare-count k i (b ∷ bs) = ap₂ (λ (t : Bool) (n : ℕ). cond t 1 0 + n) (bare-leads b k i) (bare-count k i bs)
 
-abbrev pub PlaceOk : (m : Measures) (a : Shelf) (seg : List Block) → Outcome Placed → Type 0
-PlaceOk m a seg = IfDone (λ p. PlacedOk m a (p .shelf) seg (p .pointers))
+abbrev pub PlaceOk : (era : Era) (m : Measures) (a : Shelf) (seg : List Block) → Outcome Placed → Type 0
+PlaceOk era m a seg = IfDone (λ p. PlacedOk era m a (p .shelf) seg (p .pointers))
 
-module _ (m : Measures) (a : Shelf) (f : ShelfFits m a) (x : Exact a) (seg : List Block) (w : Each (Whole m) seg) (sz : length seg ≡ m .segmentBlocks) where
-  null-ok : every allZero seg ≡ true → PlacedOk m a a seg (map (λ b. nullPointer) seg)
-  unfolding blockAt
-  null-ok z = record {
+module _ (era : Era) (m : Measures) (a : Shelf) (f : ShelfFits m a) (x : Exact a) (seg : List Block) (w : Each (Whole m) seg) (sz : length seg ≡ m .segmentBlocks) where
+  bare-ok : every (isBare era) seg ≡ true → PlacedOk era m a a seg (map barePointer seg)
+  bare-ok z = record {
     fits = f;
     exact = x;
-    counts = λ k i. sym (ap (λ (n : ℕ). countIn a k i + n) (null-count k i seg) ∙ add-zero (countIn a k i));
+    counts = λ k i. sym (ap (λ (n : ℕ). countIn a k i + n) (bare-count k i seg) ∙ add-zero (countIn a k i));
     blocks = λ k i p. refl;
-    traced = λ j h.
-        ap (blockAt (m .blockBytes) a) (null-at seg j)
-        ∙ zero-eq m (getD seg j []) (zero-at seg z j) (each-at (Whole m) [] seg w j h);
-    nulls = λ j h. ap isNull (null-at seg j) ∙ sym (zero-at seg z j);
-    plain = λ j. ap isIndirect (null-at seg j);
-    size = length-map seg (λ b. nullPointer);
+    traced = λ j h. ap (blockAt (m .blockBytes) a) (bare-at j h) ∙ bare-eq era m a (getD seg j []) (here j h) (each-at (Whole m) [] seg w j h);
+    nulls = λ j h. ap isNull (bare-at j h) ∙ bare-null (getD seg j []);
+    bares = λ j h. ap isBarePointer (bare-at j h) ∙ bare-bare (getD seg j []) ∙ sym (here j h);
+    plain = plain seg;
+    size = length-map seg barePointer;
     recordCount = refl;
     cellCount = refl;
   }
     where
-      null-at : (bs : List Block) (j : ℕ) → getD (map (λ b. nullPointer) bs) j nullPointer ≡ nullPointer
-      null-at [] j = refl
-      null-at (b ∷ bs) zero = refl
-      null-at (b ∷ bs) (suc j) = null-at bs j
+      bare-at : (j : ℕ) → j < length seg → getD (map barePointer seg) j nullPointer ≡ barePointer (getD seg j [])
+      bare-at j h = map-at barePointer seg j [] nullPointer h
 
-      zero-at : (bs : List Block) → every allZero bs ≡ true → (j : ℕ) → allZero (getD bs j []) ≡ true
-      zero-at [] z j = unfold allZero every in refl
-      zero-at (b ∷ bs) z zero = every-head allZero b bs z
-      zero-at (b ∷ bs) z (suc j) = zero-at bs (every-tail allZero b bs z) j
+      here : (j : ℕ) → j < length seg → isBare era (getD seg j []) ≡ true
+      here j h = every-at (isBare era) [] seg z j h
 
-  pub segment-ok : PlaceOk m a seg (placeSegment a seg)
+      plain : (bs : List Block) (j : ℕ) → isIndirect (getD (map barePointer bs) j nullPointer) ≡ false
+      plain [] j = refl
+      plain (b ∷ bs) zero = bare-plain b
+      plain (b ∷ bs) (suc j) = plain bs j
+
+  pub segment-ok : PlaceOk era m a seg (placeSegment era a seg)
   segment-ok =
-      segment-cases (λ p. PlacedOk m a (p .shelf) seg (p .pointers)) a seg null-ok
-      (λ ne k e. let (hk, q) = first-found [] (equals a seg) (a .records) k e in share-ok m a f x seg w k hk q)
+      segment-cases era (λ p. PlacedOk era m a (p .shelf) seg (p .pointers)) a seg bare-ok
+      (λ ne k e. let (hk, q) = first-found [] (equals era a seg) (a .records) k e in share-ok era m a f x seg w k hk q)
       (λ ne k e run r.
-      let (hk, fr) = first-found [] isFree (a .records) k e in fill-ok m a f x seg w sz k hk fr ne run (run-found a (length (nonNull seg)) run r))
+      let (hk, fr) = first-found [] isFree (a .records) k e in fill-ok era m a f x seg w sz k hk fr ne run (run-found a (length (stored era seg)) run r))
 
 -- ---- all segments
 
 pub block-kept : (m : Measures) (a b : Shelf) (p : Pointer) → ((k i : ℕ) → leadsTo k i p ≡ true → blockIn b k i ≡ blockIn a k i) → blockAt (m .blockBytes) b p ≡ blockAt (m .blockBytes) a p
 unfolding blockAt cellAt positionAt
 block-kept m a b nullPointer h = refl
+block-kept m a b blankPointer h = refl
 block-kept m a b (direct k i) h = h k i (leads-itself k i)
 block-kept m a b (indirect n) h = refl
 
@@ -126,7 +129,7 @@ both-plain [] qs f g j = g j
 both-plain (p ∷ ps) qs f g zero = f 0
 both-plain (p ∷ ps) qs f g (suc j) = both-plain ps qs (λ i. f (suc i)) g j
 
-module _ (m : Measures) (a b c : Shelf) (bs cs : List Block) (ps qs : List Pointer) (f : PlacedOk m a b bs ps) (g : PlacedOk m b c cs qs) where
+module _ (era : Era) (m : Measures) (a b c : Shelf) (bs cs : List Block) (ps qs : List Pointer) (f : PlacedOk era m a b bs ps) (g : PlacedOk era m b c cs qs) where
   split : (j : ℕ) → j < length (bs ++ cs) → (j < length bs) ⊎ ((i : ℕ) × (j ≡ length bs + i) × (i < length cs))
   split j h = go (ltb j (length bs)) refl
     where
@@ -160,7 +163,14 @@ module _ (m : Measures) (a b c : Shelf) (bs cs : List Block) (ps qs : List Point
       go (inl l) = ap isNull (first j l .0) ∙ f .nulls j l ∙ ap allZero (sym (first j l .1))
       go (inr t) = rw (t .1) (ap isNull (second (t .0) .0) ∙ g .nulls (t .0) (t .2) ∙ ap allZero (sym (second (t .0) .1)))
 
-  pub placed-both : PlacedOk m a c (bs ++ cs) (ps ++ qs)
+  both-bares : (j : ℕ) → j < length (bs ++ cs) → isBarePointer (getD (ps ++ qs) j nullPointer) ≡ isBare era (getD (bs ++ cs) j [])
+  both-bares j h = go (split j h)
+    where
+      go : (j < length bs) ⊎ ((i : ℕ) × (j ≡ length bs + i) × (i < length cs)) → isBarePointer (getD (ps ++ qs) j nullPointer) ≡ isBare era (getD (bs ++ cs) j [])
+      go (inl l) = ap isBarePointer (first j l .0) ∙ f .bares j l ∙ ap (isBare era) (sym (first j l .1))
+      go (inr t) = rw (t .1) (ap isBarePointer (second (t .0) .0) ∙ g .bares (t .0) (t .2) ∙ ap (isBare era) (sym (second (t .0) .1)))
+
+  pub placed-both : PlacedOk era m a c (bs ++ cs) (ps ++ qs)
   placed-both = record {
     fits = g .fits;
     exact = g .exact;
@@ -168,6 +178,7 @@ module _ (m : Measures) (a b c : Shelf) (bs cs : List Block) (ps qs : List Point
     blocks = λ k i p. g .blocks k i (omega (arith, f .counts k i, p)) ∙ f .blocks k i p;
     traced = both-traced;
     nulls = both-nulls;
+    bares = both-bares;
     plain = both-plain ps qs (f .plain) (g .plain);
     size = length-append ps qs ∙ ap₂ _+_ (f .size) (g .size) ∙ sym (length-append bs cs);
     recordCount = g .recordCount ∙ f .recordCount;
@@ -179,30 +190,30 @@ pub record SegmentOk (m : Measures) (seg : List Block) : Type 0 where
   pub whole : Each (Whole m) seg
   pub size : length seg ≡ m .segmentBlocks
 
-next-ok : (m : Measures) (a : Shelf) (bs seg : List Block) → SegmentOk m seg → (o : Outcome Placed) → PlaceOk m a bs o → PlaceOk m a (bs ++ seg) (placeNext o seg)
+next-ok : (era : Era) (m : Measures) (a : Shelf) (bs seg : List Block) → SegmentOk m seg → (o : Outcome Placed) → PlaceOk era m a bs o → PlaceOk era m a (bs ++ seg) (placeNext era o seg)
 unfolding placeNext
-next-ok m a bs seg w (refused n) h = tt
-next-ok m a bs seg w (done p) h =
-    go (placeSegment (p .shelf) seg) (segment-ok m (p .shelf) (h .fits) (h .exact) seg (w .whole) (w .size))
+next-ok era m a bs seg w (refused n) h = tt
+next-ok era m a bs seg w (done p) h =
+    go (placeSegment era (p .shelf) seg) (segment-ok era m (p .shelf) (h .fits) (h .exact) seg (w .whole) (w .size))
   where
-    go : (o : Outcome Placed) → PlaceOk m (p .shelf) seg o → PlaceOk m a (bs ++ seg) (afterSome (p .pointers) o)
+    go : (o : Outcome Placed) → PlaceOk era m (p .shelf) seg o → PlaceOk era m a (bs ++ seg) (afterSome (p .pointers) o)
     go (refused n) g = unfold afterSome in tt
-    go (done q) g = unfold afterSome in placed-both m a (p .shelf) (q .shelf) bs seg (p .pointers) (q .pointers) h g
+    go (done q) g = unfold afterSome in placed-both era m a (p .shelf) (q .shelf) bs seg (p .pointers) (q .pointers) h g
 
-all-ok : (m : Measures) (a : Shelf) (segs : List (List Block)) (bs : List Block) → Each (SegmentOk m) segs → (o : Outcome Placed) → PlaceOk m a bs o
-    → PlaceOk m a (bs ++ joined segs) (placeAll o segs)
+all-ok : (era : Era) (m : Measures) (a : Shelf) (segs : List (List Block)) (bs : List Block) → Each (SegmentOk m) segs → (o : Outcome Placed) → PlaceOk era m a bs o
+    → PlaceOk era m a (bs ++ joined segs) (placeAll era o segs)
 unfolding placeAll joined
-all-ok m a [] bs w o h = subst (λ (l : List Block). PlaceOk m a l o) (sym (append-nil bs)) h
-all-ok m a (seg ∷ segs) bs w o h =
-    subst (λ (l : List Block). PlaceOk m a l (placeAll (placeNext o seg) segs)) (append-assoc bs seg (joined segs))
-    (all-ok m a segs (bs ++ seg) (w .1) (placeNext o seg) (next-ok m a bs seg (w .0) o h))
+all-ok era m a [] bs w o h = subst (λ (l : List Block). PlaceOk era m a l o) (sym (append-nil bs)) h
+all-ok era m a (seg ∷ segs) bs w o h =
+    subst (λ (l : List Block). PlaceOk era m a l (placeAll era (placeNext era o seg) segs)) (append-assoc bs seg (joined segs))
+    (all-ok era m a segs (bs ++ seg) (w .1) (placeNext era o seg) (next-ok era m a bs seg (w .0) o h))
 
 -- Step 1 of a backup.
-pub place-ok : (m : Measures) (a : Shelf) (segs : List (List Block)) → ShelfFits m a → Exact a → Each (SegmentOk m) segs
-    → PlaceOk m a (joined segs) (placeAll (done (record { shelf = a; pointers = [] })) segs)
-place-ok m a segs f x w = all-ok m a segs [] w (done (record { shelf = a; pointers = [] })) start
+pub place-ok : (era : Era) (m : Measures) (a : Shelf) (segs : List (List Block)) → ShelfFits m a → Exact a → Each (SegmentOk m) segs
+    → PlaceOk era m a (joined segs) (placeAll era (done (record { shelf = a; pointers = [] })) segs)
+place-ok era m a segs f x w = all-ok era m a segs [] w (done (record { shelf = a; pointers = [] })) start
   where
-    start : PlacedOk m a a [] []
+    start : PlacedOk era m a a [] []
     start = record {
       fits = f;
       exact = x;
@@ -210,6 +221,7 @@ place-ok m a segs f x w = all-ok m a segs [] w (done (record { shelf = a; pointe
       blocks = λ k i p. refl;
       traced = λ j h. absurd (not-suc-le-zero h);
       nulls = λ j h. absurd (not-suc-le-zero h);
+      bares = λ j h. absurd (not-suc-le-zero h);
       plain = λ j. refl;
       size = refl;
       recordCount = refl;

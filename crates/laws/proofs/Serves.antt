@@ -14,7 +14,7 @@ use Rattle.lists.proofs.Counts.{count-append}
 use Rattle.lists.proofs.Each.{each-every, every-each₂}
 use Rattle.lists.proofs.Tests.{all-true, clause, every-head, every-tail}
 use Rattle.model.specs.Measures.{Measures, Shape, inRange}
-use Rattle.model.specs.State.{Block, Pointer, nullPointer, direct, indirect, Shelf, Version, Till, State}
+use Rattle.model.specs.State.{Block, Pointer, nullPointer, blankPointer, direct, indirect, Shelf, Version, Till, State}
 use Rattle.model.specs.Records.{isHeld, cellAt, positionAt}
 use Rattle.model.specs.Trace.{endVia, endOf, blockAt, tracedBlock}
 use Rattle.model.specs.Sound.{isSound, isShaped, isNumbered, leads, nextPointers, endsZero, areTraceable, isTill, isUsed, leadsTo, allPointers}
@@ -39,6 +39,7 @@ end-counted k i (v ∷ newer) n h = go (getD (v .pointers) n nullPointer) refl h
         → ((b : ℕ) → leadsTo k i (endOf newer b) ≡ true → 0 < count (leadsTo k i) (pointersOf newer))
         → 0 < count (leadsTo k i) (v .pointers ++ pointersOf newer)
     go nullPointer e h r = absurd (false≢true h)
+    go blankPointer e h r = absurd (false≢true h)
     go (direct k′ i′) e h r =
         omega (arith, count-append (leadsTo k i) (v .pointers) (pointersOf newer), pointer-counted k i (v .pointers) n (ap (leadsTo k i) e ∙ h))
     go (indirect b) e h r = omega (arith, count-append (leadsTo k i) (v .pointers) (pointersOf newer), r b h)
@@ -69,12 +70,14 @@ module _ (s : Shape) (a b : Shelf) (ps : List Pointer) (sv : Serves (s .measures
     where
       one : (q : Pointer) → leads a next q ≡ true → ((k i : ℕ) → leadsTo k i q ≡ true → isHeld (at (b .records) k i) ≡ true) → leads b next q ≡ true
       one nullPointer h r = refl
+      one blankPointer h r = refl
       one (direct k i) h r = unfold positionAt in r k i (leads-itself k i)
       one (indirect n) h r = h
 
   block-again : (p : Pointer) → ((k i : ℕ) → leadsTo k i p ≡ true → 0 < count (leadsTo k i) ps) → blockAt (s .measures .blockBytes) b p ≡ blockAt (s .measures .blockBytes) a p
   unfolding blockAt cellAt positionAt
   block-again nullPointer h = refl
+  block-again blankPointer h = refl
   block-again (direct k i) h = sv .blocks k i (h k i (leads-itself k i))
   block-again (indirect n) h = refl
 
@@ -119,6 +122,7 @@ led-list a next (q ∷ qs) h k i c = go (leadsTo k i q) refl (λ n. led-list a n
   where
     one : (q : Pointer) → leads a next q ≡ true → leadsTo k i q ≡ true → isHeld (at (a .records) k i) ≡ true
     one nullPointer l e = absurd (false≢true e)
+    one blankPointer l e = absurd (false≢true e)
     one (direct k′ i′) l e =
         ap₂ (λ (x y : ℕ). isHeld (at (a .records) x y)) (eqb-true k k′ (clause _ 0 e)) (eqb-true i i′ (clause _ 1 e)) ∙ l
     one (indirect n) l e = absurd (false≢true e)

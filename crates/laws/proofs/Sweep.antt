@@ -14,7 +14,7 @@ use borrow.Author.Tests.{eqb-true, eqb-false, ltb-true, ltb-false, leb-true, leb
 use Rattle.lists.specs.Lists.{every, keep, count, allZero}
 use Rattle.lists.specs.Rows.{joined}
 use Rattle.model.specs.Measures.{Measures}
-use Rattle.model.specs.State.{Block, Position, nullPosition, held, removed, Segment, Shelf}
+use Rattle.model.specs.State.{Block, Position, nullPosition, blankPosition, held, removed, Segment, Shelf}
 use Rattle.model.specs.Records.{freeSegment, cellsOf, namedCells, isHeld, cellOf, countOf, cellAt}
 use Rattle.model.specs.Runs.{Run, findRun}
 use Rattle.model.specs.Sweep.{clearCells, goes, stays, struck, moved, freeRecord, strikeOnly, compact, removeFrom, sweepRecord, sweepFrom, sweep}
@@ -68,7 +68,9 @@ stays-named : (seg : Segment) (i : ℕ) → 0 < countOf (getD seg i nullPosition
 unfolding staying keep cellsOf uses
 stays-named [] i h = absurd (not-suc-le-zero h)
 stays-named (nullPosition ∷ seg) zero h = absurd (not-suc-le-zero h)
+stays-named (blankPosition ∷ seg) zero h = absurd (not-suc-le-zero h)
 stays-named (nullPosition ∷ seg) (suc i) h = stays-named seg i h
+stays-named (blankPosition ∷ seg) (suc i) h = stays-named seg i h
 stays-named (held b zero ∷ seg) zero h = absurd (not-suc-le-zero h)
 stays-named (held b zero ∷ seg) (suc i) h = stays-named seg i h
 stays-named (held b (suc n) ∷ seg) zero h = omega (arith, uses-here b (staying seg))
@@ -122,12 +124,14 @@ module _ (a : Shelf) (x : Exact a) (k : ℕ) (hk : k < length (a .records)) (seg
 
 struck-count : (p : Position) → countOf (struck p) ≡ countOf p
 struck-count nullPosition = refl
+struck-count blankPosition = refl
 struck-count (held c zero) = refl
 struck-count (held c (suc n)) = refl
 struck-count removed = refl
 
 struck-cell : (p : Position) → 0 < countOf p → cellOf (struck p) ≡ cellOf p
 struck-cell nullPosition h = refl
+struck-cell blankPosition h = refl
 struck-cell (held c zero) h = absurd (not-suc-le-zero h)
 struck-cell (held c (suc n)) h = refl
 struck-cell removed h = refl
@@ -136,7 +140,9 @@ moved-count : (seg : Segment) (at i : ℕ) → countOf (getD (moved at seg) i nu
 unfolding moved
 moved-count [] at i = refl
 moved-count (nullPosition ∷ seg) at zero = refl
+moved-count (blankPosition ∷ seg) at zero = refl
 moved-count (nullPosition ∷ seg) at (suc i) = moved-count seg at i
+moved-count (blankPosition ∷ seg) at (suc i) = moved-count seg at i
 moved-count (held b zero ∷ seg) at zero = refl
 moved-count (held b zero ∷ seg) at (suc i) = moved-count seg at i
 moved-count (held b (suc n) ∷ seg) at zero = refl
@@ -151,7 +157,9 @@ moved-block : (f : ℕ → Block) (cells : List Block) (seg : Segment) (at : ℕ
 unfolding moved staying keep cellsOf
 moved-block f cells [] at g i h = absurd (not-suc-le-zero h)
 moved-block f cells (nullPosition ∷ seg) at g zero h = absurd (not-suc-le-zero h)
+moved-block f cells (blankPosition ∷ seg) at g zero h = absurd (not-suc-le-zero h)
 moved-block f cells (nullPosition ∷ seg) at g (suc i) h = moved-block f cells seg at g i h
+moved-block f cells (blankPosition ∷ seg) at g (suc i) h = moved-block f cells seg at g i h
 moved-block f cells (held b zero ∷ seg) at g zero h = absurd (not-suc-le-zero h)
 moved-block f cells (held b zero ∷ seg) at g (suc i) h = moved-block f cells seg at g i h
 moved-block f cells (held b (suc n) ∷ seg) at g zero h = ap (λ (x : ℕ). getD cells x []) (sym (add-zero at)) ∙ g 0 (zero-lt-suc (length (staying seg)))
@@ -165,7 +173,9 @@ none-stays : (seg : Segment) → length (staying seg) ≡ 0 → (i : ℕ) → co
 unfolding staying keep cellsOf
 none-stays [] e i = refl
 none-stays (nullPosition ∷ seg) e zero = refl
+none-stays (blankPosition ∷ seg) e zero = refl
 none-stays (nullPosition ∷ seg) e (suc i) = none-stays seg e i
+none-stays (blankPosition ∷ seg) e (suc i) = none-stays seg e i
 none-stays (held b zero ∷ seg) e zero = refl
 none-stays (held b zero ∷ seg) e (suc i) = none-stays seg e i
 none-stays (held b (suc n) ∷ seg) e i = absurd (suc-ne-zero (length (staying seg)) e)

@@ -12,7 +12,7 @@ use Rattle.lists.specs.Rows.{joined}
 use Rattle.lists.specs.Each.{Each}
 use Rattle.lists.proofs.Tests.{all-true, clause}
 use Rattle.model.specs.Measures.{Shape, partsFor}
-use Rattle.model.specs.State.{Pointer, nullPointer, direct, indirect, Shelf, Version}
+use Rattle.model.specs.State.{Pointer, nullPointer, blankPointer, direct, indirect, Shelf, Version}
 use Rattle.model.specs.Trace.{endVia, endOf, blockAt, tracedBlock}
 use Rattle.model.specs.Sound.{isNull, leads, leadsTo, nextPointers, hasLength, areTraceable}
 use Rattle.model.specs.Calls.{heldFrom, heldBefore, newestPointers, withNewestPointers, takeOver, taken, closeUp}
@@ -56,6 +56,7 @@ between n (w ∷ ws) v newer e = go (eqb (w .number) n) refl e (λ q. between n 
 end-same : (p : Pointer) (f g : ℕ → Pointer) → ((j : ℕ) → f j ≡ g j) → endVia p f ≡ endVia p g
 unfolding endVia
 end-same nullPointer f g h = refl
+end-same blankPointer f g h = refl
 end-same (direct k i) f g h = refl
 end-same (indirect n) f g h = h n
 
@@ -66,16 +67,19 @@ module _ (gone : List Pointer) where
   take-end : (p : Pointer) (f : ℕ → Pointer) → endVia (takeOver gone p) f ≡ endVia p (λ k. endVia (getD gone k nullPointer) f)
   unfolding endVia
   take-end nullPointer f = refl
+  take-end blankPointer f = refl
   take-end (direct k i) f = refl
   take-end (indirect n) f = refl
 
   take-leads : (a : Shelf) (next : List Pointer) → every (leads a next) gone ≡ true → (p : Pointer) → leads a gone p ≡ true → leads a next (takeOver gone p) ≡ true
   take-leads a next h nullPointer l = refl
+  take-leads a next h blankPointer l = refl
   take-leads a next h (direct k i) l = l
   take-leads a next h (indirect n) l = lead-at a next gone h n
 
   take-null : (a : Shelf) (p : Pointer) → leads a gone p ≡ true → isNull (takeOver gone p) ≡ isNull p
   take-null a nullPointer l = refl
+  take-null a blankPointer l = refl
   take-null a (direct k i) l = refl
   take-null a (indirect n) l = go (isNull (getD gone n nullPointer)) l
     where
@@ -88,6 +92,7 @@ module _ (gone : List Pointer) where
   unfolding count
   take-count k i [] = refl
   take-count k i (nullPointer ∷ ps) = omega (arith, take-count k i ps)
+  take-count k i (blankPointer ∷ ps) = omega (arith, take-count k i ps)
   take-count k i (direct k′ i′ ∷ ps) = omega (arith, take-count k i ps)
   take-count k i (indirect n ∷ ps) = omega (arith, take-count k i ps)
 
@@ -96,6 +101,7 @@ module _ (gone : List Pointer) where
   unfolding count
   taken-gone k i [] h = absurd (omega (arith, h))
   taken-gone k i (nullPointer ∷ ps) h = taken-gone k i ps (omega (arith, h))
+  taken-gone k i (blankPointer ∷ ps) h = taken-gone k i ps (omega (arith, h))
   taken-gone k i (direct k′ i′ ∷ ps) h = taken-gone k i ps (omega (arith, h))
   taken-gone k i (indirect n ∷ ps) h = go (leadsTo k i (getD gone n nullPointer)) refl (λ l. taken-gone k i ps l)
     where

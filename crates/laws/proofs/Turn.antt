@@ -6,81 +6,102 @@ use mathlib.Core.Option.{Option, none, some}
 use Prim.Native.Nat.{ℕ, zero, suc, _+_, _-_, _*_, _<_}
 use native.Mathlib.Nat.{zero-add}
 use native.Mathlib.Omega.{arith}
-use lib.ListN.{length, getD, drop, length-map, List·getD-map}
-use lib.Dec.{eqb}
+use lib.ListN.{length, getD, drop, length-map, List·getD-map, List·getD-eq-default}
+use lib.Dec.{eqb, ltb}
+use borrow.Author.Tests.{ltb-true, ltb-false}
 use Rattle.lists.specs.Lists.{every, keep, count, firstFrom, sameNumbers, allZero}
+use Rattle.lists.specs.Each.{Each}
 use Rattle.model.specs.Measures.{Measures, Shape, partsFor}
-use Rattle.model.specs.State.{Block, Pointer, nullPointer, direct, indirect, Shelf, Version}
+use Rattle.model.specs.State.{Block, Pointer, nullPointer, blankPointer, direct, indirect, Shelf, Version}
+use Rattle.model.specs.Image.{Era, isBlank, isBare}
 use Rattle.model.specs.Records.{isHeld, cellOf, cellAt, positionAt}
-use Rattle.model.specs.Turn.{target, isFound, indirectTo, turn, turning}
+use Rattle.model.specs.Turn.{indirectAt, turnsTo, target, isFound, foundOr, turn, turning}
 use Rattle.model.specs.Trace.{endVia, endOf, blockAt, tracedBlock}
 use Rattle.model.specs.Sound.{isNull, leads, leadsTo, nextPointers, endsZero, hasLength, areTraceable}
 use Rattle.model.specs.Calls.{newestPointers, withNewestPointers}
 use Rattle.laws.proofs.Sweep.{Exact, blockIn, named-one}
+use Rattle.laws.proofs.Clean.{Whole}
 use Rattle.laws.proofs.Counts.{at}
-use Rattle.laws.proofs.Place.{isIndirect, held-named, bit-one}
+use Rattle.laws.proofs.Bare.{blank-eq, isIndirect, isBarePointer}
+use Rattle.laws.proofs.Place.{held-named, bit-one}
+use Rattle.lists.proofs.Each.{each-at}
 use Rattle.lists.proofs.First.{Lowest, first-lowest}
 use Rattle.lists.proofs.Same.{same-eq}
-use Rattle.lists.proofs.Tests.{all-true, clause, every-head, every-tail}
+use Rattle.lists.proofs.Tests.{by-test, all-true, clause, every-head, every-tail}
 
 -- the new version's pointers, on the shelf with its segments placed
-pub record NewOk (m : Measures) (p : Shelf) (bs : List Block) (new : List Pointer) : Type 0 where
+pub record NewOk (era : Era) (m : Measures) (p : Shelf) (bs : List Block) (new : List Pointer) : Type 0 where
   pub traced : (j : ℕ) → j < length bs → blockAt (m .blockBytes) p (getD new j nullPointer) ≡ getD bs j []
   pub nulls : (j : ℕ) → j < length bs → isNull (getD new j nullPointer) ≡ allZero (getD bs j [])
+  pub bares : (j : ℕ) → j < length bs → isBarePointer (getD new j nullPointer) ≡ isBare era (getD bs j [])
   pub plain : (j : ℕ) → isIndirect (getD new j nullPointer) ≡ false
+  pub cells : Each (Whole m) (p .cells)
 
-module _ (m : Measures) (p : Shelf) (x : Exact p) (bs : List Block) where
-  TargetOk : Pointer → Option ℕ → Type 0
-  TargetOk q none = Unit {0}
-  TargetOk q (some j) = (j < length bs) × (blockAt (m .blockBytes) p q ≡ getD bs j [])
+module _ (era : Era) (m : Measures) (p : Shelf) (x : Exact p) (bs : List Block) where
+  -- what a pointer at a block turns into: blank, as the block is, or indirect to an equal one
+  abbrev TurnOk : Block → Option Pointer → Type 0
+  TurnOk b none = Unit {0}
+  TurnOk b (some nullPointer) = ⊥
+  TurnOk b (some blankPointer) = isBlank era b ≡ true
+  TurnOk b (some (direct k i)) = ⊥
+  TurnOk b (some (indirect j)) = (j < length bs) × (b ≡ getD bs j [])
 
-  target-ok : (q : Pointer) → TargetOk q (target p bs q)
-  unfolding target TargetOk blockAt
-  target-ok nullPointer = tt
-  target-ok (direct k i) = go (firstFrom f 0 bs) (first-lowest f [] 0 bs)
+  turns-ok : (b : Block) → TurnOk b (turnsTo era bs b)
+  unfolding turnsTo
+  turns-ok b = by-test (TurnOk b) (isBlank era b) (λ e. e) (λ e. go (firstFrom (sameNumbers b) 0 bs) (first-lowest (sameNumbers b) [] 0 bs))
     where
-      f : Block → Bool
-      f b = sameNumbers (cellAt p (cellOf (positionAt p k i))) b
-
-      go : (o : Option ℕ) → Lowest f [] 0 bs o → TargetOk (direct k i) o
+      go : (o : Option ℕ) → Lowest (sameNumbers b) [] 0 bs o → TurnOk b (indirectAt o)
       go none h = tt
       go (some j) h =
           let e : j ≡ h .0 = h .1 ∙ zero-add (h .0) in
           (subst (λ (n : ℕ). n < length bs) (sym e) (h .2), same-eq _ _ (h .3) ∙ ap (λ (n : ℕ). getD bs n []) (sym e))
+
+  target-ok : (q : Pointer) → TurnOk (blockAt (m .blockBytes) p q) (target era p bs q)
+  unfolding target blockAt
+  target-ok nullPointer = tt
+  target-ok blankPointer = tt
+  target-ok (direct k i) = turns-ok (cellAt p (cellOf (positionAt p k i)))
   target-ok (indirect n) = tt
 
   unfoldable pub turned : Pointer → Pointer
-  turned q = indirectTo q (target p bs q)
+  turned q = foundOr q (target era p bs q)
 
-  pub turn-count : (k i : ℕ) (ps : List Pointer) → count (leadsTo k i) ps ≡ count (leadsTo k i) (turning p bs ps) + count (leadsTo k i) (turn p bs ps)
+  pub turn-count : (k i : ℕ) (ps : List Pointer) → count (leadsTo k i) ps ≡ count (leadsTo k i) (turning era p bs ps) + count (leadsTo k i) (turn era p bs ps)
   unfolding turn turning keep count
   turn-count k i [] = refl
-  turn-count k i (q ∷ ps) = go (target p bs q) (turn-count k i ps)
+  turn-count k i (q ∷ ps) = go (target era p bs q) (target-ok q) (turn-count k i ps)
     where
       rs : List Pointer
-      rs = keep (λ r. isFound (target p bs r)) ps
+      rs = keep (λ r. isFound (target era p bs r)) ps
 
       ts : List Pointer
-      ts = map (λ r. indirectTo r (target p bs r)) ps
+      ts = map (λ r. foundOr r (target era p bs r)) ps
 
-      go : (o : Option ℕ) → count (leadsTo k i) ps ≡ count (leadsTo k i) rs + count (leadsTo k i) ts
+      go : (o : Option Pointer) → TurnOk (blockAt (m .blockBytes) p q) o → count (leadsTo k i) ps ≡ count (leadsTo k i) rs + count (leadsTo k i) ts
           → cond (leadsTo k i q) 1 0 + count (leadsTo k i) ps
-          ≡ count (leadsTo k i) (cond (isFound o) (q ∷ rs) rs) + (cond (leadsTo k i (indirectTo q o)) 1 0 + count (leadsTo k i) ts)
-      go none e = omega (arith, e)
-      go (some n) e = omega (arith, e)
+          ≡ count (leadsTo k i) (cond (isFound o) (q ∷ rs) rs) + (cond (leadsTo k i (foundOr q o)) 1 0 + count (leadsTo k i) ts)
+      go none t e = omega (arith, e)
+      go (some nullPointer) t e = absurd t
+      go (some blankPointer) t e = omega (arith, e)
+      go (some (direct k′ i′)) t e = absurd t
+      go (some (indirect n)) t e = omega (arith, e)
 
-  pub turn-at : (ps : List Pointer) (n : ℕ) → getD (turn p bs ps) n nullPointer ≡ turned (getD ps n nullPointer)
+  pub turn-at : (ps : List Pointer) (n : ℕ) → getD (turn era p bs ps) n nullPointer ≡ turned (getD ps n nullPointer)
   unfolding turn turned target
-  turn-at ps n = List·getD-map (λ q. indirectTo q (target p bs q)) ps n nullPointer
+  turn-at ps n = List·getD-map (λ q. foundOr q (target era p bs q)) ps n nullPointer
 
   turned-null : (q : Pointer) → isNull (turned q) ≡ isNull q
   unfolding turned target
   turned-null nullPointer = refl
-  turned-null (direct k i) = go (target p bs (direct k i))
+  turned-null blankPointer = refl
+  turned-null (direct k i) = go (target era p bs (direct k i)) (target-ok (direct k i))
     where
-      go : (o : Option ℕ) → isNull (indirectTo (direct k i) o) ≡ false
-      go none = refl
-      go (some n) = refl
+      go : (o : Option Pointer) → TurnOk (blockAt (m .blockBytes) p (direct k i)) o → isNull (foundOr (direct k i) o) ≡ false
+      go none t = refl
+      go (some nullPointer) t = absurd t
+      go (some blankPointer) t = refl
+      go (some (direct k′ i′)) t = absurd t
+      go (some (indirect n)) t = refl
   turned-null (indirect n) = refl
 
   pub held-full : (k i : ℕ) → isHeld (at (p .records) k i) ≡ true → allZero (blockIn p k i) ≡ false
@@ -88,46 +109,67 @@ module _ (m : Measures) (p : Shelf) (x : Exact p) (bs : List Block) where
       let c : ℕ = cellOf (at (p .records) k i) in
       bit-one (getD (p .cells) c []) (omega (arith, x c, held-named (getD (p .records) k []) i h, named-one c (p .records) k))
 
+  held-whole : Each (Whole m) (p .cells) → (k i : ℕ) → isHeld (at (p .records) k i) ≡ true → Whole m (blockIn p k i)
+  held-whole w k i h = go (ltb c (length (p .cells))) refl
+    where
+      c : ℕ
+      c = cellOf (at (p .records) k i)
+
+      go : (t : Bool) → ltb c (length (p .cells)) ≡ t → Whole m (getD (p .cells) c [])
+      go true e = each-at (Whole m) [] (p .cells) w c (ltb-true c (length (p .cells)) e)
+      go false e =
+          absurd (false≢true (sym (held-full k i h)
+          ∙ ap allZero (List·getD-eq-default (p .cells) [] (ltb-false c (length (p .cells)) e)) ∙ (unfold allZero every in refl)))
+
   -- what leads from the newest version leads from it when it is the previous one
-  turned-leads : (new : List Pointer) → NewOk m p bs new → (q : Pointer) → leads p [] q ≡ true → leads p new (turned q) ≡ true
+  turned-leads : (new : List Pointer) → NewOk era m p bs new → (q : Pointer) → leads p [] q ≡ true → leads p new (turned q) ≡ true
   unfolding turned target positionAt
   turned-leads new ok nullPointer h = refl
-  turned-leads new ok (direct k i) h = go (target p bs (direct k i)) (target-ok (direct k i))
+  turned-leads new ok blankPointer h = refl
+  turned-leads new ok (direct k i) h = go (target era p bs (direct k i)) (target-ok (direct k i))
     where
-      go : (o : Option ℕ) → TargetOk (direct k i) o → leads p new (indirectTo (direct k i) o) ≡ true
+      go : (o : Option Pointer) → TurnOk (blockAt (m .blockBytes) p (direct k i)) o → leads p new (foundOr (direct k i) o) ≡ true
       go none t = h
-      go (some j) t =
-          unfold TargetOk blockAt cellAt in
-          (ap not (ok .nulls j (t .0) ∙ ap allZero (sym (t .1)) ∙ held-full k i h))
+      go (some nullPointer) t = absurd t
+      go (some blankPointer) t = refl
+      go (some (direct k′ i′)) t = absurd t
+      go (some (indirect j)) t = unfold blockAt cellAt in (ap not (ok .nulls j (t .0) ∙ ap allZero (sym (t .1)) ∙ held-full k i h))
   turned-leads new ok (indirect n) h = absurd (false≢true h)
 
   -- a turned pointer of the newest version ends at the same block
-  turned-block : (new : List Pointer) → NewOk m p bs new → (f : ℕ → Pointer) → ((j : ℕ) → f j ≡ getD new j nullPointer) → (q : Pointer) → leads p [] q ≡ true
+  turned-block : (new : List Pointer) → NewOk era m p bs new → (f : ℕ → Pointer) → ((j : ℕ) → f j ≡ getD new j nullPointer) → (q : Pointer) → leads p [] q ≡ true
       → blockAt (m .blockBytes) p (endVia (turned q) f) ≡ blockAt (m .blockBytes) p q
   unfolding turned target endVia
   turned-block new ok f g nullPointer h = refl
-  turned-block new ok f g (direct k i) h = go (target p bs (direct k i)) (target-ok (direct k i))
+  turned-block new ok f g blankPointer h = refl
+  turned-block new ok f g (direct k i) h = go (target era p bs (direct k i)) (target-ok (direct k i))
     where
-      go : (o : Option ℕ) → TargetOk (direct k i) o → blockAt (m .blockBytes) p (endVia (indirectTo (direct k i) o) f) ≡ blockAt (m .blockBytes) p (direct k i)
+      go : (o : Option Pointer) → TurnOk (blockAt (m .blockBytes) p (direct k i)) o
+          → blockAt (m .blockBytes) p (endVia (foundOr (direct k i) o) f) ≡ blockAt (m .blockBytes) p (direct k i)
       go none t = refl
-      go (some j) t = unfold TargetOk in (ap (blockAt (m .blockBytes) p) (g j) ∙ ok .traced j (t .0) ∙ sym (t .1))
+      go (some nullPointer) t = absurd t
+      go (some blankPointer) t = unfold blockAt cellAt positionAt in blank-eq era m (blockIn p k i) t (held-whole (ok .cells) k i h)
+      go (some (direct k′ i′)) t = absurd t
+      go (some (indirect j)) t = ap (blockAt (m .blockBytes) p) (g j) ∙ ok .traced j (t .0) ∙ sym (t .1)
   turned-block new ok f g (indirect n) h = absurd (false≢true h)
 
 -- ---- the till's versions with the new one
 
-pub turn-length : (p : Shelf) (bs : List Block) (ps : List Pointer) → length (turn p bs ps) ≡ length ps
+pub turn-length : (era : Era) (p : Shelf) (bs : List Block) (ps : List Pointer) → length (turn era p bs ps) ≡ length ps
 unfolding turn
-turn-length p bs ps = length-map ps (λ q. indirectTo q (target p bs q))
+turn-length era p bs ps = length-map ps (λ q. foundOr q (target era p bs q))
 
 -- a pointer of the newest version is not indirect
 pub last-plain : (shelf : Shelf) (q : Pointer) → leads shelf [] q ≡ true → isIndirect q ≡ false
 last-plain shelf nullPointer e = refl
+last-plain shelf blankPointer e = refl
 last-plain shelf (direct k i) e = refl
 last-plain shelf (indirect b) e = absurd (false≢true e)
 
 pub plain-end : (q : Pointer) (f : ℕ → Pointer) → isIndirect q ≡ false → endVia q f ≡ q
 unfolding endVia
 plain-end nullPointer f h = refl
+plain-end blankPointer f h = refl
 plain-end (direct k i) f h = refl
 plain-end (indirect n) f h = absurd (false≢true (sym h))
 
@@ -151,12 +193,14 @@ every-same p next next′ g (q ∷ ps) h =
   where
     one : (q : Pointer) → leads p next q ≡ true → leads p next′ q ≡ true
     one nullPointer e = refl
+    one blankPointer e = refl
     one (direct k i) e = e
     one (indirect n) e = ap not (g n) ∙ e
 
 same-ends : (m : Measures) (p : Shelf) (q : Pointer) (f g : ℕ → Pointer) → ((j : ℕ) → blockAt (m .blockBytes) p (f j) ≡ blockAt (m .blockBytes) p (g j)) → blockAt (m .blockBytes) p (endVia q f) ≡ blockAt (m .blockBytes) p (endVia q g)
 unfolding endVia
 same-ends m p nullPointer f g h = refl
+same-ends m p blankPointer f g h = refl
 same-ends m p (direct k i) f g h = refl
 same-ends m p (indirect n) f g h = h n
 
@@ -167,9 +211,9 @@ ends-same m p v v′ newer newer′ l n t h =
     ap₂ (λ (a b : ℕ). allZero (drop (a - m .blockBytes * (b - 1)) (tracedBlock (m .blockBytes) p (v′ ∷ newer′) (b - 1)))) l n
     ∙ ap (λ (b : Block). allZero (drop (v .length - m .blockBytes * (length (v .pointers) - 1)) b)) (t (length (v .pointers) - 1)) ∙ h
 
-module _ (s : Shape) (p : Shelf) (x : Exact p) (bs : List Block) (newV : Version) (ok : NewOk (s .measures) p bs (newV .pointers)) where
+module _ (era : Era) (s : Shape) (p : Shelf) (x : Exact p) (bs : List Block) (newV : Version) (ok : NewOk era (s .measures) p bs (newV .pointers)) where
   unfoldable pub extended : List Version → List Version
-  extended vs = withNewestPointers vs (turn p bs (newestPointers vs)) ++ (newV ∷ [])
+  extended vs = withNewestPointers vs (turn era p bs (newestPointers vs)) ++ (newV ∷ [])
 
   new-end : (j : ℕ) → endOf (newV ∷ []) j ≡ getD (newV .pointers) j nullPointer
   unfolding endOf
@@ -181,8 +225,8 @@ module _ (s : Shape) (p : Shelf) (x : Exact p) (bs : List Block) (newV : Version
   traced-same v [] h n =
       let q : Pointer = getD (v .pointers) n nullPointer in
       let l : leads p [] q ≡ true = lead-at p [] (v .pointers) (clause _ 1 h) n in
-      ap (λ (r : Pointer). blockAt (s .measures .blockBytes) p (endVia r (λ b. endOf (newV ∷ []) b))) (turn-at (s .measures) p x bs (v .pointers) n)
-      ∙ turned-block (s .measures) p x bs (newV .pointers) ok (λ b. endOf (newV ∷ []) b) new-end q l
+      ap (λ (r : Pointer). blockAt (s .measures .blockBytes) p (endVia r (λ b. endOf (newV ∷ []) b))) (turn-at era (s .measures) p x bs (v .pointers) n)
+      ∙ turned-block era (s .measures) p x bs (newV .pointers) ok (λ b. endOf (newV ∷ []) b) new-end q l
       ∙ ap (blockAt (s .measures .blockBytes) p) (sym (plain-end q _ (last-plain p q l)))
   traced-same v (w ∷ vs) h n =
       same-ends (s .measures) p (getD (v .pointers) n nullPointer) (λ b. endOf (extended (w ∷ vs)) b) (λ b. endOf (w ∷ vs) b) (λ j. traced-same w vs (clause _ 3 h) j)
@@ -190,7 +234,7 @@ module _ (s : Shape) (p : Shelf) (x : Exact p) (bs : List Block) (newV : Version
   next-null : (v : Version) (vs : List Version) (n : ℕ)
       → isNull (getD (nextPointers (extended (v ∷ vs))) n nullPointer) ≡ isNull (getD (v .pointers) n nullPointer)
   unfolding extended withNewestPointers newestPointers nextPointers
-  next-null v [] n = ap isNull (turn-at (s .measures) p x bs (v .pointers) n) ∙ turned-null (s .measures) p x bs (getD (v .pointers) n nullPointer)
+  next-null v [] n = ap isNull (turn-at era (s .measures) p x bs (v .pointers) n) ∙ turned-null era (s .measures) p x bs (getD (v .pointers) n nullPointer)
   next-null v (w ∷ vs) n = refl
 
   module _ (len : hasLength (s .measures .blockBytes) (s .capacities .blocks) newV ≡ true) (lead : every (leads p []) (newV .pointers) ≡ true) (end : endsZero (s .measures .blockBytes) p newV [] ≡ true) where
@@ -199,12 +243,12 @@ module _ (s : Shape) (p : Shelf) (x : Exact p) (bs : List Block) (newV : Version
     extended-traceable [] h = all-true _ (len, (lead, (end, (refl, tt))))
     extended-traceable (v ∷ []) h =
         all-true _ (
-          all-true _ (clause _ 0 (clause _ 0 h), (ap (λ (n : ℕ). eqb n (partsFor (s .measures .blockBytes) (v .length))) (turn-length p bs (v .pointers)) ∙ clause _ 1 (clause _ 0 h), tt)),
+          all-true _ (clause _ 0 (clause _ 0 h), (ap (λ (n : ℕ). eqb n (partsFor (s .measures .blockBytes) (v .length))) (turn-length era p bs (v .pointers)) ∙ clause _ 1 (clause _ 0 h), tt)),
           (
-            every-map p (turned (s .measures) p x bs) [] (newV .pointers) (turned-leads (s .measures) p x bs (newV .pointers) ok) (v .pointers) (clause _ 1 h),
+            every-map p (turned era (s .measures) p x bs) [] (newV .pointers) (turned-leads era (s .measures) p x bs (newV .pointers) ok) (v .pointers) (clause _ 1 h),
             (
-              ends-same (s .measures) p v (record { number = v .number; length = v .length; pointers = turn p bs (v .pointers) }) [] (newV ∷ []) refl
-                  (turn-length p bs (v .pointers)) (traced-same v [] h) (clause _ 2 h),
+              ends-same (s .measures) p v (record { number = v .number; length = v .length; pointers = turn era p bs (v .pointers) }) [] (newV ∷ []) refl
+                  (turn-length era p bs (v .pointers)) (traced-same v [] h) (clause _ 2 h),
               (all-true _ (len, (lead, (end, (refl, tt)))), tt),
             ),
           ),

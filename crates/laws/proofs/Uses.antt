@@ -12,7 +12,7 @@ use borrow.Author.Tests.{eqb-true, eqb-false, eq-eqb, ne-eqb}
 use Rattle.lists.specs.Lists.{counted, every, keep, count, allZero}
 use Rattle.lists.specs.Rows.{joined}
 use Rattle.model.specs.Measures.{Measures}
-use Rattle.model.specs.State.{Block, nullPosition, held, removed, Segment}
+use Rattle.model.specs.State.{Block, nullPosition, blankPosition, held, removed, Segment}
 use Rattle.model.specs.Image.{zeroBlock}
 use Rattle.model.specs.Records.{cellsOf, namedCells, isHeld}
 use Rattle.model.specs.Sweep.{clearCells, goes, stays, struck, moved}
@@ -100,6 +100,7 @@ pub uses-split : (c : ℕ) (seg : Segment) → uses c (cellsOf seg) ≡ uses c (
 unfolding uses staying going cellsOf keep
 uses-split c [] = refl
 uses-split c (nullPosition ∷ seg) = uses-split c seg
+uses-split c (blankPosition ∷ seg) = uses-split c seg
 uses-split c (held b zero ∷ seg) = omega (arith, uses-split c seg)
 uses-split c (held b (suc n) ∷ seg) = omega (arith, uses-split c seg)
 uses-split c (removed ∷ seg) = uses-split c seg
@@ -108,6 +109,7 @@ pub struck-cells : (seg : Segment) → cellsOf (map struck seg) ≡ staying seg
 unfolding staying cellsOf keep
 struck-cells [] = refl
 struck-cells (nullPosition ∷ seg) = struck-cells seg
+struck-cells (blankPosition ∷ seg) = struck-cells seg
 struck-cells (held b zero ∷ seg) = struck-cells seg
 struck-cells (held b (suc n) ∷ seg) = ap {B = List ℕ} (λ r. b ∷ r) (struck-cells seg)
 struck-cells (removed ∷ seg) = struck-cells seg
@@ -116,6 +118,7 @@ pub moved-cells : (seg : Segment) (at : ℕ) → cellsOf (moved at seg) ≡ numb
 unfolding staying cellsOf keep moved numbers counted
 moved-cells [] at = refl
 moved-cells (nullPosition ∷ seg) at = moved-cells seg at
+moved-cells (blankPosition ∷ seg) at = moved-cells seg at
 moved-cells (held b zero ∷ seg) at = moved-cells seg at
 moved-cells (held b (suc n) ∷ seg) at = ap {B = List ℕ} (λ r. at ∷ r) (moved-cells seg (suc at))
 moved-cells (removed ∷ seg) at = moved-cells seg at
@@ -124,6 +127,7 @@ pub staying-count : (seg : Segment) → count goes seg + length (staying seg) �
 unfolding staying cellsOf keep count
 staying-count [] = refl
 staying-count (nullPosition ∷ seg) = omega (arith, staying-count seg)
+staying-count (blankPosition ∷ seg) = omega (arith, staying-count seg)
 staying-count (held b zero ∷ seg) = omega (arith, staying-count seg)
 staying-count (held b (suc n) ∷ seg) = omega (arith, staying-count seg)
 staying-count (removed ∷ seg) = omega (arith, staying-count seg)

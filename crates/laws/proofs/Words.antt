@@ -18,8 +18,8 @@ use Rattle.lists.proofs.Uses.{uses-in}
 use Rattle.lists.proofs.Rows.{each-fill}
 use Rattle.lists.proofs.Masks.{mask-lt}
 use Rattle.model.specs.Measures.{Measures, Shape, isBase, slotWords, inRange, isWithin}
-use Rattle.model.specs.State.{Pointer, nullPointer, direct, indirect, Position, nullPosition, held, removed, Segment, Version, Till, State}
-use Rattle.model.specs.Records.{isHeld, isRemoved, cellOf, countOf, namedCells}
+use Rattle.model.specs.State.{Pointer, nullPointer, blankPointer, direct, indirect, Position, nullPosition, blankPosition, held, removed, Segment, Version, Till, State}
+use Rattle.model.specs.Records.{isHeld, isRemoved, isBlankPosition, cellOf, countOf, namedCells}
 use Rattle.model.specs.Table.{pointerWord, recordToWords, versionToWords, tillToWords, measureWord, headerToWords, stateToWords}
 use Rattle.model.specs.Sound.{isSound, isTill, isNumbered, areTraceable, hasLength}
 use Rattle.laws.proofs.Sweep.{named-one}
@@ -39,6 +39,7 @@ Word n = n < 4294967296
 pointer-word : (p : Pointer) → PointerFits p → Word (pointerWord p)
 unfolding pointerWord
 pointer-word nullPointer h = lit< tt
+pointer-word blankPointer h = lit< tt
 pointer-word (direct k i) h = omega (arith, h .1)
 pointer-word (indirect n) h = omega (arith, h)
 
@@ -126,6 +127,7 @@ module _ (s : Shape) (fit : Fit s) (st : State) (h : isSound s st ≡ true) (sma
     where
       unheld : (p : Position) → isHeld p ≡ false → cellOf p ≡ 0
       unheld nullPosition e = refl
+      unheld blankPosition e = refl
       unheld (held c n) e = absurd (false≢true (sym e))
       unheld removed e = refl
 
@@ -149,7 +151,7 @@ module _ (s : Shape) (fit : Fit s) (st : State) (h : isSound s st ≡ true) (sma
         (
           omega (arith, mask-lt isRemoved seg, sixteen (length seg) l),
           (
-            lit< tt,
+            omega (arith, mask-lt isBlankPosition seg, sixteen (length seg) l),
             each-append Word (map cellOf seg) (map countOf seg) (each-map-at Word cellOf nullPosition seg (λ j q. position-words k j .0))
                 (each-map-at Word countOf nullPosition seg (λ j q. position-words k j .1)),
           ),

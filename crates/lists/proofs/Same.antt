@@ -36,13 +36,18 @@ unfolding allZero
 zeros-are [] h = refl
 zeros-are (x ∷ xs) h = ap₂ _∷_ (eqb-true x 0 (every-head (λ y. eqb y 0) x xs h)) (zeros-are xs (every-tail (λ y. eqb y 0) x xs h))
 
+-- a list all of one number
+pub all-eq : (v : ℕ) (b : List ℕ) (n : ℕ) → every (λ x. eqb x v) b ≡ true → length b ≡ n → replicate n v ≡ b
+unfolding every
+all-eq v [] zero h e = refl
+all-eq v [] (suc n) h e = absurd (suc-ne-zero n (sym e))
+all-eq v (x ∷ b) zero h e = absurd (suc-ne-zero (length b) e)
+all-eq v (x ∷ b) (suc n) h e =
+    let (p, q) = cond-true (eqb x v) (every (λ y. eqb y v) b) h in ap₂ _∷_ (sym (eqb-true x v p)) (all-eq v b n q (suc-inj e))
+
 pub zeros-eq : (b : List ℕ) (n : ℕ) → allZero b ≡ true → length b ≡ n → replicate n 0 ≡ b
-unfolding allZero every
-zeros-eq [] zero h e = refl
-zeros-eq [] (suc n) h e = absurd (suc-ne-zero n (sym e))
-zeros-eq (x ∷ b) zero h e = absurd (suc-ne-zero (length b) e)
-zeros-eq (x ∷ b) (suc n) h e =
-    let (p, q) = cond-true (eqb x 0) (allZero b) h in ap₂ _∷_ (sym (eqb-true x 0 p)) (zeros-eq b n q (suc-inj e))
+unfolding allZero
+zeros-eq b n h e = all-eq 0 b n h e
 
 pub zeros-zero : (n : ℕ) → allZero (replicate n 0) ≡ true
 unfolding allZero every

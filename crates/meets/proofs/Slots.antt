@@ -18,7 +18,7 @@ use Rattle.lists.proofs.Tests.{every-head, every-tail, clause, every-at}
 use Rattle.model.specs.Measures.{Capacities, Shape, partsFor, tillWords, recordWords, headerWords}
 use Rattle.model.specs.Records.{positionAt}
 use Rattle.model.specs.Sound.{nextPointers, isNull, leads, areTraceable, isSound, isTill}
-use Rattle.model.specs.State.{Shelf, Version, Pointer, nullPointer, direct, indirect, State, Till, Segment}
+use Rattle.model.specs.State.{Shelf, Version, Pointer, nullPointer, blankPointer, direct, indirect, State, Till, Segment}
 use Rattle.model.specs.Table.{versionIn, versionToWords, tillToWords, versionsIn, stateToWords, headerToWords, recordToWords}
 use Rattle.laws.proofs.Fits.{record-in, held-in, TillFits, VersionFits, pointer-in}
 use Rattle.laws.proofs.RoundTrip.{length-version, version-back, length-till}
@@ -37,18 +37,21 @@ module _ (n : ℕ) (shelf : Shelf) (most : (k : ℕ) → length (getD (shelf .re
   one-leads : (ps : List Pointer) (p : Pointer) → leads shelf ps p ≡ true → LeadsTo (length ps) p
   unfolding LeadsTo
   one-leads ps nullPointer e = tt
+  one-leads ps blankPointer e = tt
   one-leads ps (direct k i) e = tt
   one-leads ps (indirect k) e = pointer-in ps k e
 
   one-fits : (next : List Pointer) (p : Pointer) → leads shelf next p ≡ true → Fits n (length (shelf .records) * recordWords n) p
   unfolding Fits positionAt
   one-fits next nullPointer e = tt
+  one-fits next blankPointer e = tt
   one-fits next (direct k i) e = (row-room k (length (shelf .records)) (recordWords n) (record-in (shelf .records) k i e), omega (arith, held-in (getD (shelf .records) k []) i e, most k))
   one-fits next (indirect k) e = tt
 
   one-held : (next : List Pointer) (p : Pointer) → leads shelf next p ≡ true → NamesHeld (shelf .records) p
   unfolding NamesHeld positionAt
   one-held next nullPointer e = tt
+  one-held next blankPointer e = tt
   one-held next (direct k i) e = e
   one-held next (indirect k) e = tt
 

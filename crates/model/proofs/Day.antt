@@ -2,149 +2,27 @@
 -- One theorem, `day-holds`, proved by computing the calls' definitions on real blocks.
 use Prim.Native.Nat.{ℕ, _+_, _*_}
 use mathlib.Core.Path.{_≡_, refl}
-use mathlib.Core.Bool.{Bool, true, _&&_}
+use mathlib.Core.Bool.{true}
 use mathlib.Core.List.{List, [], _∷_, _++_}
-use lib.ListN.{set, take, drop, replicate}
-use lib.Dec.{eqb}
+use lib.ListN.{take, drop, replicate}
 use Rattle.lists.specs.Lists.{counted, every, keep, count, total, firstFrom, allOf, sameNumbers, rises, isIn, distinct, allZero, largest}
-use Rattle.lists.specs.Rows.{joined, parts, chunks, fill, rows}
+use Rattle.lists.specs.Rows.{joined, parts, chunks, fill}
 use Rattle.lists.specs.Masks.{maskOf}
-use Rattle.model.specs.Measures.{isWithin, areMeasures, inRange, partsFor, tableWords, poolBytes, isBase, Measures, Capacities, Shape, baseMeasures, headerWords, slotWords, recordWords, recordsAt}
-use Rattle.model.specs.Image.{zeroBlock, blockFrom, blocksFrom, imageBlocks, segmentsFrom, imageSegments}
+use Rattle.model.specs.Measures.{isWithin, areMeasures, inRange, partsFor, tableWords, poolBytes, isBase, Measures, Shape}
+use Rattle.model.specs.Image.{zeroBlock, blankBlock, isBlank, isBare, blockFrom, blocksFrom, imageBlocks, segmentsFrom, imageSegments}
 use Rattle.model.specs.Records.{freeSegment, isFree, cellsOf, namedCells, cellAt, positionAt, equals}
 use Rattle.model.specs.Runs.{freeCells, better, scan, findRun}
-use Rattle.model.specs.Place.{pointersTo, newPositions, nonNull, share, write, writeRun, writeRecord, shareOrWrite, placeSegment, afterSome, placeNext, placeAll}
-use Rattle.model.specs.Turn.{target, turn, turning}
+use Rattle.model.specs.Place.{barePointer, barePosition, pointersTo, newPositions, stored, share, write, writeRun, writeRecord, shareOrWrite, placeSegment, afterSome, placeNext, placeAll}
+use Rattle.model.specs.Turn.{turnsTo, target, turn, turning}
 use Rattle.model.specs.Sweep.{changeAt, changeAll, release, claim, moved, clearCells, freeRecord, strikeOnly, compact, removeFrom, sweepRecord, sweepFrom, sweep}
 use Rattle.model.specs.Trace.{hopsVia, endVia, hops, endOf, blockAt, tracedBlock, tracedBlocks, imageOf, longestChain}
 use Rattle.model.specs.Table.{pointerWord, recordToWords, versionToWords, tillToWords, measureWord, headerToWords, stateToWords, stateToBytes, measuresIn, shapeOf, pointerOf, wordToPointer, positionOf, positionsIn, segmentIn, recordsIn, cellsIn, shelfIn, versionIn, versionsIn, tillIn, tillsIn, stateIn}
 use Rattle.model.specs.Sound.{isShaped, hasLength, isNumbered, isUsed, hasCells, nextPointers, endsZero, areTraceable, isTill, allPointers, areCounted, allCounted, areFilled, isSound, ifSound, hasLengths, storeAs, storeOf}
-use Rattle.model.specs.Calls.{tableLengthOf, emptyTill, emptyState, layoutIf, layoutOf, tillOf, heldFrom, withTill, newestPointers, withNewestPointers, tillWith, fileIn, placeAndFile, backupAnswer, backupIn, backupOf, restoreRefusal, restoreFrom, restoreIn, restoreOf, heldBefore, closeUp, retireFrom, retireAnswer, retireIn, retireOf, oldestNumber, newestNumber, listingRefusal, listTill, listingIn, listingOf, tallyIn, tallyOf, LengthAnswer, LayoutAnswer, BackupAnswer, RestoreAnswer, RetireAnswer, ListingAnswer, TallyAnswer}
-use Rattle.model.specs.State.{Pointer, nullPointer, direct, indirect, nullPosition, held, removed, Segment, Version}
+use Rattle.model.specs.Calls.{tableLengthOf, emptyTill, emptyState, layoutIf, layoutOf, tillOf, heldFrom, withTill, newestPointers, withNewestPointers, tillWith, fileIn, placeAndFile, backupAnswer, backupIn, backupBy, backupOf, restoreRefusal, restoreFrom, restoreIn, restoreOf, heldBefore, closeUp, retireFrom, retireAnswer, retireIn, retireOf, oldestNumber, newestNumber, listingRefusal, listTill, listingIn, listingOf, tallyIn, tallyOf}
+use Rattle.model.specs.State.{nullPointer, direct, indirect, nullPosition, held, removed}
 use Rattle.model.specs.Calls as Calls
-
--- A call with what it answers, or a fact of the buffers as the calls before it left them. Slots and records are read as words.
-data Step : Type 0 where
-  tableLength : (capacities : Shape) (refusal words : ℕ) → Step
-  layout : (capacities : Shape) (refusal : ℕ) → Step
-  backup : (till : ℕ) (image : List ℕ) (refusal version : ℕ) → Step
-  restore : (till version : ℕ) (output : List ℕ) (refusal length hops : ℕ) (after : List ℕ) → Step
-  retire : (till version refusal length : ℕ) → Step
-  listing : (till refusal oldest newest last : ℕ) → Step
-  tally : (refusal cells records counts : ℕ) → Step
-  -- slot `i` of till 0
-  slotIs : (i : ℕ) (version : Version) → Step
-  recordIs : (k : ℕ) (positions : Segment) → Step
-  poolIs : (pool : List ℕ) → Step
-  -- the header's last three words
-  settingsAre : (words : List ℕ) → Step
-  -- a word of the table is overwritten, for stores that no call leaves
-  overwrite : (at word : ℕ) → Step
-
--- a store's capacities, and the steps from its laying out
-record Row : Type 0 where
-  capacities : Shape
-  steps : List Step
-
-slotAt : Shape → ℕ → ℕ
-slotAt s i = headerWords + 4 + i * slotWords (s .capacities .blocks)
-
-recordAt : Shape → ℕ → ℕ
-recordAt s k = recordsAt (s .capacities .tills) (s .capacities .versions) (s .capacities .blocks) + k * recordWords (s .measures .segmentBlocks)
-
--- `n` elements from place `at` are those of the list
-isAt : List ℕ → ℕ → ℕ → List ℕ → Bool
-isAt xs at n ys = sameNumbers (take n (drop at xs)) ys
-
-holdsFrom : Shape → List Step → List ℕ → List ℕ → Bool
-holdsFrom s [] pool table = true
-holdsFrom s (tableLength d n w ∷ steps) pool table =
-    let a : LengthAnswer = tableLengthOf d in
-    eqb (a .refusal) n && eqb (a .words) w && holdsFrom s steps pool table
-holdsFrom s (layout d n ∷ steps) pool table =
-    let a : LayoutAnswer = layoutOf d pool table in
-    eqb (a .refusal) n && holdsFrom s steps (a .pool) (a .table)
-holdsFrom s (backup t image n v ∷ steps) pool table =
-    let a : BackupAnswer = backupOf pool table t image in
-    eqb (a .refusal) n && eqb (a .version) v && holdsFrom s steps (a .pool) (a .table)
-holdsFrom s (restore t v output n l h after ∷ steps) pool table =
-    let a : RestoreAnswer = restoreOf pool table t v output in
-    eqb (a .refusal) n && eqb (a .length) l && eqb (a .hops) h && sameNumbers (a .output) after && holdsFrom s steps pool table
-holdsFrom s (retire t v n l ∷ steps) pool table =
-    let a : RetireAnswer = retireOf pool table t v in
-    eqb (a .refusal) n && eqb (a .length) l && holdsFrom s steps (a .pool) (a .table)
-holdsFrom s (listing t r o n l ∷ steps) pool table =
-    let a : ListingAnswer = listingOf pool table t in
-    eqb (a .refusal) r && eqb (a .oldest) o && eqb (a .newest) n && eqb (a .last) l && holdsFrom s steps pool table
-holdsFrom s (tally r k u n ∷ steps) pool table =
-    let a : TallyAnswer = tallyOf pool table in
-    eqb (a .refusal) r && eqb (a .cells) k && eqb (a .records) u && eqb (a .counts) n && holdsFrom s steps pool table
-holdsFrom s (slotIs i v ∷ steps) pool table =
-    isAt table (slotAt s i) (slotWords (s .capacities .blocks)) (versionToWords (s .capacities .blocks) v) && holdsFrom s steps pool table
-holdsFrom s (recordIs k seg ∷ steps) pool table =
-    isAt table (recordAt s k) (recordWords (s .measures .segmentBlocks)) (recordToWords seg) && holdsFrom s steps pool table
-holdsFrom s (poolIs bytes ∷ steps) pool table = sameNumbers pool bytes && holdsFrom s steps pool table
-holdsFrom s (settingsAre words ∷ steps) pool table = isAt table 5 3 words && holdsFrom s steps pool table
-holdsFrom s (overwrite at word ∷ steps) pool table = holdsFrom s steps pool (set table at word)
-
--- from buffers of ones, which an accepted lay out clears
-holds : Row → Bool
-unfolding holdsFrom
-holds row =
-    let s : Shape = row .capacities in
-    let a : LayoutAnswer = layoutOf s (replicate (poolBytes s) 1) (replicate (tableWords s) 1) in
-    eqb (a .refusal) 0 && holdsFrom (row .capacities) (row .steps) (a .pool) (a .table)
-
--- ---- the stores and images of the cases
-
--- at the measures of the page
-atBase : Capacities → Shape
-atBase c = record { measures = baseMeasures; capacities = c }
-
--- 1 till, 4 versions, 16 blocks per image, 8 records
-box : ℕ → Shape
-box cells = atBase (record { tills = 1; versions = 4; blocks = 16; records = 8; cells = cells })
-
--- a letter is a block filled with it; 0 is a block of zeros
-blocks : List ℕ → List ℕ
-blocks ls = rows (replicate 64) ls
-
-zeros : ℕ → List ℕ
-zeros n = replicate n 0
-
--- `n` letters from one on
-letters : ℕ → ℕ → List ℕ
-letters a n = counted (λ c. c) a n
-
-ABCDEFGH : List ℕ
-ABCDEFGH = letters 65 8
-
-ABCDEFGZ : List ℕ
-ABCDEFGZ = letters 65 7 ++ (90 ∷ [])
-
-AIJKLMNO : List ℕ
-AIJKLMNO = 65 ∷ letters 73 7
-
-ABIJKLMN : List ℕ
-ABIJKLMN = 65 ∷ 66 ∷ letters 73 6
-
-IJKLMNOP : List ℕ
-IJKLMNOP = letters 73 8
-
-QRSTUVWX : List ℕ
-QRSTUVWX = letters 81 8
-
--- position i of eight held in the cell c + i with count n
-run8 : ℕ → ℕ → Segment
-run8 c n = counted (λ cell. held cell n) c 8
-
--- direct pointers to the eight positions of record k
-to8 : ℕ → List Pointer
-to8 k = counted (direct k) 0 8
-
--- a version of 512 bytes
-v512 : ℕ → List Pointer → Version
-v512 n ps = record { number = n; length = 512; pointers = ps }
+use Rattle.model.proofs.Steps.{Step, tableLength, layout, backup, restore, retire, listing, tally, slotIs, recordIs, poolIs, settingsAre, overwrite, Row, slotAt, recordAt, isAt, holdsFrom, holds, atBase, box, blocks, zeros, letters, ABCDEFGH, ABCDEFGZ, AIJKLMNO, ABIJKLMN, IJKLMNOP, QRSTUVWX, run8, to8, v512}
+use Rattle.model.proofs.Blanks.{version, blanks}
 
 -- ---- the page's cases
 
@@ -655,18 +533,18 @@ otherMeasures =
     }
     ∷ []
 
-day-holds : every holds (theDay ++ (beside ++ otherMeasures)) ≡ true
-unfolding theDay beside otherMeasures boxOf case1 case2 case3 case4 case5 case6 v512 to8 run8 letters ABCDEFGH ABCDEFGZ AIJKLMNO ABIJKLMN IJKLMNOP QRSTUVWX zeros blocks atBase box holds
+day-holds : every holds (theDay ++ (blanks ++ (beside ++ otherMeasures))) ≡ true
+unfolding theDay blanks beside otherMeasures boxOf version case1 case2 case3 case4 case5 case6 v512 to8 run8 letters ABCDEFGH ABCDEFGZ AIJKLMNO ABIJKLMN IJKLMNOP QRSTUVWX zeros blocks atBase box holds
     holdsFrom isAt slotAt recordAt
     counted every keep count total firstFrom allOf sameNumbers rises isIn distinct allZero largest joined parts chunks fill maskOf isWithin areMeasures inRange partsFor
-    tableWords poolBytes zeroBlock blockFrom blocksFrom imageBlocks segmentsFrom imageSegments freeSegment isFree cellsOf namedCells cellAt positionAt
-    equals freeCells better scan findRun pointersTo newPositions nonNull share write writeRun writeRecord shareOrWrite placeSegment afterSome
-    placeNext placeAll target turn turning changeAt changeAll release claim moved clearCells freeRecord strikeOnly compact removeFrom sweepRecord sweepFrom
+    tableWords poolBytes zeroBlock blankBlock isBlank isBare blockFrom blocksFrom imageBlocks segmentsFrom imageSegments freeSegment isFree cellsOf namedCells cellAt positionAt
+    equals freeCells better scan findRun barePointer barePosition pointersTo newPositions stored share write writeRun writeRecord shareOrWrite placeSegment afterSome
+    placeNext placeAll turnsTo target turn turning changeAt changeAll release claim moved clearCells freeRecord strikeOnly compact removeFrom sweepRecord sweepFrom
     sweep hopsVia endVia hops endOf blockAt tracedBlock tracedBlocks imageOf longestChain pointerWord recordToWords versionToWords tillToWords
     isBase measureWord headerToWords stateToWords stateToBytes measuresIn shapeOf pointerOf wordToPointer positionOf positionsIn segmentIn recordsIn cellsIn shelfIn versionIn
     versionsIn tillIn tillsIn stateIn isShaped hasLength isNumbered isUsed hasCells nextPointers endsZero areTraceable isTill allPointers areCounted
     allCounted areFilled isSound ifSound hasLengths storeAs storeOf emptyTill emptyState layoutIf layoutOf tillOf heldFrom withTill
-    newestPointers withNewestPointers tillWith fileIn placeAndFile Calls.backup backupAnswer backupIn backupOf restoreRefusal restoreFrom
+    newestPointers withNewestPointers tillWith fileIn placeAndFile Calls.backup backupAnswer backupIn backupBy backupOf restoreRefusal restoreFrom
     Calls.restore restoreIn restoreOf heldBefore closeUp retireFrom Calls.retire retireAnswer retireIn retireOf oldestNumber newestNumber listingRefusal
     listTill listingIn listingOf tallyIn tallyOf tableLengthOf
 day-holds = refl

@@ -1,2 +1,4 @@
 -- The starred day, proved from the definitions.
+pub mod Steps
+pub mod Blanks
 pub mod Day

@@ -8,8 +8,8 @@ use lib.ListN.{length, getD, set, take, drop, replicate}
 use lib.Dec.{eqb, ltb, leb}
 use Rattle.lists.specs.Lists.{count, total}
 use Rattle.model.specs.Measures.{Shape, inRange, tableWords, poolBytes}
-use Rattle.model.specs.State.{Block, Pointer, nullPointer, direct, indirect, Shelf, Version, Till, State, Outcome, refused, done}
-use Rattle.model.specs.Image.{zeroBlock, imageBlocks, imageSegments}
+use Rattle.model.specs.State.{Block, Pointer, nullPointer, blankPointer, direct, indirect, Shelf, Version, Till, State, Outcome, refused, done}
+use Rattle.model.specs.Image.{zeroBlock, Era, withBlanks, imageBlocks, imageSegments}
 use Rattle.model.specs.Records.{freeSegment, isFree, namedCells, countOf}
 use Rattle.model.specs.Place.{Placed, placeAll}
 use Rattle.model.specs.Turn.{turn, turning}
@@ -100,40 +100,45 @@ tillWith till turned bytes pointers = record {
 }
 
 -- steps 2 and 3, once the segments are placed
-unfoldable pub fileIn : Shape → State → ℕ → List ℕ → List Block → Till → Outcome Placed → Outcome After
-fileIn s st t image blocks till (refused n) = refused n
-fileIn s st t image blocks till (done p) = done (record {
+unfoldable pub fileIn : Era → Shape → State → ℕ → List ℕ → List Block → Till → Outcome Placed → Outcome After
+fileIn era s st t image blocks till (refused n) = refused n
+fileIn era s st t image blocks till (done p) = done (record {
   state =
       withTill st t
-      (tillWith till (turn (p .shelf) blocks (newestPointers (till .versions))) (length image) (take (length blocks) (p .pointers)))
-      (sweep (s .measures) (release (p .shelf) (turning (p .shelf) blocks (newestPointers (till .versions)))));
+      (tillWith till (turn era (p .shelf) blocks (newestPointers (till .versions))) (length image) (take (length blocks) (p .pointers)))
+      (sweep (s .measures) (release (p .shelf) (turning era (p .shelf) blocks (newestPointers (till .versions)))));
   answer = suc (till .last);
 })
 
 -- steps 1 to 3
-unfoldable pub placeAndFile : Shape → State → ℕ → List ℕ → Till → Outcome After
-placeAndFile s st t image till =
-    fileIn s st t image (imageBlocks (s .measures .blockBytes) image) till
-    (placeAll (done (record { shelf = st .shelf; pointers = [] })) (imageSegments (s .measures .blockBytes) (s .measures .segmentBlocks) image))
+unfoldable pub placeAndFile : Era → Shape → State → ℕ → List ℕ → Till → Outcome After
+placeAndFile era s st t image till =
+    fileIn era s st t image (imageBlocks (s .measures .blockBytes) image) till
+    (placeAll era (done (record { shelf = st .shelf; pointers = [] })) (imageSegments (s .measures .blockBytes) (s .measures .segmentBlocks) image))
 
-unfoldable pub backup : Shape → State → ℕ → List ℕ → Outcome After
-backup s st t image =
+unfoldable pub backup : Era → Shape → State → ℕ → List ℕ → Outcome After
+backup era s st t image =
     cond (leb (s .capacities .tills) t) (refused 3)
     (cond (eqb (length image) 0 || ltb (s .measures .blockBytes * s .capacities .blocks) (length image)) (refused 4)
     (cond (leb (s .capacities .versions) (length (tillOf st t .versions))) (refused 11)
     (cond (eqb (tillOf st t .last) 65535) (refused 12)
-    (placeAndFile s st t image (tillOf st t)))))
+    (placeAndFile era s st t image (tillOf st t)))))
 
 unfoldable pub backupAnswer : List ℕ → List ℕ → Shape → Outcome After → BackupAnswer
 backupAnswer pool table s (refused n) = record { refusal = n; version = 0; pool = pool; table = table }
 backupAnswer pool table s (done a) = record { refusal = 0; version = a .answer; pool = stateToBytes (a .state); table = stateToWords s (a .state) }
 
-unfoldable pub backupIn : Option Store → List ℕ → List ℕ → ℕ → List ℕ → BackupAnswer
-backupIn none pool table t image = record { refusal = 10; version = 0; pool = pool; table = table }
-backupIn (some store) pool table t image = backupAnswer pool table (store .shape) (backup (store .shape) (store .state) t image)
+unfoldable pub backupIn : Era → Option Store → List ℕ → List ℕ → ℕ → List ℕ → BackupAnswer
+backupIn era none pool table t image = record { refusal = 10; version = 0; pool = pool; table = table }
+backupIn era (some store) pool table t image = backupAnswer pool table (store .shape) (backup era (store .shape) (store .state) t image)
 
+-- by the rules of an era: stores in the field have backups from before
+unfoldable pub backupBy : Era → List ℕ → List ℕ → ℕ → List ℕ → BackupAnswer
+backupBy era pool table t image = backupIn era (storeOf pool table) pool table t image
+
+-- the public call
 unfoldable pub backupOf : List ℕ → List ℕ → ℕ → List ℕ → BackupAnswer
-backupOf pool table t image = backupIn (storeOf pool table) pool table t image
+backupOf pool table t image = backupBy withBlanks pool table t image
 
 -- ---- restore: 10, 3, 15, 5. Answers the length and the longest chain.
 
@@ -186,12 +191,14 @@ heldBefore n (v ∷ vs) = let r = heldBefore n vs in cond (eqb (v .number) n) []
 -- A pointer of the older neighbour of a version with the pointers `gone`, once that version is retired: an indirect one takes over the pointer it named.
 abbrev pub takeOver : List Pointer → Pointer → Pointer
 takeOver gone nullPointer = nullPointer
+takeOver gone blankPointer = blankPointer
 takeOver gone (direct k i) = direct k i
 takeOver gone (indirect n) = getD gone n nullPointer
 
 -- the pointer that it takes over; none, null, if it is not indirect
 abbrev pub taken : List Pointer → Pointer → Pointer
 taken gone nullPointer = nullPointer
+taken gone blankPointer = nullPointer
 taken gone (direct k i) = nullPointer
 taken gone (indirect n) = getD gone n nullPointer
 

@@ -1,13 +1,33 @@
--- The blocks and the segments of an image.
+-- The blocks and the segments of an image, and which blocks are null or blank.
 use Prim.Native.Nat.{ℕ, zero, suc, _+_, _*_}
+use mathlib.Core.Bool.{Bool, true, false, cond}
 use mathlib.Core.List.{List, [], _∷_}
 use lib.ListN.{length, drop, replicate}
+use lib.Dec.{eqb}
+use Rattle.lists.specs.Lists.{every, allZero}
 use Rattle.lists.specs.Rows.{fill}
 use Rattle.model.specs.Measures.{partsFor}
 use Rattle.model.specs.State.{Block}
 
 unfoldable pub zeroBlock : ℕ → Block
 zeroBlock bytes = replicate bytes 0
+
+unfoldable pub blankBlock : ℕ → Block
+blankBlock bytes = replicate bytes 255
+
+-- A backup was made before blank blocks were known, or with them.
+pub data Era : Type 0 where
+  beforeBlanks : Era
+  withBlanks : Era
+
+-- a block of 255s is blank; to a backup from before none is
+unfoldable pub isBlank : Era → Block → Bool
+isBlank beforeBlanks b = false
+isBlank withBlanks b = every (λ x. eqb x 255) b
+
+-- null or blank: neither stored nor counted
+unfoldable pub isBare : Era → Block → Bool
+isBare era b = let r = isBlank era b in cond (allZero b) true r
 
 -- The block that begins at byte `at`. A last block that is short counts as filled up with zero bytes; one past the end is null.
 unfoldable pub blockFrom : ℕ → List ℕ → ℕ → Block

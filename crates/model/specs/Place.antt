@@ -1,12 +1,13 @@
 -- Backup, step 1: the segments of the new image are placed.
 use Prim.Native.Nat.{ℕ, suc}
-use mathlib.Core.Bool.{Bool, cond, not}
+use mathlib.Core.Bool.{cond, not}
 use mathlib.Core.List.{List, [], _∷_, _++_, map}
 use mathlib.Core.Option.{Option, none, some}
 use lib.ListN.{length, getD, set}
 use lib.Seq.{sets}
 use Rattle.lists.specs.Lists.{every, keep, firstFrom, allZero}
-use Rattle.model.specs.State.{Block, Pointer, nullPointer, direct, Position, nullPosition, held, removed, Segment, Shelf, Outcome, refused, done}
+use Rattle.model.specs.State.{Block, Pointer, nullPointer, blankPointer, direct, Position, nullPosition, blankPosition, held, removed, Segment, Shelf, Outcome, refused, done}
+use Rattle.model.specs.Image.{Era, isBare}
 use Rattle.model.specs.Records.{isFree, equals}
 use Rattle.model.specs.Runs.{Run, findRun}
 
@@ -15,69 +16,78 @@ pub record Placed : Type 0 where
   pub shelf : Shelf
   pub pointers : List Pointer
 
--- null, or direct to record `k`, at the places from `i`
-unfoldable pub pointersTo : ℕ → ℕ → List Block → List Pointer
-pointersTo k i [] = []
-pointersTo k i (b ∷ bs) = cond (allZero b) nullPointer (direct k i) ∷ pointersTo k (suc i) bs
+-- of a block that is null or blank
+unfoldable pub barePointer : Block → Pointer
+barePointer b = cond (allZero b) nullPointer blankPointer
+
+unfoldable pub barePosition : Block → Position
+barePosition b = cond (allZero b) nullPosition blankPosition
+
+-- null, blank, or direct to record `k`, at the places from `i`
+unfoldable pub pointersTo : Era → ℕ → ℕ → List Block → List Pointer
+pointersTo era k i [] = []
+pointersTo era k i (b ∷ bs) = cond (isBare era b) (barePointer b) (direct k i) ∷ pointersTo era k (suc i) bs
 
 -- every direct pointer adds 1 to its position's count
 abbrev pub oneMore : Position → Position
 oneMore nullPosition = nullPosition
+oneMore blankPosition = blankPosition
 oneMore (held c n) = held c (suc n)
 oneMore removed = removed
 
--- null, or held with count 1, in consecutive cells from `c`
-unfoldable pub newPositions : ℕ → List Block → Segment
-newPositions c [] = []
-newPositions c (b ∷ bs) = cond (allZero b) nullPosition (held c 1) ∷ newPositions (cond (allZero b) c (suc c)) bs
+-- null, blank, or held with count 1, in consecutive cells from `c`
+unfoldable pub newPositions : Era → ℕ → List Block → Segment
+newPositions era c [] = []
+newPositions era c (b ∷ bs) = cond (isBare era b) (barePosition b) (held c 1) ∷ newPositions era (cond (isBare era b) c (suc c)) bs
 
-unfoldable pub nonNull : List Block → List Block
-nonNull bs = keep (λ b. not (allZero b)) bs
+-- the blocks that go into cells
+unfoldable pub stored : Era → List Block → List Block
+stored era bs = keep (λ b. not (isBare era b)) bs
 
 -- record `k` is equal to the segment, and serves it
-unfoldable pub share : Shelf → List Block → ℕ → Placed
-share shelf seg k = record {
+unfoldable pub share : Era → Shelf → List Block → ℕ → Placed
+share era shelf seg k = record {
   shelf = record { records = set (shelf .records) k (map oneMore (getD (shelf .records) k [])); cells = shelf .cells };
-  pointers = pointersTo k 0 seg;
+  pointers = pointersTo era k 0 seg;
 }
 
--- the segment takes record `k`, and its non-null blocks go in order into the run's first cells
-unfoldable pub write : Shelf → List Block → ℕ → Run → Placed
-write shelf seg k run = record {
-  shelf = record { records = set (shelf .records) k (newPositions (run .start) seg); cells = sets (shelf .cells) (run .start) (nonNull seg) };
-  pointers = pointersTo k 0 seg;
+-- the segment takes record `k`, and its blocks, null and blank ones apart, go in order into the run's first cells
+unfoldable pub write : Era → Shelf → List Block → ℕ → Run → Placed
+write era shelf seg k run = record {
+  shelf = record { records = set (shelf .records) k (newPositions era (run .start) seg); cells = sets (shelf .cells) (run .start) (stored era seg) };
+  pointers = pointersTo era k 0 seg;
 }
 
-unfoldable pub writeRun : Shelf → List Block → ℕ → Option Run → Outcome Placed
-writeRun shelf seg k none = refused 16
-writeRun shelf seg k (some run) = done (write shelf seg k run)
+unfoldable pub writeRun : Era → Shelf → List Block → ℕ → Option Run → Outcome Placed
+writeRun era shelf seg k none = refused 16
+writeRun era shelf seg k (some run) = done (write era shelf seg k run)
 
 -- 14 before 16
-unfoldable pub writeRecord : Shelf → List Block → Option ℕ → Outcome Placed
-writeRecord shelf seg none = refused 14
-writeRecord shelf seg (some k) = writeRun shelf seg k (findRun shelf (length (nonNull seg)))
+unfoldable pub writeRecord : Era → Shelf → List Block → Option ℕ → Outcome Placed
+writeRecord era shelf seg none = refused 14
+writeRecord era shelf seg (some k) = writeRun era shelf seg k (findRun shelf (length (stored era seg)))
 
 -- the record found serves; else the lowest free record is taken
-unfoldable pub shareOrWrite : Shelf → List Block → Option ℕ → Outcome Placed
-shareOrWrite shelf seg none = writeRecord shelf seg (firstFrom isFree 0 (shelf .records))
-shareOrWrite shelf seg (some k) = done (share shelf seg k)
+unfoldable pub shareOrWrite : Era → Shelf → List Block → Option ℕ → Outcome Placed
+shareOrWrite era shelf seg none = writeRecord era shelf seg (firstFrom isFree 0 (shelf .records))
+shareOrWrite era shelf seg (some k) = done (share era shelf seg k)
 
--- a segment all null needs no record; one equal to a whole record uses it, the lowest number if several
-unfoldable pub placeSegment : Shelf → List Block → Outcome Placed
-placeSegment shelf seg =
-    cond (every allZero seg)
-    (done (record { shelf = shelf; pointers = map (λ b. nullPointer) seg }))
-    (shareOrWrite shelf seg (firstFrom (equals shelf seg) 0 (shelf .records)))
+-- a segment of null and blank blocks only needs no record; one equal to a whole record uses it, the lowest number if several
+unfoldable pub placeSegment : Era → Shelf → List Block → Outcome Placed
+placeSegment era shelf seg =
+    cond (every (isBare era) seg)
+    (done (record { shelf = shelf; pointers = map barePointer seg }))
+    (shareOrWrite era shelf seg (firstFrom (equals era shelf seg) 0 (shelf .records)))
 
 unfoldable pub afterSome : List Pointer → Outcome Placed → Outcome Placed
 afterSome ps (refused n) = refused n
 afterSome ps (done p) = done (record { shelf = p .shelf; pointers = ps ++ p .pointers })
 
-unfoldable pub placeNext : Outcome Placed → List Block → Outcome Placed
-placeNext (refused n) seg = refused n
-placeNext (done p) seg = afterSome (p .pointers) (placeSegment (p .shelf) seg)
+unfoldable pub placeNext : Era → Outcome Placed → List Block → Outcome Placed
+placeNext era (refused n) seg = refused n
+placeNext era (done p) seg = afterSome (p .pointers) (placeSegment era (p .shelf) seg)
 
 -- segment by segment; the first that cannot be placed refuses
-unfoldable pub placeAll : Outcome Placed → List (List Block) → Outcome Placed
-placeAll p [] = p
-placeAll p (seg ∷ segs) = placeAll (placeNext p seg) segs
+unfoldable pub placeAll : Era → Outcome Placed → List (List Block) → Outcome Placed
+placeAll era p [] = p
+placeAll era p (seg ∷ segs) = placeAll era (placeNext era p seg) segs

@@ -5,34 +5,46 @@ use mathlib.Core.List.{List, [], _∷_}
 use lib.ListN.{getD, replicate}
 use Rattle.lists.specs.Lists.{every, sameNumbers, allZero}
 use Rattle.lists.specs.Rows.{rows}
-use Rattle.model.specs.State.{Block, Position, nullPosition, held, removed, Segment, Shelf}
+use Rattle.model.specs.State.{Block, Position, nullPosition, blankPosition, held, removed, Segment, Shelf}
+use Rattle.model.specs.Image.{Era, isBlank}
 
 unfoldable pub freeSegment : ℕ → Segment
 freeSegment n = replicate n nullPosition
 
 abbrev pub isNullPosition : Position → Bool
 isNullPosition nullPosition = true
+isNullPosition blankPosition = false
 isNullPosition (held c n) = false
 isNullPosition removed = false
 
+abbrev pub isBlankPosition : Position → Bool
+isBlankPosition nullPosition = false
+isBlankPosition blankPosition = true
+isBlankPosition (held c n) = false
+isBlankPosition removed = false
+
 abbrev pub isHeld : Position → Bool
 isHeld nullPosition = false
+isHeld blankPosition = false
 isHeld (held c n) = true
 isHeld removed = false
 
 abbrev pub isRemoved : Position → Bool
 isRemoved nullPosition = false
+isRemoved blankPosition = false
 isRemoved (held c n) = false
 isRemoved removed = true
 
 -- 0 where the position is not held
 abbrev pub cellOf : Position → ℕ
 cellOf nullPosition = 0
+cellOf blankPosition = 0
 cellOf (held c n) = c
 cellOf removed = 0
 
 abbrev pub countOf : Position → ℕ
 countOf nullPosition = 0
+countOf blankPosition = 0
 countOf (held c n) = n
 countOf removed = 0
 
@@ -43,6 +55,7 @@ isFree seg = every isNullPosition seg
 unfoldable pub cellsOf : Segment → List ℕ
 cellsOf [] = []
 cellsOf (nullPosition ∷ ps) = cellsOf ps
+cellsOf (blankPosition ∷ ps) = cellsOf ps
 cellsOf (held c n ∷ ps) = c ∷ cellsOf ps
 cellsOf (removed ∷ ps) = cellsOf ps
 
@@ -56,15 +69,17 @@ cellAt shelf c = getD (shelf .cells) c []
 unfoldable pub positionAt : Shelf → ℕ → ℕ → Position
 positionAt shelf k i = getD (getD (shelf .records) k []) i nullPosition
 
--- The position holds this block. A removed one holds none, so that only a whole record (none removed) can equal a segment.
-abbrev pub holds : Shelf → Position → Block → Bool
-holds shelf nullPosition b = allZero b
-holds shelf (held c n) b = sameNumbers (cellAt shelf c) b
-holds shelf removed b = false
+-- The position holds this block. A removed one holds none, so that only a whole record (none removed) can equal a segment. A held one holds no blank
+-- block, so that a record with an occupied cell of 255s equals no segment.
+abbrev pub holds : Era → Shelf → Position → Block → Bool
+holds era shelf nullPosition b = allZero b
+holds era shelf blankPosition b = isBlank era b
+holds era shelf (held c n) b = let r = sameNumbers (cellAt shelf c) b in cond (isBlank era b) false r
+holds era shelf removed b = false
 
 -- the segment is equal in content to a whole record
-unfoldable pub equals : Shelf → List Block → Segment → Bool
-equals shelf [] [] = true
-equals shelf [] (p ∷ ps) = false
-equals shelf (b ∷ bs) [] = false
-equals shelf (b ∷ bs) (p ∷ ps) = let r = equals shelf bs ps in cond (holds shelf p b) r false
+unfoldable pub equals : Era → Shelf → List Block → Segment → Bool
+equals era shelf [] [] = true
+equals era shelf [] (p ∷ ps) = false
+equals era shelf (b ∷ bs) [] = false
+equals era shelf (b ∷ bs) (p ∷ ps) = let r = equals era shelf bs ps in cond (holds era shelf p b) r false

@@ -8,7 +8,7 @@ use lib.Dec.{eqb, ltb, leb}
 use Rattle.lists.specs.Lists.{every, allOf, count, sameNumbers, rises, isIn, distinct, allZero}
 use Rattle.lists.specs.Rows.{rows}
 use Rattle.model.specs.Measures.{Shape, isWithin, inRange, tableWords, poolBytes, partsFor}
-use Rattle.model.specs.State.{Block, Pointer, nullPointer, direct, indirect, Position, nullPosition, held, removed, Segment, Shelf, Version, Till, State}
+use Rattle.model.specs.State.{Block, Pointer, nullPointer, blankPointer, direct, indirect, Position, nullPosition, blankPosition, held, removed, Segment, Shelf, Version, Till, State}
 use Rattle.model.specs.Records.{isHeld, isFree, namedCells, positionAt}
 use Rattle.model.specs.Trace.{tracedBlock}
 use Rattle.model.specs.Table.{shapeOf, stateIn, stateToWords}
@@ -53,6 +53,7 @@ hasCells shelf =
 
 abbrev pub isNull : Pointer → Bool
 isNull nullPointer = true
+isNull blankPointer = false
 isNull (direct k i) = false
 isNull (indirect n) = false
 
@@ -60,6 +61,7 @@ isNull (indirect n) = false
 -- block whose pointer is not null. For the newest `newer` is [], so that it has no indirect one.
 abbrev pub leads : Shelf → List Pointer → Pointer → Bool
 leads shelf newer nullPointer = true
+leads shelf newer blankPointer = true
 leads shelf newer (direct k i) = isHeld (positionAt shelf k i)
 leads shelf newer (indirect n) = not (isNull (getD newer n nullPointer))
 
@@ -92,6 +94,7 @@ isTill s shelf t =
 
 abbrev pub leadsTo : ℕ → ℕ → Pointer → Bool
 leadsTo k i nullPointer = false
+leadsTo k i blankPointer = false
 leadsTo k i (direct k′ i′) = allOf (eqb k k′ ∷ eqb i i′ ∷ [])
 leadsTo k i (indirect n) = false
 
@@ -102,6 +105,7 @@ allPointers ts = rows (λ (t : Till). rows (λ (v : Version). v .pointers) (t .v
 -- position `i` of record `k`, where it is held, has as its count the number of direct pointers to it, at least 1
 abbrev pub isCounted : List Pointer → ℕ → ℕ → Position → Bool
 isCounted ps k i nullPosition = true
+isCounted ps k i blankPosition = true
 isCounted ps k i (held c n) = allOf (ltb 0 n ∷ eqb n (count (leadsTo k i) ps) ∷ [])
 isCounted ps k i removed = true
 

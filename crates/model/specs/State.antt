@@ -6,16 +6,18 @@ use mathlib.Core.List.{List}
 abbrev pub Block : Type 0
 Block = List ℕ
 
--- A version's pointer for one of its blocks: the block is all zero; or it is a position of a segment record; or it is the block of that number of
--- the same till's next newer held version.
+-- A version's pointer for one of its blocks: the block is all zero; or all 255s; or it is a position of a segment record; or it is the block of that
+-- number of the same till's next newer held version.
 pub data Pointer : Type 0 where
   nullPointer : Pointer
+  blankPointer : Pointer
   direct : (segment position : ℕ) → Pointer
   indirect : (block : ℕ) → Pointer
 
--- A position of a segment record: null, held (its cell, and the count of direct pointers to it), or removed.
+-- A position of a segment record: null, blank, held (its cell, and the count of direct pointers to it), or removed.
 pub data Position : Type 0 where
   nullPosition : Position
+  blankPosition : Position
   held : (cell count : ℕ) → Position
   removed : Position
 

@@ -8,7 +8,7 @@ use lib.Seq.{sets}
 use lib.Dec.{eqb, ltb}
 use Rattle.lists.specs.Lists.{keep, count}
 use Rattle.model.specs.Measures.{Measures}
-use Rattle.model.specs.State.{Block, Pointer, nullPointer, direct, indirect, Position, nullPosition, held, removed, Segment, Shelf}
+use Rattle.model.specs.State.{Block, Pointer, nullPointer, blankPointer, direct, indirect, Position, nullPosition, blankPosition, held, removed, Segment, Shelf}
 use Rattle.model.specs.Image.{zeroBlock}
 use Rattle.model.specs.Records.{freeSegment, isHeld, cellsOf, cellAt}
 use Rattle.model.specs.Runs.{Run, findRun}
@@ -18,6 +18,7 @@ use Rattle.model.specs.Place.{oneMore}
 
 unfoldable pub changeAt : (Position → Position) → List Segment → Pointer → List Segment
 changeAt f segs nullPointer = segs
+changeAt f segs blankPointer = segs
 changeAt f segs (direct k i) = set segs k (set (getD segs k []) i (f (getD (getD segs k []) i nullPosition)))
 changeAt f segs (indirect n) = segs
 
@@ -27,6 +28,7 @@ changeAll f segs (p ∷ ps) = changeAll f (changeAt f segs p) ps
 
 abbrev pub oneLess : Position → Position
 oneLess nullPosition = nullPosition
+oneLess blankPosition = blankPosition
 oneLess (held c n) = held c (pred n)
 oneLess removed = removed
 
@@ -43,18 +45,21 @@ claim shelf ps = record { records = changeAll oneMore (shelf .records) ps; cells
 -- a held position goes if its count is 0, and stays if not
 abbrev pub goes : Position → Bool
 goes nullPosition = false
+goes blankPosition = false
 goes (held c zero) = true
 goes (held c (suc n)) = false
 goes removed = false
 
 abbrev pub stays : Position → Bool
 stays nullPosition = false
+stays blankPosition = false
 stays (held c zero) = false
 stays (held c (suc n)) = true
 stays removed = false
 
 abbrev pub struck : Position → Position
 struck nullPosition = nullPosition
+struck blankPosition = blankPosition
 struck (held c zero) = removed
 struck (held c (suc n)) = held c (suc n)
 struck removed = removed
@@ -63,6 +68,7 @@ struck removed = removed
 unfoldable pub moved : ℕ → Segment → Segment
 moved c [] = []
 moved c (nullPosition ∷ ps) = nullPosition ∷ moved c ps
+moved c (blankPosition ∷ ps) = blankPosition ∷ moved c ps
 moved c (held b zero ∷ ps) = removed ∷ moved c ps
 moved c (held b (suc n) ∷ ps) = held c (suc n) ∷ moved (suc c) ps
 moved c (removed ∷ ps) = removed ∷ moved c ps

@@ -2,8 +2,8 @@
 --   header    tills, versions, blocks, records, cells; block bytes, blocks per segment, rebuild percentage, or 0, 0, 0 for 64, 8, 20
 --   till      last number, held versions, 0, 0; then a slot for each version that the till can hold, the oldest first, unused ones zero
 --   slot      number, length, 0; then a pointer word for each block that an image can have, unused ones zero
---   record    mask of held positions, mask of removed ones, 0; a cell word for each position; a count word for each position
---   pointer   0; or 2^24 + record * 16 + position; or 2 * 2^24 + block
+--   record    mask of held positions, mask of removed ones, mask of blank ones; a cell word for each position; a count word for each position
+--   pointer   0; or 2^24 + record * 16 + position; or 2 * 2^24 + block; or 3 * 2^24
 use Prim.Native.Nat.{ℕ, zero, suc, _+_, _*_, _/_, _%_, min}
 use mathlib.Core.Bool.{cond}
 use mathlib.Core.List.{List, [], _∷_, _++_, map}
@@ -12,8 +12,8 @@ use Rattle.lists.specs.Lists.{allZero}
 use Rattle.lists.specs.Rows.{joined, rows, parts, chunks, fill}
 use Rattle.lists.specs.Masks.{maskOf}
 use Rattle.model.specs.Measures.{Measures, Capacities, Shape, baseMeasures, isBase, headerWords, slotWords, tillWords, recordWords, recordsAt, partsFor}
-use Rattle.model.specs.State.{Block, Pointer, nullPointer, direct, indirect, Position, nullPosition, held, removed, Segment, Shelf, Version, Till, State}
-use Rattle.model.specs.Records.{isHeld, isRemoved, cellOf, countOf}
+use Rattle.model.specs.State.{Block, Pointer, nullPointer, blankPointer, direct, indirect, Position, nullPosition, blankPosition, held, removed, Segment, Shelf, Version, Till, State}
+use Rattle.model.specs.Records.{isHeld, isRemoved, isBlankPosition, cellOf, countOf}
 
 -- ---- to words
 
@@ -24,10 +24,11 @@ unfoldable pub pointerWord : Pointer → ℕ
 pointerWord nullPointer = 0
 pointerWord (direct k i) = kindUnit + (k * 16 + i)
 pointerWord (indirect n) = 2 * kindUnit + n
+pointerWord blankPointer = 3 * kindUnit
 
 -- bit i of a mask is position i's
 unfoldable pub recordToWords : Segment → List ℕ
-recordToWords seg = maskOf isHeld seg ∷ maskOf isRemoved seg ∷ 0 ∷ (map cellOf seg ++ map countOf seg)
+recordToWords seg = maskOf isHeld seg ∷ maskOf isRemoved seg ∷ maskOf isBlankPosition seg ∷ (map cellOf seg ++ map countOf seg)
 
 -- for images of up to `b` blocks
 unfoldable pub versionToWords : ℕ → Version → List ℕ
@@ -82,26 +83,28 @@ unfoldable pub pointerOf : ℕ → ℕ → Pointer
 pointerOf zero n = nullPointer
 pointerOf (suc zero) n = direct (n / 16) (n % 16)
 pointerOf (suc (suc zero)) n = indirect n
-pointerOf (suc (suc (suc kind))) n = nullPointer
+pointerOf (suc (suc (suc zero))) n = blankPointer
+pointerOf (suc (suc (suc (suc kind)))) n = nullPointer
 
 unfoldable pub wordToPointer : ℕ → Pointer
 wordToPointer w = pointerOf (w / kindUnit) (w % kindUnit)
 
--- from its two bits, its cell word and its count word
-unfoldable pub positionOf : ℕ → ℕ → ℕ → ℕ → Position
-positionOf zero zero c n = nullPosition
-positionOf zero (suc r) c n = removed
-positionOf (suc h) r c n = held c n
+-- from its three bits, its cell word and its count word
+unfoldable pub positionOf : ℕ → ℕ → ℕ → ℕ → ℕ → Position
+positionOf zero zero zero c n = nullPosition
+positionOf zero zero (suc b) c n = blankPosition
+positionOf zero (suc r) b c n = removed
+positionOf (suc h) r b c n = held c n
 
--- from the two masks, whose lowest bit is the first position's, the cell words and the count words
-unfoldable pub positionsIn : ℕ → ℕ → List ℕ → List ℕ → Segment
-positionsIn h r [] ns = []
-positionsIn h r (c ∷ cs) [] = []
-positionsIn h r (c ∷ cs) (n ∷ ns) = positionOf (h % 2) (r % 2) c n ∷ positionsIn (h / 2) (r / 2) cs ns
+-- from the three masks, whose lowest bit is the first position's, the cell words and the count words
+unfoldable pub positionsIn : ℕ → ℕ → ℕ → List ℕ → List ℕ → Segment
+positionsIn h r b [] ns = []
+positionsIn h r b (c ∷ cs) [] = []
+positionsIn h r b (c ∷ cs) (n ∷ ns) = positionOf (h % 2) (r % 2) (b % 2) c n ∷ positionsIn (h / 2) (r / 2) (b / 2) cs ns
 
 -- the record of `n` positions in a row of words
 unfoldable pub segmentIn : ℕ → List ℕ → Segment
-segmentIn n row = positionsIn (getD row 0 0) (getD row 1 0) (take n (drop 3 row)) (take n (drop (3 + n) row))
+segmentIn n row = positionsIn (getD row 0 0) (getD row 1 0) (getD row 2 0) (take n (drop 3 row)) (take n (drop (3 + n) row))
 
 unfoldable pub recordsIn : ℕ → List ℕ → List Segment
 recordsIn n ws = map (segmentIn n) (chunks (recordWords n) ws)

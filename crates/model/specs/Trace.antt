@@ -4,18 +4,20 @@ use mathlib.Core.List.{List, [], _∷_}
 use lib.ListN.{length, getD, take}
 use Rattle.lists.specs.Lists.{counted, largest}
 use Rattle.lists.specs.Rows.{joined}
-use Rattle.model.specs.State.{Block, Pointer, nullPointer, direct, indirect, Shelf, Version}
-use Rattle.model.specs.Image.{zeroBlock}
+use Rattle.model.specs.State.{Block, Pointer, nullPointer, blankPointer, direct, indirect, Shelf, Version}
+use Rattle.model.specs.Image.{zeroBlock, blankBlock}
 use Rattle.model.specs.Records.{cellAt, positionAt, cellOf}
 
 -- an indirect pointer's own hop and those after it
 unfoldable pub hopsVia : Pointer → (ℕ → ℕ) → ℕ
 hopsVia nullPointer next = 0
+hopsVia blankPointer next = 0
 hopsVia (direct k i) next = 0
 hopsVia (indirect n) next = suc (next n)
 
 unfoldable pub endVia : Pointer → (ℕ → Pointer) → Pointer
 endVia nullPointer next = nullPointer
+endVia blankPointer next = blankPointer
 endVia (direct k i) next = direct k i
 endVia (indirect n) next = next n
 
@@ -32,6 +34,7 @@ endOf (v ∷ newer) n = endVia (getD (v .pointers) n nullPointer) (λ k. endOf n
 -- the block at a pointer that is not indirect
 unfoldable pub blockAt : ℕ → Shelf → Pointer → Block
 blockAt bytes shelf nullPointer = zeroBlock bytes
+blockAt bytes shelf blankPointer = blankBlock bytes
 blockAt bytes shelf (direct k i) = cellAt shelf (cellOf (positionAt shelf k i))
 blockAt bytes shelf (indirect n) = zeroBlock bytes
 

@@ -1,29 +1,39 @@
--- Backup, step 2: direct pointers of the till's previous held version turn indirect.
+-- Backup, step 2: direct pointers of the till's previous held version turn blank or indirect.
 use Prim.Native.Nat.{ℕ}
-use mathlib.Core.Bool.{Bool, true, false}
+use mathlib.Core.Bool.{Bool, true, false, cond}
 use mathlib.Core.List.{List, map}
 use mathlib.Core.Option.{Option, none, some}
 use Rattle.lists.specs.Lists.{keep, firstFrom, sameNumbers}
-use Rattle.model.specs.State.{Block, Pointer, nullPointer, direct, indirect, Shelf}
+use Rattle.model.specs.State.{Block, Pointer, nullPointer, blankPointer, direct, indirect, Shelf}
+use Rattle.model.specs.Image.{Era, isBlank}
 use Rattle.model.specs.Records.{cellAt, positionAt, cellOf}
 
--- the lowest block of the new image that equals a direct pointer's block
-unfoldable pub target : Shelf → List Block → Pointer → Option ℕ
-target shelf image nullPointer = none
-target shelf image (direct k i) = firstFrom (sameNumbers (cellAt shelf (cellOf (positionAt shelf k i)))) 0 image
-target shelf image (indirect n) = none
+abbrev pub indirectAt : Option ℕ → Option Pointer
+indirectAt none = none
+indirectAt (some n) = some (indirect n)
 
-abbrev pub isFound : Option ℕ → Bool
+-- what a direct pointer to a block turns into: blank if the block is, else indirect to the lowest equal block of the new image, if there is one
+unfoldable pub turnsTo : Era → List Block → Block → Option Pointer
+turnsTo era image b = let r = indirectAt (firstFrom (sameNumbers b) 0 image) in cond (isBlank era b) (some blankPointer) r
+
+-- what a pointer turns into, if it does
+unfoldable pub target : Era → Shelf → List Block → Pointer → Option Pointer
+target era shelf image nullPointer = none
+target era shelf image blankPointer = none
+target era shelf image (direct k i) = turnsTo era image (cellAt shelf (cellOf (positionAt shelf k i)))
+target era shelf image (indirect n) = none
+
+abbrev pub isFound : Option Pointer → Bool
 isFound none = false
-isFound (some n) = true
+isFound (some q) = true
 
-abbrev pub indirectTo : Pointer → Option ℕ → Pointer
-indirectTo p none = p
-indirectTo p (some n) = indirect n
+abbrev pub foundOr : Pointer → Option Pointer → Pointer
+foundOr p none = p
+foundOr p (some q) = q
 
-unfoldable pub turn : Shelf → List Block → List Pointer → List Pointer
-turn shelf image ps = map (λ p. indirectTo p (target shelf image p)) ps
+unfoldable pub turn : Era → Shelf → List Block → List Pointer → List Pointer
+turn era shelf image ps = map (λ p. foundOr p (target era shelf image p)) ps
 
 -- those of the pointers that turn: their counts fall by 1
-unfoldable pub turning : Shelf → List Block → List Pointer → List Pointer
-turning shelf image ps = keep (λ p. isFound (target shelf image p)) ps
+unfoldable pub turning : Era → Shelf → List Block → List Pointer → List Pointer
+turning era shelf image ps = keep (λ p. isFound (target era shelf image p)) ps

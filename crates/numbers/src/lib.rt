@@ -2,7 +2,7 @@
 ghost use mathlib.Core.Path.{_≡_};
 ghost use Prim.Native.Nat.{_*_, _+_, _/_, _≤_, _<_};
 ghost use Rattle.model.specs.Measures.{baseMeasures, isBase, recordWords, partsFor};
-ghost use Rattle.model.specs.State.{nullPointer, direct, indirect};
+ghost use Rattle.model.specs.State.{nullPointer, blankPointer, direct, indirect};
 ghost use Rattle.model.specs.Table.{pointerWord, measureWord, measuresIn};
 ghost use Rattle.laws.specs.Ranges.{Measured};
 ghost use Rattle.numbers.specs.Measures.{measuresOf};
@@ -115,6 +115,13 @@ impl Pointer {
         Pointer(0)
     }
 
+    // Of a block of 255s.
+    pub fn blank() -> Pointer
+        ensures { λ r. ⌜ r .0 ≡ pointerWord blankPointer ⌝ }
+    {
+        Pointer(0x300_0000)
+    }
+
     // To a held position of a record.
     pub fn direct(k: RecordNumber, position: u32) -> Pointer
         requires { ⌜ (k .0 ≤ 4096) × (position < 16) ⌝ }
@@ -184,7 +191,7 @@ impl RecordNumber {
     }
 }
 
-// How many words a record of so many positions has: the two masks, a zero, the cells, the counts.
+// How many words a record of so many positions has: the three masks, the cells, the counts.
 pub fn row_words(positions: usize) -> usize
     requires { ⌜ positions ≤ 16 ⌝ }
     ensures { λ r. ⌜ (r ≡ recordWords positions) × (r ≤ 35) ⌝ }

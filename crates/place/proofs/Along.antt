@@ -9,7 +9,7 @@ use native.Mathlib.Omega.{arith}
 use lib.ListN.{drop, getD, length, length-append, length-drop, length-set, set, take}
 use lib.Seq.{getD-set-other, getD-set-same, length-take-le, take-all, take-at}
 use Rattle.lists.proofs.Places.{row-next, row-room}
-use Rattle.model.specs.Image.{blocksFrom, imageSegments, segmentsFrom}
+use Rattle.model.specs.Image.{blocksFrom, imageSegments, segmentsFrom, withBlanks}
 use Rattle.model.specs.Measures.{Measures}
 use Rattle.model.specs.Place.{Placed, afterSome, placeAll, placeNext, placeSegment}
 use Rattle.model.specs.Runs.{freeCells}
@@ -61,7 +61,7 @@ segments-next : (bytes k : ℕ) (image : List ℕ) (at n j : ℕ) → j < n → 
 unfolding segmentsFrom
 segments-next bytes k image at n j h = let e : n - j ≡ suc (n - (j + 1)) = omega arith in rw e
 
-all-refused : (n : ℕ) (segs : List (List Block)) → placeAll (refused n) segs ≡ refused n
+all-refused : (n : ℕ) (segs : List (List Block)) → placeAll withBlanks (refused n) segs ≡ refused n
 unfolding placeAll placeNext
 all-refused n [] = refl
 all-refused n (seg ∷ segs) = all-refused n segs
@@ -93,7 +93,7 @@ pub record Along (m : Measures) (image pool₀ ws₀ : List ℕ) (free₀ : List
   pub cells : free ≡ freeCells (shelfIn m pool ws)
   pub rest : RestFree (used + j) (recordsIn (m .segmentBlocks) ws)
   pub written : take first words ≡ map pointerWord pointers
-  pub left : placeAll (done (record { shelf = shelfIn m pool ws; pointers = pointers })) (segmentsFrom (m .blockBytes) (m .segmentBlocks) image from (n - j)) ≡ placedIn m image pool₀ ws₀
+  pub left : placeAll withBlanks (done (record { shelf = shelfIn m pool ws; pointers = pointers })) (segmentsFrom (m .blockBytes) (m .segmentBlocks) image from (n - j)) ≡ placedIn m image pool₀ ws₀
   pub back : undoUpto m placed j (shelfIn m pool ws) ≡ shelfIn m pool₀ ws₀
   pub samePool : length pool ≡ length pool₀
   pub sameTable : length ws ≡ length ws₀
@@ -136,7 +136,7 @@ module _ {m : Measures} {image pool₀ ws₀ : List ℕ} {free₀ : List Bool} {
   seg = blocksFrom (m .blockBytes) image from k
 
   -- one more
-  step-left : j < n → placeAll (afterSome (a .pointers) (placeSegment s seg)) (segmentsFrom (m .blockBytes) k image (from + k * m .blockBytes) (n - (j + 1))) ≡ placedIn m image pool₀ ws₀
+  step-left : j < n → placeAll withBlanks (afterSome (a .pointers) (placeSegment withBlanks s seg)) (segmentsFrom (m .blockBytes) k image (from + k * m .blockBytes) (n - (j + 1))) ≡ placedIn m image pool₀ ws₀
   unfolding placeAll placeNext
   step-left h = rw (segments-next (m .blockBytes) k image from n j h) at (a .left)
 
@@ -146,12 +146,12 @@ module _ {m : Measures} {image pool₀ ws₀ : List ℕ} {free₀ : List Bool} {
 
   module _ (h : j < n) (hp : j < length placed₀) (hw : length words₀ ≡ segmentsIn m image * k) (width : ℕ) (ew : width ≡ k * m .blockBytes) where
     pub along-step : (r i : ℕ) (pool′ ws′ : List ℕ) (free′ : List Bool) (w : List ℕ) → length pool′ ≡ length pool → length ws′ ≡ length ws → length free′ ≡ length free → length w ≡ k
-        → Did m s (placeSegment s seg) r i pool ws pool′ ws′ free′ w → r ≡ 0
+        → Did m s (placeSegment withBlanks s seg) r i pool ws pool′ ws′ free′ w → r ≡ 0
         → Along m image pool₀ ws₀ free₀ placed₀ words₀ n used pool′ ws′ free′ (set placed j i) (take first words ++ (w ++ drop k (drop first words))) (from + width) (first + k) (j + 1)
     unfolding afterSome
-    along-step r i pool′ ws′ free′ w np nw nf lw d z = go (placeSegment s seg) refl d
+    along-step r i pool′ ws′ free′ w np nw nf lw d z = go (placeSegment withBlanks s seg) refl d
       where
-        go : (o : Outcome Placed) → placeSegment s seg ≡ o → Did m s o r i pool ws pool′ ws′ free′ w
+        go : (o : Outcome Placed) → placeSegment withBlanks s seg ≡ o → Did m s o r i pool ws pool′ ws′ free′ w
             → Along m image pool₀ ws₀ free₀ placed₀ words₀ n used pool′ ws′ free′ (set placed j i) (take first words ++ (w ++ drop k (drop first words))) (from + width) (first + k) (j + 1)
         go (refused x) e q = absurd (omega (arith, q .0, q .1))
         go (done p) e q =
@@ -182,12 +182,12 @@ module _ {m : Measures} {image pool₀ ws₀ : List ℕ} {free₀ : List Bool} {
             }
 
   -- refused: the buffers are as they were before this segment
-  pub along-stop : j < n → (r i : ℕ) (pool′ ws′ : List ℕ) (free′ : List Bool) (w : List ℕ) → Did m s (placeSegment s seg) r i pool ws pool′ ws′ free′ w → (r ≡ 0 → ⊥)
+  pub along-stop : j < n → (r i : ℕ) (pool′ ws′ : List ℕ) (free′ : List Bool) (w : List ℕ) → Did m s (placeSegment withBlanks s seg) r i pool ws pool′ ws′ free′ w → (r ≡ 0 → ⊥)
       → (pool′ ≡ pool) × (ws′ ≡ ws) × (placedIn m image pool₀ ws₀ ≡ refused r)
   unfolding afterSome
-  along-stop h r i pool′ ws′ free′ w d z = go (placeSegment s seg) refl d
+  along-stop h r i pool′ ws′ free′ w d z = go (placeSegment withBlanks s seg) refl d
     where
-      go : (o : Outcome Placed) → placeSegment s seg ≡ o → Did m s o r i pool ws pool′ ws′ free′ w → (pool′ ≡ pool) × (ws′ ≡ ws) × (placedIn m image pool₀ ws₀ ≡ refused r)
+      go : (o : Outcome Placed) → placeSegment withBlanks s seg ≡ o → Did m s o r i pool ws pool′ ws′ free′ w → (pool′ ≡ pool) × (ws′ ≡ ws) × (placedIn m image pool₀ ws₀ ≡ refused r)
       go (refused x) e q =
           (q .2, q .3, sym (rw e at (step-left h)) ∙ all-refused x (segmentsFrom (m .blockBytes) k image (from + k * m .blockBytes) (n - (j + 1))) ∙ ap {B = Outcome Placed} (λ (y : ℕ). refused y) (sym (q .0)))
       go (done p) e q = absurd (z (q .0))

@@ -11,9 +11,10 @@ use lib.Seq.{getD-set-other, getD-set-same}
 use borrow.Author.Tests.{eqb-false, eqb-true, ltb-false, ltb-true}
 use Rattle.lists.specs.Lists.{every, firstFrom}
 use Rattle.lists.proofs.First.{Lowest, first-lowest}
+use Rattle.model.specs.Image.{withBlanks}
 use Rattle.model.specs.Place.{Placed, newPositions, oneMore, placeSegment, share, write}
 use Rattle.model.specs.Records.{isFree}
-use Rattle.model.specs.State.{Block, Segment, Shelf, done, held, nullPosition, removed}
+use Rattle.model.specs.State.{Block, Segment, Shelf, done, held, nullPosition, blankPosition, removed}
 use Rattle.laws.proofs.Segments.{IfDone, segment-cases}
 use Rattle.place_seek.specs.Seek.{RestFree}
 
@@ -21,6 +22,7 @@ free-more : (ps : Segment) → isFree ps ≡ true → isFree (map oneMore ps) �
 unfolding isFree every
 free-more [] e = refl
 free-more (nullPosition ∷ ps) e = free-more ps e
+free-more (blankPosition ∷ ps) e = absurd (false≢true e)
 free-more (held c n ∷ ps) e = absurd (false≢true e)
 free-more (removed ∷ ps) e = absurd (false≢true e)
 
@@ -50,10 +52,10 @@ module _ (u : ℕ) (rs : List Segment) (r : RestFree u rs) where
       go true q = absurd (false≢true (sym (w .4 u (omega (arith, ltb-true u k q, w .1))) ∙ r u (omega arith) (omega (arith, ltb-true u k q, w .1, w .2))))
       go false q = omega (arith, ltb-false u k q)
 
-pub rest-after : (s : Shelf) (seg : List Block) (u : ℕ) → RestFree u (s .records) → (p : Placed) → placeSegment s seg ≡ done p → RestFree (u + 1) (p .shelf .records)
+pub rest-after : (s : Shelf) (seg : List Block) (u : ℕ) → RestFree u (s .records) → (p : Placed) → placeSegment withBlanks s seg ≡ done p → RestFree (u + 1) (p .shelf .records)
 unfolding share write
 rest-after s seg u r p e =
     subst (IfDone (λ (q : Placed). RestFree (u + 1) (q .shelf .records))) e
-    (segment-cases (λ q. RestFree (u + 1) (q .shelf .records)) s seg (λ z j h l. r j (omega arith) l)
+    (segment-cases withBlanks (λ q. RestFree (u + 1) (q .shelf .records)) s seg (λ z j h l. r j (omega arith) l)
     (λ ne k f. rest-set u (s .records) r k (map oneMore (getD (s .records) k [])) (λ h l. free-more (getD (s .records) k []) (r k (omega arith) l)))
-    (λ ne k f run q. rest-set u (s .records) r k (newPositions (run .start) seg) (λ h l. absurd (omega (arith, lowest-free u (s .records) r k f)))))
+    (λ ne k f run q. rest-set u (s .records) r k (newPositions withBlanks (run .start) seg) (λ h l. absurd (omega (arith, lowest-free u (s .records) r k f)))))

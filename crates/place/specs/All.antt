@@ -3,7 +3,7 @@ use mathlib.Core.Path.{_≡_}
 use mathlib.Core.List.{List, [], map}
 use Prim.Native.Nat.{_*_, _≤_, ℕ}
 use lib.ListN.{length}
-use Rattle.model.specs.Image.{imageSegments}
+use Rattle.model.specs.Image.{imageSegments, withBlanks}
 use Rattle.model.specs.Measures.{Measures, partsFor}
 use Rattle.model.specs.Place.{Placed, placeAll}
 use Rattle.model.specs.State.{Outcome, done, refused}
@@ -22,7 +22,7 @@ pub record AllReady (m : Measures) (image pool ws words : List ℕ) : Type 0 whe
 
 -- step 1 of a backup, on the shelf that the buffers hold
 abbrev pub placedIn : Measures → List ℕ → List ℕ → List ℕ → Outcome Placed
-placedIn m image pool ws = placeAll (done (record { shelf = shelfIn m pool ws; pointers = [] })) (imageSegments (m .blockBytes) (m .segmentBlocks) image)
+placedIn m image pool ws = placeAll withBlanks (done (record { shelf = shelfIn m pool ws; pointers = [] })) (imageSegments (m .blockBytes) (m .segmentBlocks) image)
 
 pub record AllDone (m : Measures) (p : Placed) (pool ws words : List ℕ) : Type 0 where
   pub told : Told m pool ws (p .shelf)

@@ -1,5 +1,6 @@
--- A segment's blocks that are not null, marked and copied one after the other.
+-- A segment's blocks, marked, and those that are stored copied one after the other.
 use mathlib.Core.Path.{_∙_, _≡_, ap, refl, sym}
+use mathlib.Core.Bool.{Bool, cond}
 use mathlib.Core.List.{List}
 use Prim.Native.Nat.{_%_, _*_, _+_, _-_, _/_, _<_, _≤_, suc, zero, ℕ}
 use native.Mathlib.Nat.{mul-le-mul, suc-mul}
@@ -10,8 +11,8 @@ use Rattle.lists.specs.Lists.{keep}
 use Rattle.lists.specs.Masks.{maskOf}
 use Rattle.lists.proofs.Places.{row-in}
 use Rattle.lists.proofs.Rows.{fill-all, fill-take}
-use Rattle.model.specs.Image.{blockFrom, blocksFrom}
-use Rattle.model.specs.Place.{nonNull}
+use Rattle.model.specs.Image.{blockFrom, blocksFrom, withBlanks}
+use Rattle.model.specs.Place.{stored}
 use Rattle.model.specs.State.{Block}
 use Rattle.model.specs.Table.{cellsIn}
 use Rattle.laws.proofs.Image.{blocks-next}
@@ -37,20 +38,23 @@ unfolding blockFrom
 block-whole bytes image at h =
     sym (fill-all bytes (take bytes (drop at image)) (length-take-le bytes (drop at image) (omega (arith, length-drop at image)))) ∙ fill-take bytes (drop at image)
 
--- ---- marks
+-- ---- marks of any kind
 
--- one block more, at the front
-pub marks-front : (bytes : ℕ) (image : List ℕ) (at n i m : ℕ) → 0 < i → i ≤ n → m ≡ marks (blocksFrom bytes image (at + bytes) (n - i))
-    → mark (blockFrom bytes image at) + 2 * m ≡ marks (blocksFrom bytes image at (n - (i - 1)))
-unfolding maskOf
-marks-front bytes image at n i m h l e =
-    let q : n - (i - 1 + 1) ≡ n - i = omega arith in
-    rw (blocks-next bytes image at n (i - 1) (omega arith), q, ← e)
+module _ (f : Block → Bool) (bytes : ℕ) (image : List ℕ) where
+  -- one block more, at the front
+  pub mask-front : (at n i m : ℕ) → 0 < i → i ≤ n → m ≡ maskOf f (blocksFrom bytes image (at + bytes) (n - i))
+      → cond (f (blockFrom bytes image at)) 1 0 + 2 * m ≡ maskOf f (blocksFrom bytes image at (n - (i - 1)))
+  unfolding maskOf
+  mask-front at n i m h l e =
+      let q : n - (i - 1 + 1) ≡ n - i = omega arith in
+      rw (blocks-next bytes image at n (i - 1) (omega arith), q, ← e)
 
--- none at first
-pub marks-end : (bytes : ℕ) (image : List ℕ) (at n : ℕ) → 0 ≡ marks (blocksFrom bytes image at (n - n))
-unfolding blocksFrom maskOf
-marks-end bytes image at n = let z : n - n ≡ 0 = omega arith in rw z
+  -- none at first
+  pub mask-end : (at n : ℕ) → 0 ≡ maskOf f (blocksFrom bytes image at (n - n))
+  unfolding blocksFrom maskOf
+  mask-end at n = let z : n - n ≡ 0 = omega arith in rw z
+
+-- ---- the marks of those that are stored
 
 -- of n blocks i are done
 module _ (bytes : ℕ) (image : List ℕ) (n m at i : ℕ) (h : i < n) (e : m ≡ marks (blocksFrom bytes image at (n - i))) where
@@ -66,12 +70,12 @@ module _ (bytes : ℕ) (image : List ℕ) (n m at i : ℕ) (h : i < n) (e : m �
 pub record Copied (bytes : ℕ) (image pool₀ : List ℕ) (n : ℕ) (all : List Block) (pool : List ℕ) (m cell at i : ℕ) : Type 0 where
   pub within : i ≤ n
   pub mask : m ≡ marks (blocksFrom bytes image at (n - i))
-  pub room : cell + length (nonNull (blocksFrom bytes image at (n - i))) ≤ length (cellsIn bytes pool₀)
+  pub room : cell + length (stored withBlanks (blocksFrom bytes image at (n - i))) ≤ length (cellsIn bytes pool₀)
   pub same : length pool ≡ length pool₀
-  pub left : sets (cellsIn bytes pool) cell (nonNull (blocksFrom bytes image at (n - i))) ≡ all
+  pub left : sets (cellsIn bytes pool) cell (stored withBlanks (blocksFrom bytes image at (n - i))) ≡ all
 
-pub copied-start : (bytes : ℕ) (image pool : List ℕ) (n m cell at : ℕ) → m ≡ marks (blocksFrom bytes image at n) → cell + length (nonNull (blocksFrom bytes image at n)) ≤ length (cellsIn bytes pool)
-    → Copied bytes image pool n (sets (cellsIn bytes pool) cell (nonNull (blocksFrom bytes image at n))) pool m cell at 0
+pub copied-start : (bytes : ℕ) (image pool : List ℕ) (n m cell at : ℕ) → m ≡ marks (blocksFrom bytes image at n) → cell + length (stored withBlanks (blocksFrom bytes image at n)) ≤ length (cellsIn bytes pool)
+    → Copied bytes image pool n (sets (cellsIn bytes pool) cell (stored withBlanks (blocksFrom bytes image at n))) pool m cell at 0
 copied-start bytes image pool n m cell at e r =
     let z : n - 0 ≡ n = omega arith in
     record { within = omega arith; mask = rw z e; room = rw z r; same = refl; left = rw z }
@@ -84,8 +88,8 @@ module _ {bytes : ℕ} {image pool₀ : List ℕ} {n : ℕ} {all : List Block} {
   copied-bit = bit-first bytes image n m at i h (p .mask)
 
   -- the stored blocks that are left
-  copied-count : length (nonNull (blocksFrom bytes image at (n - i))) ≡ m % 2 + length (nonNull (blocksFrom bytes image (at + bytes) (n - (i + 1))))
-  copied-count = ap (λ (l : List Block). length (nonNull l)) (blocks-next bytes image at n i h) ∙ kept-count b _ ∙ rw copied-bit
+  copied-count : length (stored withBlanks (blocksFrom bytes image at (n - i))) ≡ m % 2 + length (stored withBlanks (blocksFrom bytes image (at + bytes) (n - (i + 1))))
+  copied-count = ap (λ (l : List Block). length (stored withBlanks l)) (blocks-next bytes image at n i h) ∙ kept-count b _ ∙ rw copied-bit
 
   pub copied-room : 0 < bytes → m % 2 ≡ 1 → cell * bytes + bytes ≤ length pool
   copied-room z e = omega (arith, p .same, row-in (length pool₀) bytes z cell (omega (arith, p .room, copied-count, cells-count bytes pool₀)))
@@ -97,11 +101,11 @@ module _ {bytes : ℕ} {image pool₀ : List ℕ} {n : ℕ} {all : List Block} {
     mask = bits-rest bytes image n m at i h (p .mask);
     room = omega (arith, p .room, copied-count);
     same = l ∙ p .same;
-    left = rw (e, copied-bit) (sym (kept-next (cellsIn bytes pool) cell b _) ∙ ap (λ (l : List Block). sets (cellsIn bytes pool) cell (nonNull l)) (sym (blocks-next bytes image at n i h)) ∙ p .left);
+    left = rw (e, copied-bit) (sym (kept-next (cellsIn bytes pool) cell b _) ∙ ap (λ (l : List Block). sets (cellsIn bytes pool) cell (stored withBlanks l)) (sym (blocks-next bytes image at n i h)) ∙ p .left);
   }
 
 pub copied-end : {bytes : ℕ} {image pool₀ : List ℕ} {n : ℕ} {all : List Block} {pool : List ℕ} {m cell at i : ℕ} → Copied bytes image pool₀ n all pool m cell at i → n ≤ i → cellsIn bytes pool ≡ all
-unfolding nonNull keep blocksFrom
+unfolding stored keep blocksFrom
 copied-end {n = n} {i = i} p h =
     let z : n - i ≡ 0 = omega arith in
     rw z at (p .left)

@@ -1,3 +1,4 @@
 -- Laws that the proofs of the functions use.
+pub mod Blank
 pub mod Matching
 pub mod Copying

@@ -1,4 +1,5 @@
-// The lowest whole record that equals a segment of the image; a segment's blocks that are not null: their mask, and their copies in consecutive cells.
+// The lowest whole record that equals a segment of the image; the masks of a segment's blocks that are stored and that are blank; and the stored ones'
+// copies in consecutive cells.
 ghost use mathlib.Core.Path.{_≡_};
 ghost use mathlib.Core.Bool.{true, false, cond};
 ghost use Prim.Native.Nat.{ℕ, _+_, _*_, _%_, _≤_, _<_};
@@ -7,21 +8,21 @@ ghost use lib.Seq.{sets};
 ghost use Rattle.lists.specs.Lists.{allZero, firstFrom};
 ghost use Rattle.model.specs.Measures.{recordWords};
 ghost use Rattle.model.specs.State.{Position, Segment, Shelf};
-ghost use Rattle.model.specs.Image.{blockFrom, blocksFrom};
-ghost use Rattle.model.specs.Records.{isHeld, isRemoved, cellOf, holds, equals};
-ghost use Rattle.model.specs.Place.{nonNull};
+ghost use Rattle.model.specs.Image.{blockFrom, blocksFrom, isBlank, withBlanks};
+ghost use Rattle.model.specs.Records.{isHeld, isRemoved, isBlankPosition, cellOf, holds, equals};
+ghost use Rattle.model.specs.Place.{stored};
 ghost use Rattle.model.specs.Table.{recordToWords, recordsIn, cellsIn, shelfIn};
 ghost use Rattle.numbers.specs.Measures.{measuresOf};
 ghost use Rattle.shelf.specs.Stored.{Stored};
 ghost use Rattle.place_words.specs.Words.{asOption};
-ghost use Rattle.place_words.specs.Marks.{mark, marks, kept};
+ghost use Rattle.place_words.specs.Marks.{mark, marks, isErased, blankMark, blanks, kept};
 ghost use Rattle.place_seek.specs.Seek.{RestFree};
 use numbers::Block;
 use numbers::Cell;
 use numbers::Measures;
 use numbers::RecordNumber;
 
-// Whether a position that is not removed holds the image's block at a byte. The bit is the block's mark.
+// Whether a position that is not removed, and is blank just where the image's block at a byte is, holds that block. The bit is the block's mark.
 fn position_holds(
     image: &[u8],
     at: usize,
@@ -32,7 +33,7 @@ fn position_holds(
     bytes: usize,
 ) -> bool
     requires { ⌜ (at ≤ 131072) × (bit ≡ mark (blockFrom bytes (now image) at)) × (held < 2) × (cell .0 * bytes + bytes ≤ length (now pool)) × (64 ≤ bytes) × (bytes ≤ 512) × (bytes % 64 ≡ 0) ⌝ }
-    ensures { λ r. ⌜ ((s : Shelf) (p : Position) → s .cells ≡ cellsIn bytes (now (pool .entry)) → held ≡ cond (isHeld p) 1 0 → cell .0 ≡ cellOf p → isRemoved p ≡ false → r ≡ holds s p (blockFrom bytes (now (image .entry)) at)) ⌝ }
+    ensures { λ r. ⌜ ((s : Shelf) (p : Position) → s .cells ≡ cellsIn bytes (now (pool .entry)) → held ≡ cond (isHeld p) 1 0 → cell .0 ≡ cellOf p → isRemoved p ≡ false → isBlankPosition p ≡ isErased (blockFrom bytes (now (image .entry)) at) → r ≡ holds withBlanks s p (blockFrom bytes (now (image .entry)) at)) ⌝ }
 {
     if held == 1 {
         let from = cell.byte(bytes);
@@ -52,7 +53,7 @@ fn first_differs(
     bytes: usize,
 ) -> bool
     requires { ⌜ (mask % 2 ≡ mark (blockFrom bytes (now image) from)) × (cell .0 * bytes + bytes ≤ length (now pool)) × (0 < bytes) × (bytes ≤ 512) ⌝ }
-    ensures { λ r. ⌜ (r ≡ true → (s : Shelf) (p : Position) → s .cells ≡ cellsIn bytes (now (pool .entry)) → cell .0 ≡ cellOf p → false ≡ holds s p (blockFrom bytes (now (image .entry)) from)) ⌝ }
+    ensures { λ r. ⌜ (r ≡ true → (s : Shelf) (p : Position) → s .cells ≡ cellsIn bytes (now (pool .entry)) → cell .0 ≡ cellOf p → false ≡ holds withBlanks s p (blockFrom bytes (now (image .entry)) from)) ⌝ }
 {
     if mask % 2 == 0 {
         return false;
@@ -61,7 +62,8 @@ fn first_differs(
     pool[at] != image[from]
 }
 
-// Whether a record that has lost no position equals the segment of the image that begins at a byte, whose mask is given.
+// Whether a record that has lost no position, and whose blank ones are those of the segment of the image that begins at a byte, equals it. The segment's
+// mask is given.
 fn positions_equal(
     image: &[u8],
     from: usize,
@@ -71,8 +73,8 @@ fn positions_equal(
     bytes: usize,
     n: usize,
 ) -> bool
-    requires { ⌜ (from ≤ 65536) × (mask ≡ marks (blocksFrom bytes (now image) from n)) × (length (now row) ≡ recordWords n) × (getD (now row) 1 0 ≡ 0) × ((i : ℕ) → i < n → getD (now row) (3 + i) 0 * bytes + bytes ≤ length (now pool)) × (64 ≤ bytes) × (bytes ≤ 512) × (bytes % 64 ≡ 0) × (n ≤ 16) ⌝ }
-    ensures { λ r. ⌜ ((s : Shelf) (seg : Segment) → s .cells ≡ cellsIn bytes (now (pool .entry)) → length seg ≡ n → now (row .entry) ≡ recordToWords seg → r ≡ equals s (blocksFrom bytes (now (image .entry)) from n) seg) ⌝ }
+    requires { ⌜ (from ≤ 65536) × (mask ≡ marks (blocksFrom bytes (now image) from n)) × (length (now row) ≡ recordWords n) × (getD (now row) 1 0 ≡ 0) × ((i : ℕ) → i < n → getD (now row) (3 + i) 0 * bytes + bytes ≤ length (now pool)) × (64 ≤ bytes) × (bytes ≤ 512) × (bytes % 64 ≡ 0) × (n ≤ 16) × (getD (now row) 2 0 ≡ blanks (blocksFrom bytes (now image) from n)) ⌝ }
+    ensures { λ r. ⌜ ((s : Shelf) (seg : Segment) → s .cells ≡ cellsIn bytes (now (pool .entry)) → length seg ≡ n → now (row .entry) ≡ recordToWords seg → r ≡ equals withBlanks s (blocksFrom bytes (now (image .entry)) from n) seg) ⌝ }
 {
     let mut held = row[0];
     let mut m = mask;
@@ -91,21 +93,25 @@ fn positions_equal(
     true
 }
 
-// The same for any record. One that has lost a position equals none, one whose held mask is less than the segment's lacks a block, and the first byte
-// settles most others: none of these is compared.
+// The same for any record. One that has lost a position equals none, nor one whose blank positions are others than the segment's; one whose held mask is
+// less than the segment's lacks a block; and the first byte settles most others: none of these is compared.
 fn record_equals(
     image: &[u8],
     from: usize,
     mask: u32,
+    blank: u32,
     pool: &[u8],
     row: &[u32],
     bytes: usize,
     n: usize,
 ) -> bool
-    requires { ⌜ (from ≤ 65536) × (mask ≡ marks (blocksFrom bytes (now image) from n)) × (length (now row) ≡ recordWords n) × ((i : ℕ) → i < n → getD (now row) (3 + i) 0 * bytes + bytes ≤ length (now pool)) × (64 ≤ bytes) × (bytes ≤ 512) × (bytes % 64 ≡ 0) × (0 < n) × (n ≤ 16) ⌝ }
-    ensures { λ r. ⌜ ((s : Shelf) (seg : Segment) → s .cells ≡ cellsIn bytes (now (pool .entry)) → length seg ≡ n → now (row .entry) ≡ recordToWords seg → r ≡ equals s (blocksFrom bytes (now (image .entry)) from n) seg) ⌝ }
+    requires { ⌜ (from ≤ 65536) × (mask ≡ marks (blocksFrom bytes (now image) from n)) × (length (now row) ≡ recordWords n) × ((i : ℕ) → i < n → getD (now row) (3 + i) 0 * bytes + bytes ≤ length (now pool)) × (64 ≤ bytes) × (bytes ≤ 512) × (bytes % 64 ≡ 0) × (0 < n) × (n ≤ 16) × (blank ≡ blanks (blocksFrom bytes (now image) from n)) ⌝ }
+    ensures { λ r. ⌜ ((s : Shelf) (seg : Segment) → s .cells ≡ cellsIn bytes (now (pool .entry)) → length seg ≡ n → now (row .entry) ≡ recordToWords seg → r ≡ equals withBlanks s (blocksFrom bytes (now (image .entry)) from n) seg) ⌝ }
 {
     if row[1] != 0 {
+        return false;
+    }
+    if row[2] != blank {
         return false;
     }
     if row[0] < mask {
@@ -118,19 +124,20 @@ fn record_equals(
     positions_equal(image, from, mask, pool, row, bytes, n)
 }
 
-// The lowest record that equals the segment, whose mask is given and not 0, or how many records there are. The records from `used` on are free, and
+// The lowest record that equals the segment, whose masks are given, the first not 0, or how many records there are. The records from `used` on are free, and
 // a free one equals no such segment: they are not looked at.
 pub fn match_record(
     image: &[u8],
     from: usize,
     mask: u32,
+    blank: u32,
     pool: &[u8],
     records: &[u32],
     used: usize,
     m: Measures,
 ) -> RecordNumber
-    requires { ⌜ (from ≤ 65536) × (mask ≡ marks (blocksFrom (m .bytes) (now image) from (m .blocks))) × (0 < mask) × Stored (measuresOf m) (now pool) (now records) × RestFree used (recordsIn (m .blocks) (now records)) ⌝ }
-    ensures { λ r. ⌜ (asOption (length (recordsIn (m .blocks) (now (records .entry)))) (r .0) ≡ firstFrom (equals (shelfIn (measuresOf m) (now (pool .entry)) (now (records .entry))) (blocksFrom (m .bytes) (now (image .entry)) from (m .blocks))) 0 (recordsIn (m .blocks) (now (records .entry)))) × (r .0 ≤ length (recordsIn (m .blocks) (now (records .entry)))) ⌝ }
+    requires { ⌜ (from ≤ 65536) × (mask ≡ marks (blocksFrom (m .bytes) (now image) from (m .blocks))) × (0 < mask) × Stored (measuresOf m) (now pool) (now records) × RestFree used (recordsIn (m .blocks) (now records)) × (blank ≡ blanks (blocksFrom (m .bytes) (now image) from (m .blocks))) ⌝ }
+    ensures { λ r. ⌜ (asOption (length (recordsIn (m .blocks) (now (records .entry)))) (r .0) ≡ firstFrom (equals withBlanks (shelfIn (measuresOf m) (now (pool .entry)) (now (records .entry))) (blocksFrom (m .bytes) (now (image .entry)) from (m .blocks))) 0 (recordsIn (m .blocks) (now (records .entry)))) × (r .0 ≤ length (recordsIn (m .blocks) (now (records .entry)))) ⌝ }
 {
     let width = numbers::row_words(m.blocks);
     let count = numbers::rows(records.len(), m.blocks);
@@ -143,6 +150,7 @@ pub fn match_record(
             image,
             from,
             mask,
+            blank,
             pool,
             &records[at..end],
             m.bytes,
@@ -168,31 +176,64 @@ fn block_null(image: &[u8], at: usize, bytes: usize) -> bool
     blocks::block_zero(image, at, bytes)
 }
 
-// 0 for a block that is all zero, else 1.
-fn block_mark(image: &[u8], at: usize, bytes: usize) -> u32
+// Whether the image's block at a byte is all 255s. One that the image's end cuts is filled up with zeros, so it is not.
+fn block_blank(image: &[u8], at: usize, bytes: usize) -> bool
     requires { ⌜ (at ≤ 131072) × (64 ≤ bytes) × (bytes ≤ 512) × (bytes % 64 ≡ 0) ⌝ }
-    ensures { λ r. ⌜ r ≡ mark (blockFrom bytes (now (image .entry)) at) ⌝ }
+    ensures { λ r. ⌜ r ≡ isBlank withBlanks (blockFrom bytes (now (image .entry)) at) ⌝ }
 {
-    if block_null(image, at, bytes) {
-        return 0;
+    let end = at + bytes;
+    if end <= image.len() {
+        return blocks::pieces_filled(&image[at..end], 255);
     }
-    1
+    false
 }
 
-// The mask of the segment's blocks that are not null, from the last block on.
-pub fn segment_mask(image: &[u8], from: usize, bytes: usize, n: usize) -> u32
-    requires { ⌜ (from ≤ 65536) × (64 ≤ bytes) × (bytes ≤ 512) × (bytes % 64 ≡ 0) × (n ≤ 16) ⌝ }
-    ensures { λ r. ⌜ (r ≡ marks (blocksFrom bytes (now (image .entry)) from n)) × (r < 65536) ⌝ }
+// Of a segment's blocks, those that are stored and those that are blank; a block is at most one of them.
+pub struct Masks {
+    pub stored: u32,
+    pub blank: u32,
+}
+
+// A block's own bit of each.
+fn block_marks(image: &[u8], at: usize, bytes: usize) -> Masks
+    requires { ⌜ (at ≤ 131072) × (64 ≤ bytes) × (bytes ≤ 512) × (bytes % 64 ≡ 0) ⌝ }
+    ensures { λ r. ⌜ (r .stored ≡ mark (blockFrom bytes (now (image .entry)) at)) × (r .blank ≡ blankMark (blockFrom bytes (now (image .entry)) at)) ⌝ }
 {
-    let mut m: u32 = 0;
+    if block_null(image, at, bytes) {
+        return Masks {
+            stored: 0,
+            blank: 0,
+        };
+    }
+    if block_blank(image, at, bytes) {
+        return Masks {
+            stored: 0,
+            blank: 1,
+        };
+    }
+    Masks {
+        stored: 1,
+        blank: 0,
+    }
+}
+
+// The segment's, from its last block on.
+pub fn segment_masks(image: &[u8], from: usize, bytes: usize, n: usize) -> Masks
+    requires { ⌜ (from ≤ 65536) × (64 ≤ bytes) × (bytes ≤ 512) × (bytes % 64 ≡ 0) × (n ≤ 16) ⌝ }
+    ensures { λ r. ⌜ (r .stored ≡ marks (blocksFrom bytes (now (image .entry)) from n)) × (r .blank ≡ blanks (blocksFrom bytes (now (image .entry)) from n)) × (r .stored < 65536) ⌝ }
+{
+    let mut stored: u32 = 0;
+    let mut blank: u32 = 0;
     let mut at = from + Block(n as u32).byte(bytes);
     let mut i = n;
     while 0 < i {
         i = i - 1;
         at = at - bytes;
-        m = block_mark(image, at, bytes) + 2 * m;
+        let here = block_marks(image, at, bytes);
+        stored = here.stored + 2 * stored;
+        blank = here.blank + 2 * blank;
     }
-    m
+    Masks { stored, blank }
 }
 
 // The image's block at a byte goes into a cell, where the bit is set.
@@ -208,7 +249,7 @@ fn copy_if(bit: u32, image: &[u8], at: usize, pool: &mut [u8], cell: Cell, bytes
     blocks::put_block(image, at, &mut pool[start..end], bytes);
 }
 
-// The segment's blocks that are not null go into consecutive cells.
+// The segment's stored blocks go into consecutive cells.
 pub fn copy_blocks(
     image: &[u8],
     from: usize,
@@ -218,8 +259,8 @@ pub fn copy_blocks(
     bytes: usize,
     n: usize,
 )
-    requires { ⌜ (from ≤ 65536) × (mask ≡ marks (blocksFrom bytes (now image) from n)) × (first .0 + length (nonNull (blocksFrom bytes (now image) from n)) ≤ length (cellsIn bytes (now pool))) × (length (cellsIn bytes (now pool)) ≤ 32768) × (0 < bytes) × (bytes ≤ 512) × (n ≤ 16) ⌝ }
-    ensures { λ _. ⌜ cellsIn bytes (now (pool .exit)) ≡ sets (cellsIn bytes (now (pool .entry))) (first .0) (nonNull (blocksFrom bytes (now (image .entry)) from n)) ⌝ }
+    requires { ⌜ (from ≤ 65536) × (mask ≡ marks (blocksFrom bytes (now image) from n)) × (first .0 + length (stored withBlanks (blocksFrom bytes (now image) from n)) ≤ length (cellsIn bytes (now pool))) × (length (cellsIn bytes (now pool)) ≤ 32768) × (0 < bytes) × (bytes ≤ 512) × (n ≤ 16) ⌝ }
+    ensures { λ _. ⌜ cellsIn bytes (now (pool .exit)) ≡ sets (cellsIn bytes (now (pool .entry))) (first .0) (stored withBlanks (blocksFrom bytes (now (image .entry)) from n)) ⌝ }
 {
     let mut m = mask;
     let mut cell = first.0;

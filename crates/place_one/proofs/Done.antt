@@ -7,14 +7,14 @@ use Prim.Native.Nat.{_*_, _+_, _-_, _<_, _≤_, suc, zero, ℕ}
 use native.Mathlib.Omega.{arith}
 use lib.ListN.{drop, getD, length, length-map, take}
 use lib.Seq.{length-sets, sets}
-use Rattle.lists.specs.Lists.{allZero, firstFrom}
+use Rattle.lists.specs.Lists.{firstFrom}
 use Rattle.lists.proofs.Puts.{first-found}
-use Rattle.model.specs.Image.{blocksFrom}
+use Rattle.model.specs.Image.{blocksFrom, isBare, withBlanks}
 use Rattle.model.specs.Measures.{Measures, recordWords}
-use Rattle.model.specs.Place.{newPositions, nonNull, oneMore, placeSegment, pointersTo, share, write}
+use Rattle.model.specs.Place.{barePosition, newPositions, oneMore, placeSegment, pointersTo, share, stored, write}
 use Rattle.model.specs.Records.{cellOf, cellsOf, equals, isFree}
 use Rattle.model.specs.Runs.{Run, findRun, scan}
-use Rattle.model.specs.State.{Block, Segment, Shelf, held, nullPointer, nullPosition}
+use Rattle.model.specs.State.{Block, Segment, Shelf, held, nullPosition}
 use Rattle.model.specs.Table.{cellsIn, pointerWord, recordToWords, recordsIn, shelfIn}
 use Rattle.laws.proofs.Image.{length-blocks}
 use Rattle.laws.proofs.RoundTrip.{length-record}
@@ -29,26 +29,27 @@ use Rattle.place_undo.proofs.Undoing.{undo-past}
 use Rattle.place_words.specs.Marks.{mark, marks}
 use Rattle.place_words.specs.Words.{asOption}
 use Rattle.place_words.proofs.Marks.{kept-count}
+use Rattle.place_words.proofs.Rowing.{bare-cell}
 use Rattle.place_words.proofs.Reading.{as-none, as-some, cells-below}
 use Rattle.place_one.specs.Did.{Did}
 use Rattle.place_one.specs.Ready.{Masked, Ready, Unmatched}
-use Rattle.place_one.proofs.Cases.{place-full, place-null, place-share, place-tight, place-write, some-blocks}
+use Rattle.place_one.proofs.Cases.{bare-pointers, place-bare, place-full, place-share, place-tight, place-write, some-blocks}
 use Rattle.place_one.proofs.Undone.{free-none, more-cells, room, undo-share, undo-write}
 
-new-length : (c : ℕ) (seg : List Block) → length (newPositions c seg) ≡ length seg
+new-length : (c : ℕ) (seg : List Block) → length (newPositions withBlanks c seg) ≡ length seg
 unfolding newPositions
 new-length c [] = refl
-new-length c (b ∷ seg) = ap suc (new-length (cond (allZero b) c (suc c)) seg)
+new-length c (b ∷ seg) = ap suc (new-length (cond (isBare withBlanks b) c (suc c)) seg)
 
 -- a new position's cell is one of the run's, or 0
-new-inside : (n c : ℕ) (seg : List Block) → 0 < n → c + length (nonNull seg) ≤ n → (i : ℕ) → cellOf (getD (newPositions c seg) i nullPosition) < n
+new-inside : (n c : ℕ) (seg : List Block) → 0 < n → c + length (stored withBlanks seg) ≤ n → (i : ℕ) → cellOf (getD (newPositions withBlanks c seg) i nullPosition) < n
 unfolding newPositions
 new-inside n c [] z l i = z
-new-inside n c (b ∷ seg) z l i = go (allZero b) refl (λ d q j. new-inside n d seg z q j) i
+new-inside n c (b ∷ seg) z l i = go (isBare withBlanks b) refl (λ d q j. new-inside n d seg z q j) i
   where
-    go : (t : Bool) → allZero b ≡ t → ((d : ℕ) → d + length (nonNull seg) ≤ n → (j : ℕ) → cellOf (getD (newPositions d seg) j nullPosition) < n)
-        → (i : ℕ) → cellOf (getD (cond t nullPosition (held c 1) ∷ newPositions (cond t c (suc c)) seg) i nullPosition) < n
-    go true e r zero = z
+    go : (t : Bool) → isBare withBlanks b ≡ t → ((d : ℕ) → d + length (stored withBlanks seg) ≤ n → (j : ℕ) → cellOf (getD (newPositions withBlanks d seg) j nullPosition) < n)
+        → (i : ℕ) → cellOf (getD (cond t (barePosition b) (held c 1) ∷ newPositions withBlanks (cond t c (suc c)) seg) i nullPosition) < n
+    go true e r zero = rw (bare-cell b) z
     go true e r (suc i) = r c (let y : mark b ≡ 0 = ap {B = ℕ} (λ (t : Bool). cond (not t) 1 0) e in omega (arith, kept-count b seg)) i
     go false e r zero = let y : mark b ≡ 1 = ap {B = ℕ} (λ (t : Bool). cond (not t) 1 0) e in omega (arith, kept-count b seg)
     go false e r (suc i) = r (suc c) (let y : mark b ≡ 1 = ap {B = ℕ} (λ (t : Bool). cond (not t) 1 0) e in omega (arith, kept-count b seg)) i
@@ -82,15 +83,16 @@ module _ {m : Measures} {from : ℕ} {pool ws : List ℕ} {free : List Bool} {wo
   unfolding shelfIn
   few-marks = omega (arith, ap length (r .cells), length-free s, few-cells st)
 
-  -- ---- a null segment
+  -- ---- a segment that has no stored block
 
-  pub did-null : (image : List ℕ) (mask : ℕ) → mask ≡ marks (segment image) → mask ≡ 0 → (words′ : List ℕ) → words′ ≡ map pointerWord (map (λ b. nullPointer) (segment image))
-      → Did m s (placeSegment s (segment image)) 0 4096 pool ws pool ws free words′
+  pub did-bare : (image : List ℕ) (mask k : ℕ) → mask ≡ marks (segment image) → mask ≡ 0 → (words′ : List ℕ) → words′ ≡ map pointerWord (pointersTo withBlanks k 0 (segment image))
+      → Did m s (placeSegment withBlanks s (segment image)) 0 4096 pool ws pool ws free words′
   unfolding shelfIn
-  did-null image mask e z words′ f =
-      rw (place-null s (segment image) (sym e ∙ z)) (refl, record { told = st .told; cells = r .cells; pointers = f; undo = undo-past m s 4096 (few-records st) })
+  did-bare image mask k e z words′ f =
+      rw (place-bare s (segment image) (sym e ∙ z))
+      (refl, record { told = st .told; cells = r .cells; pointers = f ∙ ap (map pointerWord) (bare-pointers k 0 (segment image) (sym e ∙ z)); undo = undo-past m s 4096 (few-records st) })
 
-  module _ {image : List ℕ} {mask : ℕ} (mk : Masked m image from mask) where
+  module _ {image : List ℕ} {mask blank : ℕ} (mk : Masked m image from mask blank) where
     abbrev seg : List Block
     seg = segment image
 
@@ -99,26 +101,26 @@ module _ {m : Measures} {from : ℕ} {pool ws : List ℕ} {free : List Bool} {wo
 
     -- ---- a record that serves
 
-    pub did-share : (k : ℕ) → k < length segs → asOption (length segs) k ≡ firstFrom (equals s seg) 0 segs
+    pub did-share : (k : ℕ) → k < length segs → asOption (length segs) k ≡ firstFrom (equals withBlanks s seg) 0 segs
         → (at width : ℕ) → at ≡ k * recordWords n → width ≡ recordWords n
-        → (row words′ : List ℕ) → row ≡ recordToWords (map oneMore (getD segs k [])) → words′ ≡ map pointerWord (pointersTo k 0 seg)
-        → Did m s (placeSegment s seg) 0 k pool ws pool (take at ws ++ (row ++ drop (at + width - at) (drop at ws))) free words′
+        → (row words′ : List ℕ) → row ≡ recordToWords (map oneMore (getD segs k [])) → words′ ≡ map pointerWord (pointersTo withBlanks k 0 seg)
+        → Did m s (placeSegment withBlanks s seg) 0 k pool ws pool (take at ws ++ (row ++ drop (at + width - at) (drop at ws))) free words′
     unfolding share shelfIn
     did-share k h e at width ea ew row words′ er ep =
-        let found : firstFrom (equals s seg) 0 segs ≡ some k = sym e ∙ as-some (length segs) k h in
+        let found : firstFrom (equals withBlanks s seg) 0 segs ≡ some k = sym e ∙ as-some (length segs) k h in
         let rec : Segment = getD segs k [] in
         rw (place-share s seg not-null k found, er) (
           refl,
           record {
             told = record { cells = st .told .cells; records = part-put n ws segs told k h at width ea ew (map oneMore rec) (length-map rec oneMore ∙ count-at n ws segs told k h) };
-            cells = r .cells ∙ free-same s (share s seg k .shelf .records) (named-same segs k (map oneMore rec) (more-cells rec));
+            cells = r .cells ∙ free-same s (share withBlanks s seg k .shelf .records) (named-same segs k (map oneMore rec) (more-cells rec));
             pointers = ep;
-            undo = undo-share m s seg k h (first-found [] (equals s seg) segs k found .1) not-null (λ i. r .counts .some k i);
+            undo = undo-share m s seg k h (first-found [] (equals withBlanks s seg) segs k found .1) not-null (λ i. r .counts .some k i);
           },
         )
 
     module _ (no : Unmatched m image from pool ws) where
-      pub did-full : (k : ℕ) → length segs ≤ k → asOption (length segs) k ≡ firstFrom isFree 0 segs → Did m s (placeSegment s seg) 14 0 pool ws pool ws free words
+      pub did-full : (k : ℕ) → length segs ≤ k → asOption (length segs) k ≡ firstFrom isFree 0 segs → Did m s (placeSegment withBlanks s seg) 14 0 pool ws pool ws free words
       unfolding shelfIn
       did-full k h e = rw (place-full s seg not-null no (sym e ∙ as-none (length segs) k h)) (refl, omega arith, refl, refl)
 
@@ -126,27 +128,27 @@ module _ {m : Measures} {from : ℕ} {pool ws : List ℕ} {free : List Bool} {wo
         found : firstFrom isFree 0 segs ≡ some k
         found = sym e ∙ as-some (length segs) k h
 
-        pub did-tight : scan (length (nonNull seg)) free 0 0 none ≡ none → Did m s (placeSegment s seg) 16 0 pool ws pool ws free words
+        pub did-tight : scan (length (stored withBlanks seg)) free 0 0 none ≡ none → Did m s (placeSegment withBlanks s seg) 16 0 pool ws pool ws free words
         unfolding shelfIn
         did-tight f = rw (place-tight s seg not-null no k found (rw (r .cells) at f)) (refl, omega arith, refl, refl)
 
         -- ---- a free record, and a run
 
-        module _ (run : Run) (f : scan (length (nonNull seg)) free 0 0 none ≡ some run) where
-          ok : RunOk (Free s) (length (nonNull seg)) run
+        module _ (run : Run) (f : scan (length (stored withBlanks seg)) free 0 0 none ≡ some run) where
+          ok : RunOk (Free s) (length (stored withBlanks seg)) run
           unfolding findRun
-          ok = run-found s (length (nonNull seg)) run (rw (r .cells) at f)
+          ok = run-found s (length (stored withBlanks seg)) run (rw (r .cells) at f)
 
           unused : isFree (getD segs k []) ≡ true
           unused = first-found [] isFree segs k found .1
 
           abbrev new : Segment
-          new = newPositions (run .start) seg
+          new = newPositions withBlanks (run .start) seg
 
           pub new-sized : length new ≡ n
           new-sized = new-length (run .start) seg ∙ seg-length image
 
-          pub write-room : run .start + length (nonNull seg) ≤ length (cellsIn (m .blockBytes) pool)
+          pub write-room : run .start + length (stored withBlanks seg) ≤ length (cellsIn (m .blockBytes) pool)
           unfolding shelfIn
           write-room = room m s (st .exact) (st .told .cells .blocks) seg run ok (some-blocks seg not-null)
 
@@ -158,9 +160,9 @@ module _ {m : Measures} {from : ℕ} {pool ws : List ℕ} {free : List Bool} {wo
               (ap length er ∙ length-record n new new-sized, rw nf (cells-below n _ new new-sized (new-inside _ (run .start) seg (some-cell st) write-room) row er))
 
           pub did-write : (at width : ℕ) → at ≡ k * recordWords n → width ≡ recordWords n → (pool′ row words′ : List ℕ) (free′ : List Bool) → length pool′ ≡ length pool
-              → cellsIn (m .blockBytes) pool′ ≡ sets (cellsIn (m .blockBytes) pool) (run .start) (nonNull seg) → row ≡ recordToWords new → free′ ≡ taken (cellsOf new) free
-              → words′ ≡ map pointerWord (pointersTo k 0 seg)
-              → Did m s (placeSegment s seg) 0 k pool ws pool′ (take at ws ++ (row ++ drop (at + width - at) (drop at ws))) free′ words′
+              → cellsIn (m .blockBytes) pool′ ≡ sets (cellsIn (m .blockBytes) pool) (run .start) (stored withBlanks seg) → row ≡ recordToWords new → free′ ≡ taken (cellsOf new) free
+              → words′ ≡ map pointerWord (pointersTo withBlanks k 0 seg)
+              → Did m s (placeSegment withBlanks s seg) 0 k pool ws pool′ (take at ws ++ (row ++ drop (at + width - at) (drop at ws))) free′ words′
           unfolding write shelfIn
           did-write at width ea ew pool′ row words′ free′ np ec er ef ep =
               let c : CellsTold (m .blockBytes) pool′ (cellsIn (m .blockBytes) pool′) = cells-told (m .blockBytes) _ pool′ (omega (arith, st .measured .someBytes)) (np ∙ stored-cells st) in
@@ -168,7 +170,7 @@ module _ {m : Measures} {from : ℕ} {pool ws : List ℕ} {free : List Bool} {wo
                 refl,
                 record {
                   told = record { cells = rw ec at c; records = part-put n ws segs told k h at width ea ew new new-sized };
-                  cells = ef ∙ rw (r .cells) (free-new s k new (sets (cellsIn (m .blockBytes) pool) (run .start) (nonNull seg)) h (free-none (getD segs k []) unused) (length-sets (cellsIn (m .blockBytes) pool) (run .start) (nonNull seg)));
+                  cells = ef ∙ rw (r .cells) (free-new s k new (sets (cellsIn (m .blockBytes) pool) (run .start) (stored withBlanks seg)) h (free-none (getD segs k []) unused) (length-sets (cellsIn (m .blockBytes) pool) (run .start) (stored withBlanks seg)));
                   pointers = ep;
                   undo = undo-write m s (st .exact) (st .told .cells .blocks) seg run ok k h (count-at n ws segs told k h) unused;
                 },

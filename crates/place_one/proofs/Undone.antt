@@ -12,13 +12,15 @@ use Rattle.lists.specs.Each.{Each}
 use Rattle.lists.specs.Lists.{allZero, every, isIn, keep}
 use Rattle.lists.specs.Masks.{maskOf}
 use Rattle.lists.proofs.Each.{each-at}
-use Rattle.model.specs.Image.{zeroBlock}
+use Rattle.lists.proofs.Tests.{cond-true}
+use Rattle.model.specs.Image.{isBare, isBlank, withBlanks, zeroBlock}
 use Rattle.model.specs.Measures.{Measures}
-use Rattle.model.specs.Place.{newPositions, nonNull, oneMore, share, write}
+use Rattle.model.specs.Place.{barePosition, newPositions, oneMore, share, stored, write}
 use Rattle.model.specs.Records.{cellsOf, countOf, equals, freeSegment, isFree, isHeld}
 use Rattle.model.specs.Runs.{Run}
-use Rattle.model.specs.State.{Block, Segment, Shelf, held, nullPosition, removed}
+use Rattle.model.specs.State.{Block, Position, Segment, Shelf, held, nullPosition, blankPosition, removed}
 use Rattle.model.specs.Sweep.{clearCells, freeRecord, oneLess}
+use Rattle.laws.proofs.Bare.{blank-bare, by-bare-position, null-bare}
 use Rattle.laws.proofs.Runs.{Free, RunOk}
 use Rattle.laws.proofs.Sweep.{Exact}
 use Rattle.shelf.proofs.Inside.{unnamed-zero}
@@ -33,30 +35,36 @@ pub more-cells : (ps : Segment) → cellsOf (map oneMore ps) ≡ cellsOf ps
 unfolding cellsOf
 more-cells [] = refl
 more-cells (nullPosition ∷ ps) = more-cells ps
+more-cells (blankPosition ∷ ps) = more-cells ps
 more-cells (held c n ∷ ps) = ap (λ (l : List ℕ). c ∷ l) (more-cells ps)
 more-cells (removed ∷ ps) = more-cells ps
 
 less-more : (ps : Segment) → map oneLess (map oneMore ps) ≡ ps
 less-more [] = refl
 less-more (nullPosition ∷ ps) = ap (λ (l : Segment). nullPosition ∷ l) (less-more ps)
+less-more (blankPosition ∷ ps) = ap (λ (l : Segment). blankPosition ∷ l) (less-more ps)
 less-more (held c n ∷ ps) = ap (λ (l : Segment). held c n ∷ l) (less-more ps)
 less-more (removed ∷ ps) = ap (λ (l : Segment). removed ∷ l) (less-more ps)
 
+unmarked : (b : Block) → isBare withBlanks b ≡ true → mark b ≡ 0
+unmarked b e = ap {B = ℕ} (λ (t : Bool). cond (not t) 1 0) e
+
 some-count : (s : Shelf) (bs : List Block) (ps : Segment) → ((i : ℕ) → isHeld (getD ps i nullPosition) ≡ true → 0 < countOf (getD ps i nullPosition))
-    → equals s bs ps ≡ true → (marks bs ≡ 0 → ⊥) → allZero (map countOf ps) ≡ false
+    → equals withBlanks s bs ps ≡ true → (marks bs ≡ 0 → ⊥) → allZero (map countOf ps) ≡ false
 unfolding equals maskOf allZero every
 some-count s [] ps f q h = absurd (h refl)
 some-count s (x ∷ bs) [] f q h = absurd (false≢true q)
-some-count s (x ∷ bs) (nullPosition ∷ ps) f q h = go (allZero x) refl q (λ r n. some-count s bs ps (λ i. f (suc i)) r n)
-  where
-    go : (t : Bool) → allZero x ≡ t → cond t (equals s bs ps) false ≡ true → (equals s bs ps ≡ true → (marks bs ≡ 0 → ⊥) → allZero (map countOf ps) ≡ false) → allZero (map countOf ps) ≡ false
-    go true e r g = g r (λ z. h (let y : mark x ≡ 0 = ap {B = ℕ} (λ (t : Bool). cond (not t) 1 0) e in omega arith))
-    go false e r g = absurd (false≢true r)
+some-count s (x ∷ bs) (nullPosition ∷ ps) f q h =
+    let (z, r) = cond-true (allZero x) (equals withBlanks s bs ps) q in
+    some-count s bs ps (λ i. f (suc i)) r (λ n. h (let y : mark x ≡ 0 = unmarked x (null-bare withBlanks x z) in omega arith))
+some-count s (x ∷ bs) (blankPosition ∷ ps) f q h =
+    let (z, r) = cond-true (isBlank withBlanks x) (equals withBlanks s bs ps) q in
+    some-count s bs ps (λ i. f (suc i)) r (λ n. h (let y : mark x ≡ 0 = unmarked x (blank-bare withBlanks x z) in omega arith))
 some-count s (x ∷ bs) (held c n ∷ ps) f q h = rw (ne-eqb n 0 (λ z. omega (arith, f 0 refl)))
 some-count s (x ∷ bs) (removed ∷ ps) f q h = absurd (false≢true q)
 
-pub undo-share : (m : Measures) (s : Shelf) (seg : List Block) (k : ℕ) → k < length (s .records) → equals s seg (getD (s .records) k []) ≡ true → (marks seg ≡ 0 → ⊥)
-    → ((i : ℕ) → isHeld (getD (getD (s .records) k []) i nullPosition) ≡ true → 0 < countOf (getD (getD (s .records) k []) i nullPosition)) → undoRecord m (share s seg k .shelf) k ≡ s
+pub undo-share : (m : Measures) (s : Shelf) (seg : List Block) (k : ℕ) → k < length (s .records) → equals withBlanks s seg (getD (s .records) k []) ≡ true → (marks seg ≡ 0 → ⊥)
+    → ((i : ℕ) → isHeld (getD (getD (s .records) k []) i nullPosition) ≡ true → 0 < countOf (getD (getD (s .records) k []) i nullPosition)) → undoRecord m (share withBlanks s seg k .shelf) k ≡ s
 unfolding undoRecord undoIn share
 undo-share m s seg k h q n f =
     let rec : Segment = getD (s .records) k [] in
@@ -69,6 +77,7 @@ pub free-none : (ps : Segment) → isFree ps ≡ true → cellsOf ps ≡ []
 unfolding isFree every cellsOf
 free-none [] h = refl
 free-none (nullPosition ∷ ps) h = free-none ps h
+free-none (blankPosition ∷ ps) h = absurd (false≢true h)
 free-none (held c n ∷ ps) h = absurd (false≢true h)
 free-none (removed ∷ ps) h = absurd (false≢true h)
 
@@ -78,42 +87,47 @@ free-replicate [] zero e h = refl
 free-replicate [] (suc n) e h = absurd (omega arith)
 free-replicate (p ∷ ps) zero e h = absurd (omega arith)
 free-replicate (nullPosition ∷ ps) (suc n) e h = ap (λ (l : Segment). nullPosition ∷ l) (free-replicate ps n (omega arith) h)
+free-replicate (blankPosition ∷ ps) (suc n) e h = absurd (false≢true h)
 free-replicate (held c k ∷ ps) (suc n) e h = absurd (false≢true h)
 free-replicate (removed ∷ ps) (suc n) e h = absurd (false≢true h)
 
+bare-cells : (b : Block) (ps : Segment) → cellsOf (barePosition b ∷ ps) ≡ cellsOf ps
+unfolding cellsOf
+bare-cells b ps = by-bare-position b (λ (p : Position). cellsOf (p ∷ ps) ≡ cellsOf ps) refl refl
+
 -- a cell that the new positions do not name stays
-pub sets-other : (cells : List Block) (c : ℕ) (seg : List Block) (x : ℕ) → isIn x (cellsOf (newPositions c seg)) ≡ false → getD (sets cells c (nonNull seg)) x [] ≡ getD cells x []
-unfolding newPositions cellsOf nonNull keep
+pub sets-other : (cells : List Block) (c : ℕ) (seg : List Block) (x : ℕ) → isIn x (cellsOf (newPositions withBlanks c seg)) ≡ false → getD (sets cells c (stored withBlanks seg)) x [] ≡ getD cells x []
+unfolding newPositions cellsOf stored keep
 sets-other cells c [] x h = refl
-sets-other cells c (b ∷ seg) x h = go (allZero b) (λ l d q. sets-other l d seg x q) h
+sets-other cells c (b ∷ seg) x h = go (isBare withBlanks b) (λ l d q. sets-other l d seg x q) h
   where
-    go : (t : Bool) → ((l : List Block) (d : ℕ) → isIn x (cellsOf (newPositions d seg)) ≡ false → getD (sets l d (nonNull seg)) x [] ≡ getD l x [])
-        → isIn x (cellsOf (cond t nullPosition (held c 1) ∷ newPositions (cond t c (suc c)) seg)) ≡ false
-        → getD (sets cells c (cond (not t) (b ∷ nonNull seg) (nonNull seg))) x [] ≡ getD cells x []
-    go true r h = r cells c h
+    go : (t : Bool) → ((l : List Block) (d : ℕ) → isIn x (cellsOf (newPositions withBlanks d seg)) ≡ false → getD (sets l d (stored withBlanks seg)) x [] ≡ getD l x [])
+        → isIn x (cellsOf (cond t (barePosition b) (held c 1) ∷ newPositions withBlanks (cond t c (suc c)) seg)) ≡ false
+        → getD (sets cells c (cond (not t) (b ∷ stored withBlanks seg) (stored withBlanks seg))) x [] ≡ getD cells x []
+    go true r h = r cells c (rw (bare-cells b (newPositions withBlanks c seg)) at h)
     go false r h = step (eqb x c) refl (unfold isIn in h)
       where
-        step : (t : Bool) → eqb x c ≡ t → cond (eqb x c) true (isIn x (cellsOf (newPositions (suc c) seg))) ≡ false → getD (sets (set cells c b) (suc c) (nonNull seg)) x [] ≡ getD cells x []
+        step : (t : Bool) → eqb x c ≡ t → cond (eqb x c) true (isIn x (cellsOf (newPositions withBlanks (suc c) seg))) ≡ false → getD (sets (set cells c b) (suc c) (stored withBlanks seg)) x [] ≡ getD cells x []
         step true e q = absurd (false≢true (sym (rw e at q)))
         step false e q = r (set cells c b) (suc c) (rw e at q) ∙ getD-set-other cells c x b [] (eqb-false x c e)
 
 -- a cell that they name is one of the run's
-new-within : (c : ℕ) (seg : List Block) (x : ℕ) → isIn x (cellsOf (newPositions c seg)) ≡ true → (c ≤ x) × (x < c + length (nonNull seg))
+new-within : (c : ℕ) (seg : List Block) (x : ℕ) → isIn x (cellsOf (newPositions withBlanks c seg)) ≡ true → (c ≤ x) × (x < c + length (stored withBlanks seg))
 unfolding newPositions cellsOf isIn
 new-within c [] x h = absurd (false≢true h)
-new-within c (b ∷ seg) x h = go (allZero b) refl (λ d q. new-within d seg x q) h
+new-within c (b ∷ seg) x h = go (isBare withBlanks b) refl (λ d q. new-within d seg x q) h
   where
-    go : (t : Bool) → allZero b ≡ t → ((d : ℕ) → isIn x (cellsOf (newPositions d seg)) ≡ true → (d ≤ x) × (x < d + length (nonNull seg)))
-        → isIn x (cellsOf (cond t nullPosition (held c 1) ∷ newPositions (cond t c (suc c)) seg)) ≡ true → (c ≤ x) × (x < c + length (nonNull (b ∷ seg)))
+    go : (t : Bool) → isBare withBlanks b ≡ t → ((d : ℕ) → isIn x (cellsOf (newPositions withBlanks d seg)) ≡ true → (d ≤ x) × (x < d + length (stored withBlanks seg)))
+        → isIn x (cellsOf (cond t (barePosition b) (held c 1) ∷ newPositions withBlanks (cond t c (suc c)) seg)) ≡ true → (c ≤ x) × (x < c + length (stored withBlanks (b ∷ seg)))
     go true e r h =
         let z : mark b ≡ 0 = ap {B = ℕ} (λ (t : Bool). cond (not t) 1 0) e in
-        let q = r c h in (q .0, omega (arith, q .1, kept-count b seg))
+        let q = r c (rw (bare-cells b (newPositions withBlanks c seg)) at h) in (q .0, omega (arith, q .1, kept-count b seg))
     go false e r h = step (eqb x c) refl h
       where
         z : mark b ≡ 1
         z = ap {B = ℕ} (λ (t : Bool). cond (not t) 1 0) e
 
-        step : (t : Bool) → eqb x c ≡ t → cond (eqb x c) true (isIn x (cellsOf (newPositions (suc c) seg))) ≡ true → (c ≤ x) × (x < c + length (nonNull (b ∷ seg)))
+        step : (t : Bool) → eqb x c ≡ t → cond (eqb x c) true (isIn x (cellsOf (newPositions withBlanks (suc c) seg))) ≡ true → (c ≤ x) × (x < c + length (stored withBlanks (b ∷ seg)))
         step true q h = let y : x ≡ c = eqb-true x c q in (omega arith, omega (arith, z, kept-count b seg))
         step false q h = let w = r (suc c) (rw q at h) in (omega (arith, w .0), omega (arith, w .1, z, kept-count b seg))
 
@@ -133,35 +147,35 @@ clear-at bytes cells (c ∷ cs) x h = clear-at bytes (set cells c (zeroBlock byt
     go false e true = rw e
     go false e false = rw e (getD-set-other cells c x (zeroBlock bytes) [] (eqb-false x c e))
 
-new-zero : (c : ℕ) (bs : List Block) → allZero (map countOf (map oneLess (newPositions c bs))) ≡ true
+new-zero : (c : ℕ) (bs : List Block) → allZero (map countOf (map oneLess (newPositions withBlanks c bs))) ≡ true
 unfolding newPositions allZero every
 new-zero c [] = refl
-new-zero c (x ∷ bs) = go (allZero x) (λ d. new-zero d bs)
+new-zero c (x ∷ bs) = go (isBare withBlanks x) (λ d. new-zero d bs)
   where
-    go : (t : Bool) → ((d : ℕ) → allZero (map countOf (map oneLess (newPositions d bs))) ≡ true)
-        → allZero (map countOf (map oneLess (cond t nullPosition (held c 1) ∷ newPositions (cond t c (suc c)) bs))) ≡ true
-    go true r = r c
+    go : (t : Bool) → ((d : ℕ) → allZero (map countOf (map oneLess (newPositions withBlanks d bs))) ≡ true)
+        → allZero (map countOf (map oneLess (cond t (barePosition x) (held c 1) ∷ newPositions withBlanks (cond t c (suc c)) bs))) ≡ true
+    go true r = by-bare-position x (λ (p : Position). allZero (map countOf (map oneLess (p ∷ newPositions withBlanks c bs))) ≡ true) (r c) (r c)
     go false r = r (suc c)
 
 module _ (m : Measures) (s : Shelf) (x₀ : Exact s) (whole : Each (λ (b : Block). length b ≡ m .blockBytes) (s .cells)) (seg : List Block)
-    (run : Run) (ok : RunOk (Free s) (length (nonNull seg)) run) where
+    (run : Run) (ok : RunOk (Free s) (length (stored withBlanks seg)) run) where
   abbrev bytes : ℕ
   bytes = m .blockBytes
 
-  pub room : 0 < length (nonNull seg) → run .start + length (nonNull seg) ≤ length (s .cells)
-  room z = let f = ok .free (length (nonNull seg) - 1) (omega (arith, ok .enough)) in omega (arith, f .inside)
+  pub room : 0 < length (stored withBlanks seg) → run .start + length (stored withBlanks seg) ≤ length (s .cells)
+  room z = let f = ok .free (length (stored withBlanks seg) - 1) (omega (arith, ok .enough)) in omega (arith, f .inside)
 
-  cleared : (clearCells bytes) (sets (s .cells) (run .start) (nonNull seg)) (cellsOf (newPositions (run .start) seg)) ≡ s .cells
+  cleared : (clearCells bytes) (sets (s .cells) (run .start) (stored withBlanks seg)) (cellsOf (newPositions withBlanks (run .start) seg)) ≡ s .cells
   cleared =
-      let new : List ℕ = cellsOf (newPositions (run .start) seg) in
-      let n : length (clearCells bytes (sets (s .cells) (run .start) (nonNull seg)) new) ≡ length (s .cells) = length-clear bytes (sets (s .cells) (run .start) (nonNull seg)) new ∙ length-sets (s .cells) (run .start) (nonNull seg) in
-      ext-getD [] (clearCells bytes (sets (s .cells) (run .start) (nonNull seg)) new) (s .cells) n
+      let new : List ℕ = cellsOf (newPositions withBlanks (run .start) seg) in
+      let n : length (clearCells bytes (sets (s .cells) (run .start) (stored withBlanks seg)) new) ≡ length (s .cells) = length-clear bytes (sets (s .cells) (run .start) (stored withBlanks seg)) new ∙ length-sets (s .cells) (run .start) (stored withBlanks seg) in
+      ext-getD [] (clearCells bytes (sets (s .cells) (run .start) (stored withBlanks seg)) new) (s .cells) n
       (λ x h.
       let hx : x < length (s .cells) = omega (arith, n) in
-      clear-at bytes (sets (s .cells) (run .start) (nonNull seg)) new x (omega (arith, length-sets (s .cells) (run .start) (nonNull seg))) ∙ go x hx (isIn x new) refl)
+      clear-at bytes (sets (s .cells) (run .start) (stored withBlanks seg)) new x (omega (arith, length-sets (s .cells) (run .start) (stored withBlanks seg))) ∙ go x hx (isIn x new) refl)
     where
-      go : (x : ℕ) → x < length (s .cells) → (t : Bool) → isIn x (cellsOf (newPositions (run .start) seg)) ≡ t
-          → cond t (zeroBlock bytes) (getD (sets (s .cells) (run .start) (nonNull seg)) x []) ≡ getD (s .cells) x []
+      go : (x : ℕ) → x < length (s .cells) → (t : Bool) → isIn x (cellsOf (newPositions withBlanks (run .start) seg)) ≡ t
+          → cond t (zeroBlock bytes) (getD (sets (s .cells) (run .start) (stored withBlanks seg)) x []) ≡ getD (s .cells) x []
       go x hx true e =
           let w = new-within (run .start) seg x e in
           let f = ok .free (x - run .start) (omega (arith, w .0, w .1, ok .enough)) in
@@ -169,9 +183,9 @@ module _ (m : Measures) (s : Shelf) (x₀ : Exact s) (whole : Each (λ (b : Bloc
           sym (unnamed-zero s x₀ m x (each-at (λ (b : Block). length b ≡ bytes) [] (s .cells) whole x hx) (rw y at (f .unnamed)))
       go x hx false e = sets-other (s .cells) (run .start) seg x e
 
-  pub undo-write : (k : ℕ) → k < length (s .records) → length (getD (s .records) k []) ≡ m .segmentBlocks → isFree (getD (s .records) k []) ≡ true → undoRecord m (write s seg k run .shelf) k ≡ s
+  pub undo-write : (k : ℕ) → k < length (s .records) → length (getD (s .records) k []) ≡ m .segmentBlocks → isFree (getD (s .records) k []) ≡ true → undoRecord m (write withBlanks s seg k run .shelf) k ≡ s
   unfolding undoRecord undoIn write freeRecord freeSegment
   undo-write k h sized fr =
-      let new : Segment = newPositions (run .start) seg in
+      let new : Segment = newPositions withBlanks (run .start) seg in
       let old : replicate (m .segmentBlocks) nullPosition ≡ getD (s .records) k [] = sym (free-replicate (getD (s .records) k []) (m .segmentBlocks) sized fr) in
       rw (getD-set-same (s .records) k new [] h, new-zero (run .start) seg, less-cells new, cleared, set-set (s .records) k new (replicate (m .segmentBlocks) nullPosition), old, set-getD (s .records) k [])

@@ -3,7 +3,7 @@ use mathlib.Core.Path.{_≡_}
 use mathlib.Core.Bool.{Bool}
 use mathlib.Core.List.{List, map}
 use Prim.Native.Nat.{_<_, ℕ}
-use Rattle.model.specs.Image.{blocksFrom}
+use Rattle.model.specs.Image.{blocksFrom, withBlanks}
 use Rattle.model.specs.Measures.{Measures}
 use Rattle.model.specs.Place.{Placed, placeSegment}
 use Rattle.model.specs.Runs.{freeCells}
@@ -27,4 +27,4 @@ Did m s (done p) r k pool₀ ws₀ pool ws free words = (r ≡ 0) × Done m s p 
 -- the image's segment that begins at a byte is placed on the shelf that the buffers hold
 abbrev pub DidSegment : Measures → List ℕ → ℕ → ℕ → ℕ → List ℕ → List ℕ → List ℕ → List ℕ → List Bool → List ℕ → Type 0
 DidSegment m image from r k pool₀ ws₀ pool ws free words =
-    Did m (shelfIn m pool₀ ws₀) (placeSegment (shelfIn m pool₀ ws₀) (blocksFrom (m .blockBytes) image from (m .segmentBlocks))) r k pool₀ ws₀ pool ws free words
+    Did m (shelfIn m pool₀ ws₀) (placeSegment withBlanks (shelfIn m pool₀ ws₀) (blocksFrom (m .blockBytes) image from (m .segmentBlocks))) r k pool₀ ws₀ pool ws free words

@@ -6,12 +6,12 @@ use mathlib.Core.Option.{none}
 use Prim.Native.Nat.{_<_, _≤_, ℕ}
 use lib.ListN.{length}
 use Rattle.lists.specs.Lists.{firstFrom}
-use Rattle.model.specs.Image.{blocksFrom}
+use Rattle.model.specs.Image.{blocksFrom, withBlanks}
 use Rattle.model.specs.Measures.{Measures}
 use Rattle.model.specs.Records.{equals}
 use Rattle.model.specs.Runs.{freeCells}
 use Rattle.model.specs.Table.{recordsIn, shelfIn}
-use Rattle.place_words.specs.Marks.{marks}
+use Rattle.place_words.specs.Marks.{blanks, marks}
 use Rattle.shelf.specs.Stored.{Countable, Stored}
 
 -- every count can be raised once more, and `words` has room for the segment's pointers
@@ -22,12 +22,13 @@ pub record Ready (m : Measures) (from : ℕ) (pool ws : List ℕ) (free : List B
   pub cells : free ≡ freeCells (shelfIn m pool ws)
   pub room : length words ≡ m .segmentBlocks
 
--- the mask is that of a segment that is not null
-pub record Masked (m : Measures) (image : List ℕ) (from mask : ℕ) : Type 0 where
+-- the masks are those of a segment that has a stored block
+pub record Masked (m : Measures) (image : List ℕ) (from mask blank : ℕ) : Type 0 where
   pub is : mask ≡ marks (blocksFrom (m .blockBytes) image from (m .segmentBlocks))
+  pub blanks : blank ≡ blanks (blocksFrom (m .blockBytes) image from (m .segmentBlocks))
   pub some : 0 < mask
 
 -- no record serves the segment
 abbrev pub Unmatched : Measures → List ℕ → ℕ → List ℕ → List ℕ → Type 0
 Unmatched m image from pool ws =
-    firstFrom (equals (shelfIn m pool ws) (blocksFrom (m .blockBytes) image from (m .segmentBlocks))) 0 (recordsIn (m .segmentBlocks) ws) ≡ none
+    firstFrom (equals withBlanks (shelfIn m pool ws) (blocksFrom (m .blockBytes) image from (m .segmentBlocks))) 0 (recordsIn (m .segmentBlocks) ws) ≡ none

@@ -4,10 +4,10 @@ ghost use mathlib.Core.Option.{none};
 ghost use Prim.Native.Nat.{_<_};
 ghost use lib.ListN.{length};
 ghost use Rattle.lists.specs.Lists.{firstFrom};
-ghost use Rattle.model.specs.Image.{blocksFrom};
+ghost use Rattle.model.specs.Image.{blocksFrom, withBlanks};
 ghost use Rattle.model.specs.Records.{isFree};
 ghost use Rattle.model.specs.Runs.{scan};
-ghost use Rattle.model.specs.Place.{nonNull};
+ghost use Rattle.model.specs.Place.{stored};
 ghost use Rattle.model.specs.Table.{recordsIn};
 ghost use Rattle.numbers.specs.Measures.{measuresOf};
 ghost use Rattle.place_seek.specs.Seek.{RestFree};
@@ -17,6 +17,7 @@ ghost use Rattle.place_one.specs.Did.{DidSegment};
 ghost use Rattle.place_one.specs.Ready.{Ready, Masked, Unmatched};
 use numbers::Measures;
 use numbers::RecordNumber;
+use place_match::Masks;
 use runs::Run;
 
 // The refusal, or 0; and the record, or a number past the last one where none is needed.
@@ -33,23 +34,29 @@ fn write_record(
     records: &mut [u32],
     free: &mut [bool],
     words: &mut [u32],
-    mask: u32,
+    masks: Masks,
     k: RecordNumber,
     run: Run,
     m: Measures,
 ) -> Placing
-    requires { ⌜ Ready (measuresOf m) from (now pool) (now records) (now free) (now words) × Masked (measuresOf m) (now image) from mask × Unmatched (measuresOf m) (now image) from (now pool) (now records) ⌝ }
+    requires { ⌜ Ready (measuresOf m) from (now pool) (now records) (now free) (now words) × Masked (measuresOf m) (now image) from (masks .stored) (masks .blank) × Unmatched (measuresOf m) (now image) from (now pool) (now records) ⌝ }
     requires { ⌜ (k .0 < length (recordsIn (m .blocks) (now records))) × (asOption (length (recordsIn (m .blocks) (now records))) (k .0) ≡ firstFrom isFree 0 (recordsIn (m .blocks) (now records))) ⌝ }
-    requires { ⌜ (0 < run .size) × (asRun run ≡ scan (length (nonNull (blocksFrom (m .bytes) (now image) from (m .blocks)))) (now free) 0 0 none) ⌝ }
+    requires { ⌜ (0 < run .size) × (asRun run ≡ scan (length (stored withBlanks (blocksFrom (m .bytes) (now image) from (m .blocks)))) (now free) 0 0 none) ⌝ }
     ensures { λ r. ⌜ DidSegment (measuresOf m) (now (image .entry)) from (r .refusal) (r .record .0) (now (pool .entry)) (now (records .entry)) (now (pool .exit)) (now (records .exit)) (now (free .exit)) (now (words .exit)) ⌝ }
 {
     let start = k.word(m.blocks);
     let end = start + numbers::row_words(m.blocks);
     let first = run.start;
-    place_match::copy_blocks(image, from, pool, first, mask, m.bytes, m.blocks);
-    place_words::new_row(&mut records[start..end], mask, first, m.blocks);
+    place_match::copy_blocks(image, from, pool, first, masks.stored, m.bytes, m.blocks);
+    place_words::new_row(
+        &mut records[start..end],
+        masks.stored,
+        masks.blank,
+        first,
+        m.blocks,
+    );
     place_seek::take_row(&records[start..end], free, m.blocks);
-    place_words::put_places(words, mask, k);
+    place_words::put_places(words, masks.stored, masks.blank, k);
     Placing {
         refusal: 0,
         record: k,
@@ -64,10 +71,10 @@ fn write_segment(
     records: &mut [u32],
     free: &mut [bool],
     words: &mut [u32],
-    mask: u32,
+    masks: Masks,
     m: Measures,
 ) -> Placing
-    requires { ⌜ Ready (measuresOf m) from (now pool) (now records) (now free) (now words) × Masked (measuresOf m) (now image) from mask × Unmatched (measuresOf m) (now image) from (now pool) (now records) ⌝ }
+    requires { ⌜ Ready (measuresOf m) from (now pool) (now records) (now free) (now words) × Masked (measuresOf m) (now image) from (masks .stored) (masks .blank) × Unmatched (measuresOf m) (now image) from (now pool) (now records) ⌝ }
     ensures { λ r. ⌜ DidSegment (measuresOf m) (now (image .entry)) from (r .refusal) (r .record .0) (now (pool .entry)) (now (records .entry)) (now (pool .exit)) (now (records .exit)) (now (free .exit)) (now (words .exit)) ⌝ }
 {
     let k = place_seek::free_record(records, m.blocks);
@@ -78,7 +85,7 @@ fn write_segment(
             record: RecordNumber(0),
         };
     }
-    let need = u32::count_ones(mask) as usize;
+    let need = u32::count_ones(masks.stored) as usize;
     let run = runs::best_run(free, true, need);
     if run.size == 0 {
         return Placing {
@@ -86,10 +93,10 @@ fn write_segment(
             record: RecordNumber(0),
         };
     }
-    write_record(image, from, pool, records, free, words, mask, k, run, m)
+    write_record(image, from, pool, records, free, words, masks, k, run, m)
 }
 
-// A segment that is not null. The records from `used` on are free.
+// A segment that has a stored block. The records from `used` on are free.
 fn place_blocks(
     image: &[u8],
     from: usize,
@@ -98,21 +105,30 @@ fn place_blocks(
     used: usize,
     free: &mut [bool],
     words: &mut [u32],
-    mask: u32,
+    masks: Masks,
     m: Measures,
 ) -> Placing
-    requires { ⌜ Ready (measuresOf m) from (now pool) (now records) (now free) (now words) × Masked (measuresOf m) (now image) from mask × RestFree used (recordsIn (m .blocks) (now records)) ⌝ }
+    requires { ⌜ Ready (measuresOf m) from (now pool) (now records) (now free) (now words) × Masked (measuresOf m) (now image) from (masks .stored) (masks .blank) × RestFree used (recordsIn (m .blocks) (now records)) ⌝ }
     ensures { λ r. ⌜ DidSegment (measuresOf m) (now (image .entry)) from (r .refusal) (r .record .0) (now (pool .entry)) (now (records .entry)) (now (pool .exit)) (now (records .exit)) (now (free .exit)) (now (words .exit)) ⌝ }
 {
-    let k = place_match::match_record(image, from, mask, pool, records, used, m);
+    let k = place_match::match_record(
+        image,
+        from,
+        masks.stored,
+        masks.blank,
+        pool,
+        records,
+        used,
+        m,
+    );
     let n = k.0;
     if n as usize == numbers::rows(records.len(), m.blocks) {
-        return write_segment(image, from, pool, records, free, words, mask, m);
+        return write_segment(image, from, pool, records, free, words, masks, m);
     }
     let start = k.word(m.blocks);
     let end = start + numbers::row_words(m.blocks);
     place_words::raise_row(&mut records[start..end], m.blocks);
-    place_words::put_places(words, mask, k);
+    place_words::put_places(words, masks.stored, masks.blank, k);
     Placing {
         refusal: 0,
         record: k,
@@ -133,13 +149,13 @@ pub fn place_segment(
     requires { ⌜ Ready (measuresOf m) from (now pool) (now records) (now free) (now words) × RestFree used (recordsIn (m .blocks) (now records)) ⌝ }
     ensures { λ r. ⌜ DidSegment (measuresOf m) (now (image .entry)) from (r .refusal) (r .record .0) (now (pool .entry)) (now (records .entry)) (now (pool .exit)) (now (records .exit)) (now (free .exit)) (now (words .exit)) ⌝ }
 {
-    let mask = place_match::segment_mask(image, from, m.bytes, m.blocks);
-    if mask == 0 {
-        place_words::put_nulls(words);
+    let masks = place_match::segment_masks(image, from, m.bytes, m.blocks);
+    if masks.stored == 0 {
+        place_words::put_places(words, masks.stored, masks.blank, RecordNumber(0));
         return Placing {
             refusal: 0,
             record: RecordNumber(RecordNumber::MOST),
         };
     }
-    place_blocks(image, from, pool, records, used, free, words, mask, m)
+    place_blocks(image, from, pool, records, used, free, words, masks, m)
 }

@@ -11,29 +11,31 @@ use Rattle.lists.specs.Lists.{every}
 use Rattle.lists.specs.Masks.{maskOf}
 use Rattle.lists.specs.Rows.{joined}
 use Rattle.lists.proofs.Slices.{drop-end, drop-next}
-use Rattle.model.specs.Records.{cellsOf, isFree, isHeld, isRemoved, namedCells}
-use Rattle.model.specs.State.{Segment, held, nullPosition, removed}
+use Rattle.model.specs.Records.{cellsOf, isBlankPosition, isFree, isHeld, isRemoved, namedCells}
+use Rattle.model.specs.State.{Segment, held, nullPosition, blankPosition, removed}
 use Rattle.model.specs.Table.{recordToWords}
-use Rattle.place_words.proofs.Reading.{held-word, removed-word}
+use Rattle.place_words.proofs.Reading.{blank-word, held-word, removed-word}
 use Rattle.place_seek.specs.Seek.{taken}
 
 -- ---- free records
 
-pub free-yes : (ps : Segment) → maskOf isHeld ps ≡ 0 → maskOf isRemoved ps ≡ 0 → isFree ps ≡ true
+pub free-yes : (ps : Segment) → maskOf isHeld ps ≡ 0 → maskOf isRemoved ps ≡ 0 → maskOf isBlankPosition ps ≡ 0 → isFree ps ≡ true
 unfolding isFree every maskOf
-free-yes [] h r = refl
-free-yes (nullPosition ∷ ps) h r = free-yes ps (omega arith) (omega arith)
-free-yes (held c n ∷ ps) h r = absurd (omega arith)
-free-yes (removed ∷ ps) h r = absurd (omega arith)
+free-yes [] h r b = refl
+free-yes (nullPosition ∷ ps) h r b = free-yes ps (omega arith) (omega arith) (omega arith)
+free-yes (blankPosition ∷ ps) h r b = absurd (omega arith)
+free-yes (held c n ∷ ps) h r b = absurd (omega arith)
+free-yes (removed ∷ ps) h r b = absurd (omega arith)
 
-pub free-masks : (ps : Segment) → isFree ps ≡ true → (maskOf isHeld ps ≡ 0) × (maskOf isRemoved ps ≡ 0)
+pub free-masks : (ps : Segment) → isFree ps ≡ true → (maskOf isHeld ps ≡ 0) × (maskOf isRemoved ps ≡ 0) × (maskOf isBlankPosition ps ≡ 0)
 unfolding isFree every maskOf
-free-masks [] e = (refl, refl)
-free-masks (nullPosition ∷ ps) e = let r = free-masks ps e in (omega arith, omega arith)
+free-masks [] e = (refl, refl, refl)
+free-masks (nullPosition ∷ ps) e = let r = free-masks ps e in (omega arith, omega arith, omega arith)
+free-masks (blankPosition ∷ ps) e = absurd (false≢true e)
 free-masks (held c n ∷ ps) e = absurd (false≢true e)
 free-masks (removed ∷ ps) e = absurd (false≢true e)
 
-by-masks : (ps : Segment) (t : Bool) → isFree ps ≡ t → ((maskOf isHeld ps ≡ 0) × (maskOf isRemoved ps ≡ 0) → ⊥) → false ≡ isFree ps
+by-masks : (ps : Segment) (t : Bool) → isFree ps ≡ t → ((maskOf isHeld ps ≡ 0) × (maskOf isRemoved ps ≡ 0) × (maskOf isBlankPosition ps ≡ 0) → ⊥) → false ≡ isFree ps
 by-masks ps true e n = absurd (n (free-masks ps e))
 by-masks ps false e n = sym e
 
@@ -44,15 +46,21 @@ module _ (seg : Segment) (row : List ℕ) (s : row ≡ recordToWords seg) where
   removed-is : getD row 1 0 ≡ maskOf isRemoved seg
   removed-is = ap (λ (l : List ℕ). getD l 1 0) s ∙ removed-word seg
 
+  blank-is : getD row 2 0 ≡ maskOf isBlankPosition seg
+  blank-is = ap (λ (l : List ℕ). getD l 2 0) s ∙ blank-word seg
+
   pub row-not-held : (getD row 0 0 ≡ 0 → ⊥) → false ≡ isFree seg
   row-not-held n = by-masks seg _ refl (λ z. n (held-is ∙ z .0))
 
-  pub row-by : (getD row 0 0 ≡ 0) → eqb (getD row 1 0) 0 ≡ isFree seg
-  row-by z = go (eqb (getD row 1 0) 0) refl
+  pub row-not-whole : (getD row 1 0 ≡ 0 → ⊥) → false ≡ isFree seg
+  row-not-whole n = by-masks seg _ refl (λ z. n (removed-is ∙ z .1))
+
+  pub row-by : getD row 0 0 ≡ 0 → getD row 1 0 ≡ 0 → eqb (getD row 2 0) 0 ≡ isFree seg
+  row-by z y = go (eqb (getD row 2 0) 0) refl
     where
-      go : (t : Bool) → eqb (getD row 1 0) 0 ≡ t → t ≡ isFree seg
-      go true e = sym (free-yes seg (sym held-is ∙ z) (sym removed-is ∙ eqb-true _ _ e))
-      go false e = by-masks seg _ refl (λ y. eqb-false _ _ e (removed-is ∙ y .1))
+      go : (t : Bool) → eqb (getD row 2 0) 0 ≡ t → t ≡ isFree seg
+      go true e = sym (free-yes seg (sym held-is ∙ z) (sym removed-is ∙ y) (sym blank-is ∙ eqb-true _ _ e))
+      go false e = by-masks seg _ refl (λ x. eqb-false _ _ e (blank-is ∙ x .2))
 
 -- ---- cells that are taken
 

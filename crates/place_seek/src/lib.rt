@@ -15,13 +15,16 @@ use numbers::RecordNumber;
 
 // Whether a record is free.
 fn row_free(row: &[u32]) -> bool
-    requires { ⌜ 2 ≤ length (now row) ⌝ }
+    requires { ⌜ 3 ≤ length (now row) ⌝ }
     ensures { λ r. ⌜ ((seg : Segment) → now (row .entry) ≡ recordToWords seg → r ≡ isFree seg) ⌝ }
 {
     if row[0] != 0 {
         return false;
     }
-    row[1] == 0
+    if row[1] != 0 {
+        return false;
+    }
+    row[2] == 0
 }
 
 // The lowest free record, or how many records there are.

@@ -16,7 +16,7 @@ use Rattle.lists.proofs.Uses.{uses}
 use Rattle.model.specs.Image.{zeroBlock}
 use Rattle.model.specs.Measures.{Measures, recordWords}
 use Rattle.model.specs.Records.{cellsOf, countOf, freeSegment, namedCells}
-use Rattle.model.specs.State.{Block, Position, Segment, Shelf, held, nullPosition, removed}
+use Rattle.model.specs.State.{Block, Position, Segment, Shelf, held, nullPosition, blankPosition, removed}
 use Rattle.model.specs.Sweep.{clearCells, freeRecord, oneLess}
 use Rattle.model.specs.Table.{cellsIn, recordToWords, recordsIn, shelfIn}
 use Rattle.laws.proofs.RoundTrip.{free-row}
@@ -42,6 +42,7 @@ low-counts (p ∷ ps) = rw (low-counts ps) (ap (λ (t : Bool). cond t (allZero (
 
     go : (p : Position) → ltb (countOf p) 2 ≡ eqb (countOf (oneLess p)) 0
     go nullPosition = by 0
+    go blankPosition = by 0
     go (held c n) = by n
     go removed = by 0
 
@@ -62,6 +63,7 @@ pub less-cells : (ps : Segment) → cellsOf (map oneLess ps) ≡ cellsOf ps
 unfolding cellsOf
 less-cells [] = refl
 less-cells (nullPosition ∷ ps) = less-cells ps
+less-cells (blankPosition ∷ ps) = less-cells ps
 less-cells (held c n ∷ ps) = ap (λ (l : List ℕ). c ∷ l) (less-cells ps)
 less-cells (removed ∷ ps) = less-cells ps
 

@@ -8,7 +8,7 @@ use Rattle.lists.specs.Masks.{maskOf}
 use Rattle.lists.proofs.Slices.{drop-end, drop-next}
 use Rattle.lists.proofs.Walks.{mask-after, mask-here}
 use Rattle.model.specs.Records.{cellOf, cellsOf, isHeld}
-use Rattle.model.specs.State.{Position, Segment, held, nullPosition, removed}
+use Rattle.model.specs.State.{Position, Segment, held, nullPosition, blankPosition, removed}
 use Rattle.model.specs.Table.{recordToWords}
 use Rattle.place_words.specs.Words.{keptCell}
 use Rattle.place_words.proofs.Reading.{cell-word, held-word}
@@ -17,6 +17,7 @@ use Rattle.place_words.proofs.Reading.{cell-word, held-word}
 position-cell : (p : Position) (ps : Segment) → cellsOf (p ∷ ps) ≡ keptCell (cond (isHeld p) 1 0) (cellOf p) ++ cellsOf ps
 unfolding cellsOf
 position-cell nullPosition ps = refl
+position-cell blankPosition ps = refl
 position-cell (held c n) ps = refl
 position-cell removed ps = refl
 

@@ -12,7 +12,7 @@ use Rattle.lists.specs.Lists.{firstFrom}
 use Rattle.lists.specs.Masks.{maskOf}
 use Rattle.lists.proofs.Puts.{first-step}
 use Rattle.lists.proofs.Slices.{drop-end}
-use Rattle.model.specs.Records.{cellOf, countOf, isHeld, isRemoved}
+use Rattle.model.specs.Records.{cellOf, countOf, isBlankPosition, isHeld, isRemoved}
 use Rattle.model.specs.State.{Segment, nullPosition}
 use Rattle.model.specs.Table.{recordToWords}
 use Rattle.place_words.specs.Words.{asOption}
@@ -27,6 +27,10 @@ module _ (seg : Segment) where
   pub removed-word : getD (recordToWords seg) 1 0 ≡ maskOf isRemoved seg
   unfolding recordToWords
   removed-word = refl
+
+  pub blank-word : getD (recordToWords seg) 2 0 ≡ maskOf isBlankPosition seg
+  unfolding recordToWords
+  blank-word = refl
 
   pub cell-word : (i : ℕ) → i < length seg → getD (recordToWords seg) (3 + i) 0 ≡ cellOf (getD seg i nullPosition)
   unfolding recordToWords

@@ -5,11 +5,13 @@ ghost use Prim.Native.Nat.{ℕ, _+_, _-_, _*_, _≤_, _<_};
 ghost use lib.ListN.{length, getD, set};
 ghost use Rattle.lists.specs.Walk.{pick, raised, lowered, bits, numbered};
 ghost use Rattle.model.specs.Measures.{recordWords};
-ghost use Rattle.model.specs.State.{Block, Segment, nullPointer};
+ghost use Rattle.model.specs.Image.{withBlanks};
+ghost use Rattle.model.specs.State.{Block, Segment};
 ghost use Rattle.model.specs.Place.{oneMore, newPositions, pointersTo};
 ghost use Rattle.model.specs.Sweep.{oneLess};
 ghost use Rattle.model.specs.Table.{recordToWords, pointerWord};
-ghost use Rattle.place_words.specs.Marks.{marks};
+ghost use Rattle.place_words.specs.Marks.{marks, blanks};
+ghost use Rattle.place_words.specs.Words.{pointerIf};
 use numbers::Cell;
 use numbers::Pointer;
 use numbers::RecordNumber;
@@ -24,13 +26,17 @@ fn picked(bit: u32, value: u32) -> u32
     0
 }
 
-// The pointer's word where the bit is set, else a null pointer's.
-fn pointer_if(bit: u32, word: u32) -> u32
-    requires { ⌜ bit < 2 ⌝ }
-    ensures { λ r. ⌜ r ≡ pick bit word ⌝ }
+// The pointer's word for a block that is stored, else a blank or a null pointer's.
+fn pointer_if(stored: u32, blank: u32, word: u32) -> u32
+    requires { ⌜ (stored < 2) × (blank < 2) ⌝ }
+    ensures { λ r. ⌜ r ≡ pointerIf stored blank word ⌝ }
 {
-    if bit == 1 {
+    if stored == 1 {
         return word;
+    }
+    if blank == 1 {
+        let erased = Pointer::blank();
+        return erased.0;
     }
     let null = Pointer::null();
     null.0
@@ -102,31 +108,21 @@ fn number(cells: &mut [u32], mask: u32, start: Cell)
     }
 }
 
-// Pointers to a record's positions where a bit is set, null pointers elsewhere. The mask is that of a segment's blocks that are stored.
-pub fn put_places(words: &mut [u32], mask: u32, k: RecordNumber)
+// A segment's pointers, by the masks of its blocks that are stored and of those that are blank: to a record's positions, blank ones and null ones.
+pub fn put_places(words: &mut [u32], mask: u32, blank: u32, k: RecordNumber)
     requires { ⌜ (length (now words) ≤ 16) × (k .0 ≤ 4096) ⌝ }
-    ensures { λ _. ⌜ ((seg : List Block) → length seg ≡ length (now (words .entry)) → mask ≡ marks seg → now (words .exit) ≡ map pointerWord (pointersTo (k .0) 0 seg)) ⌝ }
+    ensures { λ _. ⌜ ((seg : List Block) → length seg ≡ length (now (words .entry)) → mask ≡ marks seg → blank ≡ blanks seg → now (words .exit) ≡ map pointerWord (pointersTo withBlanks (k .0) 0 seg)) ⌝ }
 {
     let first = Pointer::direct(k, 0);
     let mut m = mask;
+    let mut b = blank;
     let mut at = first.0;
     let mut i: usize = 0;
     while i < words.len() {
-        words[i] = pointer_if(m % 2, at);
+        words[i] = pointer_if(m % 2, b % 2, at);
         at = at + 1;
         m = m / 2;
-        i = i + 1;
-    }
-}
-
-// Null pointers.
-pub fn put_nulls(words: &mut [u32])
-    ensures { λ _. ⌜ ((seg : List Block) → length seg ≡ length (now (words .entry)) → now (words .exit) ≡ map pointerWord (map (λ b. nullPointer) seg)) ⌝ }
-{
-    let null = Pointer::null();
-    let mut i: usize = 0;
-    while i < words.len() {
-        words[i] = null.0;
+        b = b / 2;
         i = i + 1;
     }
 }
@@ -152,22 +148,22 @@ pub fn lower_row(row: &mut [u32], n: usize)
 }
 
 // The masks of a new record.
-fn put_masks(row: &mut [u32], mask: u32)
+fn put_masks(row: &mut [u32], mask: u32, blank: u32)
     requires { ⌜ 3 ≤ length (now row) ⌝ }
-    ensures { λ _. ⌜ now (row .exit) ≡ set (set (set (now (row .entry)) 0 mask) 1 0) 2 0 ⌝ }
+    ensures { λ _. ⌜ now (row .exit) ≡ set (set (set (now (row .entry)) 0 mask) 1 0) 2 blank ⌝ }
 {
     row[0] = mask;
     row[1] = 0;
-    row[2] = 0;
+    row[2] = blank;
 }
 
 // A new record of n positions, whose held ones take consecutive cells and have the count 1.
-pub fn new_row(row: &mut [u32], mask: u32, start: Cell, n: usize)
+pub fn new_row(row: &mut [u32], mask: u32, blank: u32, start: Cell, n: usize)
     requires { ⌜ (n ≤ 16) × (length (now row) ≡ recordWords n) × (start .0 ≤ 65536) ⌝ }
-    ensures { λ _. ⌜ ((seg : List Block) → length seg ≡ n → mask ≡ marks seg → now (row .exit) ≡ recordToWords (newPositions (start .0) seg)) ⌝ }
+    ensures { λ _. ⌜ ((seg : List Block) → length seg ≡ n → mask ≡ marks seg → blank ≡ blanks seg → now (row .exit) ≡ recordToWords (newPositions withBlanks (start .0) seg)) ⌝ }
 {
     let counts = 3 + n;
-    put_masks(row, mask);
+    put_masks(row, mask, blank);
     number(&mut row[3..counts], mask, start);
     put_bits(&mut row[counts..], mask);
 }

@@ -9,6 +9,7 @@ use lib.ListN.{length, getD}
 use Rattle.lists.specs.Each.{Each}
 use Rattle.lists.proofs.Each.{each-at, each-of, each-weaken, keep-each}
 use Rattle.model.specs.Calls.{newestPointers}
+use Rattle.model.specs.Image.{withBlanks}
 use Rattle.model.specs.Measures.{Shape, recordWords}
 use Rattle.model.specs.Sound.{isSound}
 use Rattle.model.specs.State.{Block, Pointer, nullPointer, Shelf, Version, State}
@@ -36,7 +37,7 @@ module _ (n l : ℕ) where
   words-back [] e = refl
   words-back (p ∷ ps) e = rw (e .0 .back, words-back ps (e .1))
 
-  pub turning-good : (shelf : Shelf) (bs : List Block) (ps : List Pointer) → Each (Followable n l) ps → Each (Followable n l) (turning shelf bs ps)
+  pub turning-good : (shelf : Shelf) (bs : List Block) (ps : List Pointer) → Each (Followable n l) ps → Each (Followable n l) (turning withBlanks shelf bs ps)
   unfolding turning
   turning-good shelf bs ps e = keep-each (Followable n l) _ ps e
 

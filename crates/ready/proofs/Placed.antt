@@ -7,12 +7,12 @@ use Prim.Native.Nat.{ℕ, _*_, _<_}
 use native.Mathlib.Omega.{arith}
 use lib.ListN.{length}
 use lib.Dec.{lit<}
-use Rattle.lists.specs.Lists.{every, allZero, firstFrom}
+use Rattle.lists.specs.Lists.{every, firstFrom}
 use Rattle.lists.specs.Rows.{joined}
 use Rattle.lists.proofs.Tests.{by-test}
-use Rattle.model.specs.Image.{imageSegments}
+use Rattle.model.specs.Image.{imageSegments, isBare, withBlanks}
 use Rattle.model.specs.Measures.{Measures, recordWords}
-use Rattle.model.specs.Place.{Placed, nonNull, writeRun, writeRecord, shareOrWrite, placeSegment, afterSome, placeNext, placeAll}
+use Rattle.model.specs.Place.{Placed, stored, writeRun, writeRecord, shareOrWrite, placeSegment, afterSome, placeNext, placeAll}
 use Rattle.model.specs.Records.{isFree, equals}
 use Rattle.model.specs.Runs.{Run, findRun}
 use Rattle.model.specs.State.{Block, Shelf, Outcome, refused, done}
@@ -27,10 +27,10 @@ use Rattle.shelf.proofs.Inside.{stored-cells, stored-words}
 use Rattle.shelf.proofs.Read.{records-length, cells-length, shelf-read, stored-again}
 
 module _ (m : Measures) (image pool ws : List ℕ) (st : Stored m pool ws) (f : ShelfFits m (shelfIn m pool ws)) (p : Placed) (e : placedIn m image pool ws ≡ done p) where
-  placed-ok : PlacedOk m (shelfIn m pool ws) (p .shelf) (joined (imageSegments (m .blockBytes) (m .segmentBlocks) image)) (p .pointers)
+  placed-ok : PlacedOk withBlanks m (shelfIn m pool ws) (p .shelf) (joined (imageSegments (m .blockBytes) (m .segmentBlocks) image)) (p .pointers)
   placed-ok =
-      subst (PlaceOk m (shelfIn m pool ws) (joined (imageSegments (m .blockBytes) (m .segmentBlocks) image))) e
-      (place-ok m (shelfIn m pool ws) (imageSegments (m .blockBytes) (m .segmentBlocks) image) f (st .exact)
+      subst (PlaceOk withBlanks m (shelfIn m pool ws) (joined (imageSegments (m .blockBytes) (m .segmentBlocks) image))) e
+      (place-ok withBlanks m (shelfIn m pool ws) (imageSegments (m .blockBytes) (m .segmentBlocks) image) f (st .exact)
       (segments-ok m (record { bytes = omega (arith, st .measured .someBytes); blocks = omega (arith, st .measured .someBlocks) }) image))
 
   module _ (pool′ ws′ : List ℕ) (d : Told m pool′ ws′ (p .shelf)) where
@@ -56,38 +56,38 @@ abbrev Positive : Outcome Placed → Type 0
 Positive (refused n) = 0 < n
 Positive (done p) = Unit {0}
 
-run-positive : (a : Shelf) (seg : List Block) (k : ℕ) (o : Option Run) → Positive (writeRun a seg k o)
+run-positive : (a : Shelf) (seg : List Block) (k : ℕ) (o : Option Run) → Positive (writeRun withBlanks a seg k o)
 unfolding writeRun
 run-positive a seg k none = lit< tt
 run-positive a seg k (some r) = tt
 
-record-positive : (a : Shelf) (seg : List Block) (o : Option ℕ) → Positive (writeRecord a seg o)
+record-positive : (a : Shelf) (seg : List Block) (o : Option ℕ) → Positive (writeRecord withBlanks a seg o)
 unfolding writeRecord
 record-positive a seg none = lit< tt
-record-positive a seg (some k) = run-positive a seg k (findRun a (length (nonNull seg)))
+record-positive a seg (some k) = run-positive a seg k (findRun a (length (stored withBlanks seg)))
 
-either-positive : (a : Shelf) (seg : List Block) (o : Option ℕ) → Positive (shareOrWrite a seg o)
+either-positive : (a : Shelf) (seg : List Block) (o : Option ℕ) → Positive (shareOrWrite withBlanks a seg o)
 unfolding shareOrWrite
 either-positive a seg none = record-positive a seg (firstFrom isFree 0 (a .records))
 either-positive a seg (some k) = tt
 
-segment-positive : (a : Shelf) (seg : List Block) → Positive (placeSegment a seg)
+segment-positive : (a : Shelf) (seg : List Block) → Positive (placeSegment withBlanks a seg)
 unfolding placeSegment
-segment-positive a seg = by-test Positive (every allZero seg) (λ e. tt) (λ e. either-positive a seg (firstFrom (equals a seg) 0 (a .records)))
+segment-positive a seg = by-test Positive (every (isBare withBlanks) seg) (λ e. tt) (λ e. either-positive a seg (firstFrom (equals withBlanks a seg) 0 (a .records)))
 
-next-positive : (o : Outcome Placed) (seg : List Block) → Positive o → Positive (placeNext o seg)
+next-positive : (o : Outcome Placed) (seg : List Block) → Positive o → Positive (placeNext withBlanks o seg)
 unfolding placeNext
 next-positive (refused n) seg h = h
-next-positive (done p) seg h = go (placeSegment (p .shelf) seg) (segment-positive (p .shelf) seg)
+next-positive (done p) seg h = go (placeSegment withBlanks (p .shelf) seg) (segment-positive (p .shelf) seg)
   where
     go : (o : Outcome Placed) → Positive o → Positive (afterSome (p .pointers) o)
     go (refused n) h = unfold afterSome in h
     go (done q) h = unfold afterSome in tt
 
-all-positive : (o : Outcome Placed) (segs : List (List Block)) → Positive o → Positive (placeAll o segs)
+all-positive : (o : Outcome Placed) (segs : List (List Block)) → Positive o → Positive (placeAll withBlanks o segs)
 unfolding placeAll
 all-positive o [] h = h
-all-positive o (seg ∷ segs) h = all-positive (placeNext o seg) segs (next-positive o seg h)
+all-positive o (seg ∷ segs) h = all-positive (placeNext withBlanks o seg) segs (next-positive o seg h)
 
-pub refusal-positive : (a : Shelf) (segs : List (List Block)) (n : ℕ) → placeAll (done (record { shelf = a; pointers = [] })) segs ≡ refused n → 0 < n
+pub refusal-positive : (a : Shelf) (segs : List (List Block)) (n : ℕ) → placeAll withBlanks (done (record { shelf = a; pointers = [] })) segs ≡ refused n → 0 < n
 refusal-positive a segs n e = subst Positive e (all-positive (done (record { shelf = a; pointers = [] })) segs tt)

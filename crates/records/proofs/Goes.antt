@@ -37,14 +37,14 @@ module _ (seg : Segment) (counts : List ℕ) (e : counts ≡ map countOf seg) (l
   inside h = omega (arith, ap length e, length-map seg countOf)
 
   -- the next position, as the code tests it
-  module _ (h : i < length counts) (u : ℕ) (eu : u ≡ cond (goes (positionOf (left % 2) 0 0 (getD counts i 0))) 1 0) where
+  module _ (h : i < length counts) (u : ℕ) (eu : u ≡ cond (goes (positionOf (left % 2) 0 0 0 (getD counts i 0))) 1 0) where
     here : u + count goes (drop (i + 1) seg) ≡ count goes seg
     unfolding count
     here =
         let a : left % 2 ≡ cond (isHeld (getD seg i nullPosition)) 1 0 = ap (λ (m : ℕ). m % 2) (s .mask) ∙ mask-here isHeld seg i nullPosition (inside h) in
         let b : getD counts i 0 ≡ countOf (getD seg i nullPosition) = ap (λ (l : List ℕ). getD l i 0) e ∙ List·getD-map countOf seg i nullPosition in
         let eu′ : u ≡ cond (goes (getD seg i nullPosition)) 1 0 =
-        eu ∙ ap₂ (λ (x y : ℕ). cond (goes (positionOf x 0 0 y)) 1 0) a b ∙ ap (λ (t : Bool). cond t 1 0) (unused-bit (getD seg i nullPosition)) in
+        eu ∙ ap₂ (λ (x y : ℕ). cond (goes (positionOf x 0 0 0 y)) 1 0) a b ∙ ap (λ (t : Bool). cond t 1 0) (unused-bit (getD seg i nullPosition)) in
         let n : count goes (drop i seg) ≡ cond (goes (getD seg i nullPosition)) 1 0 + count goes (drop (i + 1) seg) = rw (drop-next seg i nullPosition (inside h)) in
         omega (arith, eu′, n, s .rest)
 
@@ -74,11 +74,12 @@ module _ (t : List ℕ) (at n : ℕ) (seg : Segment) (l : length seg ≡ n) (e :
   row-is : record {
     held = getD t at 0;
     removed = getD t (at + 1) 0;
+    blank = getD t (at + 2) 0;
     used = n;
     cells = fill 16 (take n (drop (at + 3) t));
     counts = fill 16 (take n (drop (at + 3 + n) t));
   } ≡ recordOf seg
-  row-is = record-row t at n _ refl refl refl refl refl ∙ ap (recordIn n) e ∙ record-words n seg l
+  row-is = record-row t at n _ refl refl refl refl refl refl ∙ ap (recordIn n) e ∙ record-words n seg l
 
   pub row-held : getD t at 0 ≡ maskOf isHeld seg
   unfolding recordOf

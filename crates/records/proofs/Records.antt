@@ -14,22 +14,22 @@ use lib.Pow.{pow-mono}
 use Rattle.lists.specs.Lists.{count, firstFrom}
 use Rattle.lists.specs.Masks.{maskOf}
 use Rattle.lists.specs.Walk.{walk, nextAdd}
-use Rattle.lists.proofs.Masks.{First, here, later, trailing-first, first-mask, first-le, first-bit, first-lt, mask-odd, mask-half, mask-bit, mask-lt, mask-off, mask-on, ones-mask, bit-le, bit-true, bit-false}
+use Rattle.lists.proofs.Masks.{First, here, later, trailing-first, first-mask, first-le, first-bit, first-lt, mask-odd, mask-half, mask-bit, mask-lt, mask-off, mask-on, mask-same, ones-mask, bit-le, bit-true, bit-false}
 use Rattle.lists.specs.Rows.{fill}
 use Rattle.lists.proofs.Rows.{getD-fill, set-fill}
 use Rattle.lists.proofs.Filled.{fill-front}
 use Rattle.lists.proofs.Sets.{map-set}
 use Rattle.lists.proofs.Slices.{drop-next, drop-end}
-use Rattle.model.specs.Records.{isHeld, isRemoved, cellOf, countOf, freeSegment}
-use Rattle.model.specs.State.{Position, nullPosition, held, removed, Segment}
+use Rattle.model.specs.Records.{isHeld, isRemoved, isBlankPosition, cellOf, countOf, freeSegment}
+use Rattle.model.specs.State.{Position, nullPosition, blankPosition, held, removed, Segment}
 use Rattle.model.specs.Sweep.{goes, struck, moved}
 use Rattle.model.specs.Table.{positionOf, positionsIn}
 use Rattle.laws.proofs.RoundTrip.{positions-back}
 use Rattle.records.specs.Records.{recordOf, positions, Formed}
 use Rattle.records.specs.declared.Record.{Record}
 
-pub same-record : (a b : Record) → a .held ≡ b .held → a .removed ≡ b .removed → a .used ≡ b .used → a .cells ≡ b .cells → a .counts ≡ b .counts → a ≡ b
-same-record a b h r u c n = λ i. record { held = h i; removed = r i; used = u i; cells = c i; counts = n i }
+pub same-record : (a b : Record) → a .held ≡ b .held → a .removed ≡ b .removed → a .blank ≡ b .blank → a .used ≡ b .used → a .cells ≡ b .cells → a .counts ≡ b .counts → a ≡ b
+same-record a b h r e u c n = λ i. record { held = h i; removed = r i; blank = e i; used = u i; cells = c i; counts = n i }
 
 -- ---- positions
 
@@ -39,7 +39,7 @@ front xs n l h = ap (λ (k : ℕ). take k (fill 16 xs)) (sym l) ∙ fill-front 1
 pub positions-of : (seg : Segment) → length seg ≤ 16 → positions (recordOf seg) ≡ seg
 unfolding positions recordOf
 positions-of seg h =
-    ap₂ (positionsIn (maskOf isHeld seg) (maskOf isRemoved seg)) (front (map cellOf seg) (length seg) (length-map seg cellOf) h) (front (map countOf seg) (length seg) (length-map seg countOf) h)
+    ap₂ (positionsIn (maskOf isHeld seg) (maskOf isRemoved seg) (maskOf isBlankPosition seg)) (front (map cellOf seg) (length seg) (length-map seg cellOf) h) (front (map countOf seg) (length seg) (length-map seg countOf) h)
     ∙ positions-back seg
 
 pub formed-of : (r : Record) (seg : Segment) → r ≡ recordOf seg → length seg ≤ 16 → Formed r
@@ -65,6 +65,10 @@ module _ (r : Record) (f : Formed r) where
   pub removed-mask : r .removed ≡ maskOf isRemoved (positions r)
   unfolding recordOf
   removed-mask = ap (λ (x : Record). x .removed) (f .same)
+
+  pub blank-mask : r .blank ≡ maskOf isBlankPosition (positions r)
+  unfolding recordOf
+  blank-mask = ap (λ (x : Record). x .blank) (f .same)
 
   pub used-is : r .used ≡ length (positions r)
   unfolding recordOf
@@ -106,22 +110,23 @@ module _ (r : Record) (f : Formed r) where
 
 -- ---- going
 
-pub unused-bit : (p : Position) → goes (positionOf (cond (isHeld p) 1 0) 0 0 (countOf p)) ≡ goes p
+pub unused-bit : (p : Position) → goes (positionOf (cond (isHeld p) 1 0) 0 0 0 (countOf p)) ≡ goes p
 unfolding positionOf
 unused-bit nullPosition = refl
+unused-bit blankPosition = refl
 unused-bit (held c zero) = refl
 unused-bit (held c (suc n)) = refl
 unused-bit removed = refl
 
-pub unused-even : (h n : ℕ) → h % 2 ≡ 0 → _≡_ {A = ℕ} (cond (goes (positionOf (h % 2) 0 0 n)) 1 0) 0
+pub unused-even : (h n : ℕ) → h % 2 ≡ 0 → _≡_ {A = ℕ} (cond (goes (positionOf (h % 2) 0 0 0 n)) 1 0) 0
 unfolding positionOf
 unused-even h n e = rw e
 
-pub unused-zero : (h n : ℕ) → (h % 2 ≡ 0 → ⊥) → n ≡ 0 → _≡_ {A = ℕ} (cond (goes (positionOf (h % 2) 0 0 n)) 1 0) 1
+pub unused-zero : (h n : ℕ) → (h % 2 ≡ 0 → ⊥) → n ≡ 0 → _≡_ {A = ℕ} (cond (goes (positionOf (h % 2) 0 0 0 n)) 1 0) 1
 unfolding positionOf
 unused-zero h n f e = let o : h % 2 ≡ 1 = omega arith in rw (o, e)
 
-pub unused-not : (h n : ℕ) → (h % 2 ≡ 0 → ⊥) → (n ≡ 0 → ⊥) → _≡_ {A = ℕ} (cond (goes (positionOf (h % 2) 0 0 n)) 1 0) 0
+pub unused-not : (h n : ℕ) → (h % 2 ≡ 0 → ⊥) → (n ≡ 0 → ⊥) → _≡_ {A = ℕ} (cond (goes (positionOf (h % 2) 0 0 0 n)) 1 0) 0
 unfolding positionOf
 unused-not h zero f g = absurd (g refl)
 unused-not h (suc n) f g = let o : h % 2 ≡ 1 = omega arith in rw o
@@ -136,7 +141,7 @@ unfolding maskOf
 going-start r f = rw (drop-end (positions r) (r .used) (omega (arith, used-is r f)))
 
 pub going-next : (r : Record) → Formed r → (i m u : ℕ) → 0 < i → i ≤ r .used → m ≡ maskOf goes (drop i (positions r))
-    → u ≡ cond (goes (positionOf (r .held / 2 ^ (i - 1) % 2) 0 0 (getD (r .counts) (i - 1) 0))) 1 0 → 2 * m + u ≡ maskOf goes (drop (i - 1) (positions r))
+    → u ≡ cond (goes (positionOf (r .held / 2 ^ (i - 1) % 2) 0 0 0 (getD (r .counts) (i - 1) 0))) 1 0 → 2 * m + u ≡ maskOf goes (drop (i - 1) (positions r))
 going-next r f i m u z h em eu =
     let seg : Segment = positions r in
     let j : ℕ = i - 1 in
@@ -146,7 +151,7 @@ going-next r f i m u z h em eu =
     let b : getD (r .counts) j 0 ≡ countOf (getD seg j nullPosition) =
     ap (λ (l : List ℕ). getD l j 0) (counts-fill r f) ∙ getD-fill 16 (map countOf seg) j (omega (arith, length-map seg countOf, f .few)) ∙ List·getD-map countOf seg j nullPosition in
     let eu′ : u ≡ cond (goes (getD seg j nullPosition)) 1 0 =
-    eu ∙ ap₂ (λ (x y : ℕ). cond (goes (positionOf x 0 0 y)) 1 0) a b ∙ ap (λ (t : Bool). cond t 1 0) (unused-bit (getD seg j nullPosition)) in
+    eu ∙ ap₂ (λ (x y : ℕ). cond (goes (positionOf x 0 0 0 y)) 1 0) a b ∙ ap (λ (t : Bool). cond t 1 0) (unused-bit (getD seg j nullPosition)) in
     let em′ : m ≡ maskOf goes (drop (j + 1) seg) = em ∙ ap (λ (k : ℕ). maskOf goes (drop k seg)) n in
     rw (drop-next seg j nullPosition l, mask-cons) (omega (arith, eu′, em′))
 
@@ -157,8 +162,15 @@ going-small r f i = mask-small goes (drop i (positions r)) (omega (arith, length
 
 held-not-removed : (p : Position) → isHeld p ≡ true → isRemoved p ≡ false
 held-not-removed nullPosition h = refl
+held-not-removed blankPosition h = refl
 held-not-removed (held c n) h = refl
 held-not-removed removed h = absurd (false≢true h)
+
+held-not-blank : (p : Position) → isHeld p ≡ true → isBlankPosition p ≡ false
+held-not-blank nullPosition h = refl
+held-not-blank blankPosition h = absurd (false≢true h)
+held-not-blank (held c n) h = refl
+held-not-blank removed h = refl
 
 -- a held position's bit is in the mask
 pub held-bit : (r : Record) → Formed r → (i : ℕ) → i < length (positions r) → isHeld (getD (positions r) i nullPosition) ≡ true → 2 ^ i ≤ r .held
@@ -166,7 +178,7 @@ held-bit r f i h e =
     bit-le (r .held) i (ap (λ (m : ℕ). m / 2 ^ i % 2) (held-mask r f) ∙ mask-bit isHeld (positions r) i nullPosition h ∙ ap (λ (b : Bool). cond b 1 0) e)
 
 pub struck-of : (r : Record) → Formed r → (i : ℕ) → i < length (positions r) → isHeld (getD (positions r) i nullPosition) ≡ true
-    → record { held = r .held - 2 ^ i; removed = r .removed + 2 ^ i; used = r .used; cells = set (r .cells) i 0; counts = set (r .counts) i 0 }
+    → record { held = r .held - 2 ^ i; removed = r .removed + 2 ^ i; blank = r .blank; used = r .used; cells = set (r .cells) i 0; counts = set (r .counts) i 0 }
     ≡ recordOf (set (positions r) i removed)
 unfolding recordOf
 struck-of r f i h e =
@@ -174,6 +186,7 @@ struck-of r f i h e =
     same-record _ _
     (ap (λ (m : ℕ). m - 2 ^ i) (held-mask r f) ∙ sym (mask-off isHeld seg i nullPosition removed h e refl))
     (ap (λ (m : ℕ). m + 2 ^ i) (removed-mask r f) ∙ sym (mask-on isRemoved seg i nullPosition removed h (held-not-removed (getD seg i nullPosition) e) refl))
+    (blank-mask r f ∙ sym (mask-same isBlankPosition seg i nullPosition removed (sym (held-not-blank (getD seg i nullPosition) e))))
     (used-is r f ∙ sym (length-set seg i removed))
     (ap (λ (l : List ℕ). set l i 0) (cells-fill r f) ∙ zeroed cellOf refl)
     (ap (λ (l : List ℕ). set l i 0) (counts-fill r f) ∙ zeroed countOf refl)
@@ -187,17 +200,20 @@ struck-of r f i h e =
 
 goes-held : (p : Position) → goes p ≡ true → isHeld p ≡ true
 goes-held nullPosition e = absurd (false≢true e)
+goes-held blankPosition e = absurd (false≢true e)
 goes-held (held c n) e = refl
 goes-held removed e = absurd (false≢true e)
 
 goes-struck : (p : Position) → goes p ≡ true → struck removed ≡ struck p
 goes-struck nullPosition e = absurd (false≢true e)
+goes-struck blankPosition e = absurd (false≢true e)
 goes-struck (held c zero) e = refl
 goes-struck (held c (suc n)) e = absurd (false≢true e)
 goes-struck removed e = absurd (false≢true e)
 
 stays-struck : (p : Position) → goes p ≡ false → struck p ≡ p
 stays-struck nullPosition e = refl
+stays-struck blankPosition e = refl
 stays-struck (held c zero) e = absurd (false≢true (sym e))
 stays-struck (held c (suc n)) e = refl
 stays-struck removed e = refl
@@ -295,6 +311,7 @@ moved-cells at (p ∷ seg) n =
     go : (p : Position) → goes p ≡ false → ((a : ℕ) → walk outNumber nextAdd (maskOf isHeld seg) a (map cellOf seg) ≡ map cellOf (moved a seg))
         → outNumber (cond (isHeld p) 1 0) at (cellOf p) ∷ walk outNumber nextAdd (maskOf isHeld seg) (at + cond (isHeld p) 1 0) (map cellOf seg) ≡ map cellOf (moved at (p ∷ seg))
     go nullPosition g e = rw (add-zero at, e at)
+    go blankPosition g e = rw (add-zero at, e at)
     go (held c zero) g e = absurd (false≢true (sym g))
     go (held c (suc k)) g e = rw (add-one at, e (suc at))
     go removed g e = rw (add-zero at, e at)
@@ -303,6 +320,7 @@ moved-mask : (f : Position → Bool) → ((c n at : ℕ) → f (held c n) ≡ f 
 unfolding maskOf moved
 moved-mask f same at [] n = refl
 moved-mask f same at (nullPosition ∷ seg) n = rw (moved-mask f same at seg (omega arith))
+moved-mask f same at (blankPosition ∷ seg) n = rw (moved-mask f same at seg (omega arith))
 moved-mask f same at (held c zero ∷ seg) n = absurd (omega arith)
 moved-mask f same at (held c (suc k) ∷ seg) n = rw (moved-mask f same (suc at) seg (omega arith), same c (suc k) at)
 moved-mask f same at (removed ∷ seg) n = rw (moved-mask f same at seg (omega arith))
@@ -311,6 +329,7 @@ moved-counts : (at : ℕ) (seg : Segment) → maskOf goes seg ≡ 0 → map coun
 unfolding maskOf moved
 moved-counts at [] n = refl
 moved-counts at (nullPosition ∷ seg) n = rw (moved-counts at seg (omega arith))
+moved-counts at (blankPosition ∷ seg) n = rw (moved-counts at seg (omega arith))
 moved-counts at (held c zero ∷ seg) n = absurd (omega arith)
 moved-counts at (held c (suc k) ∷ seg) n = rw (moved-counts (suc at) seg (omega arith))
 moved-counts at (removed ∷ seg) n = rw (moved-counts at seg (omega arith))
@@ -319,19 +338,21 @@ pub length-moved : (at : ℕ) (seg : Segment) → length (moved at seg) ≡ leng
 unfolding moved
 length-moved at [] = refl
 length-moved at (nullPosition ∷ seg) = ap suc (length-moved at seg)
+length-moved at (blankPosition ∷ seg) = ap suc (length-moved at seg)
 length-moved at (held c zero ∷ seg) = ap suc (length-moved at seg)
 length-moved at (held c (suc n) ∷ seg) = ap suc (length-moved (suc at) seg)
 length-moved at (removed ∷ seg) = ap suc (length-moved at seg)
 
-pub moved-of : (r r′ : Record) → Formed r → maskOf goes (positions r) ≡ 0 → (at : ℕ) → r′ .held ≡ r .held → r′ .removed ≡ r .removed → r′ .used ≡ r .used
+pub moved-of : (r r′ : Record) → Formed r → maskOf goes (positions r) ≡ 0 → (at : ℕ) → r′ .held ≡ r .held → r′ .removed ≡ r .removed → r′ .blank ≡ r .blank → r′ .used ≡ r .used
     → r′ .cells ≡ renumbered (r .held) at (r .cells) → r′ .counts ≡ r .counts → r′ ≡ recordOf (moved at (positions r))
 unfolding recordOf
-moved-of r r′ f n at h d u c k =
+moved-of r r′ f n at h d b u c k =
     let seg : Segment = positions r in
     let m : maskOf isHeld seg < 2 ^ length (map cellOf seg) = rw (length-map seg cellOf) (mask-lt isHeld seg) in
     same-record _ _
     (h ∙ held-mask r f ∙ moved-mask isHeld (λ c n t. refl) at seg n)
     (d ∙ removed-mask r f ∙ moved-mask isRemoved (λ c n t. refl) at seg n)
+    (b ∙ blank-mask r f ∙ moved-mask isBlankPosition (λ c n t. refl) at seg n)
     (u ∙ used-is r f ∙ sym (length-moved at seg))
     (c ∙ ap₂ (λ (m : ℕ) (l : List ℕ). renumbered m at l) (held-mask r f) (cells-fill r f) ∙ renumbered-fill 16 (maskOf isHeld seg) at (map cellOf seg) m ∙ ap (fill 16) (moved-cells at seg n))
     (k ∙ counts-fill r f ∙ ap (fill 16) (moved-counts at seg n))
@@ -341,6 +362,7 @@ pub goes-none : (seg : Segment) → maskOf goes (map struck seg) ≡ 0
 unfolding maskOf
 goes-none [] = refl
 goes-none (nullPosition ∷ seg) = rw (goes-none seg)
+goes-none (blankPosition ∷ seg) = rw (goes-none seg)
 goes-none (held c zero ∷ seg) = rw (goes-none seg)
 goes-none (held c (suc n) ∷ seg) = rw (goes-none seg)
 goes-none (removed ∷ seg) = rw (goes-none seg)
@@ -349,6 +371,7 @@ pub moved-struck : (at : ℕ) (seg : Segment) → moved at (map struck seg) ≡ 
 unfolding moved
 moved-struck at [] = refl
 moved-struck at (nullPosition ∷ seg) = rw (moved-struck at seg)
+moved-struck at (blankPosition ∷ seg) = rw (moved-struck at seg)
 moved-struck at (held c zero ∷ seg) = rw (moved-struck at seg)
 moved-struck at (held c (suc n) ∷ seg) = rw (moved-struck (suc at) seg)
 moved-struck at (removed ∷ seg) = rw (moved-struck at seg)
@@ -388,12 +411,13 @@ free-fill g e zero n = refl
 free-fill g e (suc k) zero = refl
 free-fill g e (suc k) (suc n) = rw (e, free-fill g e k n)
 
-pub free-record : (r : Record) (n : ℕ) → r .held ≡ 0 → r .removed ≡ 0 → r .used ≡ n → r .cells ≡ fill 16 [] → r .counts ≡ fill 16 [] → r ≡ recordOf (freeSegment n)
+pub free-record : (r : Record) (n : ℕ) → r .held ≡ 0 → r .removed ≡ 0 → r .blank ≡ 0 → r .used ≡ n → r .cells ≡ fill 16 [] → r .counts ≡ fill 16 [] → r ≡ recordOf (freeSegment n)
 unfolding recordOf freeSegment
-free-record r n h d u c k =
+free-record r n h d b u c k =
     same-record _ _
     (h ∙ sym (free-mask isHeld refl n))
     (d ∙ sym (free-mask isRemoved refl n))
+    (b ∙ sym (free-mask isBlankPosition refl n))
     (u ∙ sym (length-replicate n nullPosition))
     (c ∙ sym (free-fill cellOf refl 16 n))
     (k ∙ sym (free-fill countOf refl 16 n))

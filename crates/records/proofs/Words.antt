@@ -9,7 +9,7 @@ use lib.Seq.{length-take-le, getD-drop, getD-take, take-at, drop-at, drop-drop, 
 use Rattle.lists.specs.Masks.{maskOf}
 use Rattle.lists.specs.Rows.{fill}
 use Rattle.model.specs.Measures.{recordWords}
-use Rattle.model.specs.Records.{isHeld, isRemoved, cellOf, countOf}
+use Rattle.model.specs.Records.{isHeld, isRemoved, isBlankPosition, cellOf, countOf}
 use Rattle.model.specs.State.{Segment}
 use Rattle.model.specs.Table.{recordToWords}
 use Rattle.laws.proofs.RoundTrip.{length-record}
@@ -18,26 +18,27 @@ use Rattle.records.specs.declared.Record.{Record}
 use Rattle.lists.proofs.Filled.{over-zeros}
 use Rattle.lists.proofs.Slices.{drop-take}
 use Rattle.lists.proofs.Written.{written, written-written}
-use Rattle.records.proofs.Records.{same-record, held-mask, removed-mask, cells-fill, counts-fill, front}
+use Rattle.records.proofs.Records.{same-record, held-mask, removed-mask, blank-mask, cells-fill, counts-fill, front}
 
 -- ---- recordToWords
 
 -- a record's words written in three steps
 pub store-all : (t l₁ l₂ l₃ : List ℕ) (at n : ℕ) (r : Record) → Formed r → length (positions r) ≡ n → at + recordWords n ≤ length t
-    → l₁ ≡ written t at (r .held ∷ r .removed ∷ 0 ∷ []) → l₂ ≡ written l₁ (at + 3) (take n (r .cells)) → l₃ ≡ written l₂ (at + 3 + n) (take n (r .counts))
+    → l₁ ≡ written t at (r .held ∷ r .removed ∷ r .blank ∷ []) → l₂ ≡ written l₁ (at + 3) (take n (r .cells)) → l₃ ≡ written l₂ (at + 3 + n) (take n (r .counts))
     → l₃ ≡ take at t ++ (recordToWords (positions r) ++ drop (recordWords n) (drop at t))
 unfolding recordToWords
 store-all t l₁ l₂ l₃ at n r f ln h a b c =
     let seg : Segment = positions r in
     let cells : List ℕ = map cellOf seg in
     let counts : List ℕ = map countOf seg in
-    let head : List ℕ = maskOf isHeld seg ∷ maskOf isRemoved seg ∷ 0 ∷ [] in
+    let head : List ℕ = maskOf isHeld seg ∷ maskOf isRemoved seg ∷ maskOf isBlankPosition seg ∷ [] in
     let k : length cells ≡ n = length-map seg cellOf ∙ ln in
     let k′ : length counts ≡ n = length-map seg countOf ∙ ln in
     let few : n ≤ 16 = omega (arith, f .few) in
     let ec : take n (r .cells) ≡ cells = ap (take n) (cells-fill r f) ∙ front cells n k few in
     let en : take n (r .counts) ≡ counts = ap (take n) (counts-fill r f) ∙ front counts n k′ few in
-    let e₁ : l₁ ≡ written t at head = a ∙ ap₂ (λ (x y : ℕ). written t at (x ∷ y ∷ 0 ∷ [])) (held-mask r f) (removed-mask r f) in
+    let e₁ : l₁ ≡ written t at head = a ∙ ap₂ (λ (x y : ℕ). written t at (x ∷ y ∷ r .blank ∷ [])) (held-mask r f) (removed-mask r f)
+    ∙ ap (λ (z : ℕ). written t at (maskOf isHeld seg ∷ maskOf isRemoved seg ∷ z ∷ [])) (blank-mask r f) in
     let e₂ : l₂ ≡ written t at (head ++ cells) = b ∙ rw (e₁, ec) (written-written t at head cells (omega arith)) in
     let q : at + 3 + n ≡ at + length (head ++ cells) = omega arith in
     let e₃ : l₃ ≡ written t at ((head ++ cells) ++ counts) = c ∙ rw (e₂, en, q) (written-written t at (head ++ cells) counts (omega arith)) in
@@ -49,13 +50,14 @@ store-all t l₁ l₂ l₃ at n r f ln h a b c =
 -- ---- recordIn
 
 -- the record of a row is read from the words around it
-pub record-row : (t : List ℕ) (at n : ℕ) (r : Record) → r .held ≡ getD t at 0 → r .removed ≡ getD t (at + 1) 0 → r .used ≡ n
+pub record-row : (t : List ℕ) (at n : ℕ) (r : Record) → r .held ≡ getD t at 0 → r .removed ≡ getD t (at + 1) 0 → r .blank ≡ getD t (at + 2) 0 → r .used ≡ n
     → r .cells ≡ fill 16 (take n (drop (at + 3) t)) → r .counts ≡ fill 16 (take n (drop (at + 3 + n) t)) → r ≡ recordIn n (take (recordWords n) (drop at t))
 unfolding recordIn
-record-row t at n r h d u c k =
+record-row t at n r h d b u c k =
     same-record _ _
     (h ∙ ap (λ (i : ℕ). getD t i 0) (sym (add-zero at)) ∙ sym (getD-drop at t 0 0) ∙ sym (getD-take (recordWords n) (drop at t) 0 0 (omega arith)))
     (d ∙ sym (getD-drop at t 1 0) ∙ sym (getD-take (recordWords n) (drop at t) 1 0 (omega arith)))
+    (b ∙ sym (getD-drop at t 2 0) ∙ sym (getD-take (recordWords n) (drop at t) 2 0 (omega arith)))
     u
     (c ∙ ap (fill 16) (some 3 (omega arith)))
     (k ∙ ap (λ (i : ℕ). fill 16 (take n (drop i t))) (let z : at + 3 + n ≡ at + (3 + n) = omega arith in z) ∙ ap (fill 16) (some (3 + n) (omega arith)))
@@ -71,7 +73,7 @@ record-words n seg l =
     let cells : List ℕ = map cellOf seg in
     let counts : List ℕ = map countOf seg in
     let lc : length cells ≡ n = length-map seg cellOf ∙ l in
-    same-record _ _ refl refl (sym l)
+    same-record _ _ refl refl refl (sym l)
     (ap (fill 16) (take-at cells counts n lc))
     (ap (fill 16) (ap (take n) (sym (drop-drop n 3 (recordToWords seg)) ∙ drop-at cells counts n lc) ∙ take-all n counts (omega (arith, length-map seg countOf))))
 

@@ -1,4 +1,4 @@
-// A segment record by value: the mask of its held positions, that of its removed ones, how many positions it has, and the cell and the count of each.
+// A segment record by value: the masks of its held, removed and blank positions, how many positions it has, and the cell and the count of each.
 ghost use mathlib.Core.Path.{_≡_};
 ghost use mathlib.Core.Bool.{true, cond};
 ghost use mathlib.Core.List.{List, map, _++_};
@@ -21,6 +21,7 @@ use numbers::RecordNumber;
 pub struct Record {
     pub held: u32,
     pub removed: u32,
+    pub blank: u32,
     pub used: usize,
     pub cells: [u32; Record::POSITIONS],
     pub counts: [u32; Record::POSITIONS],
@@ -37,6 +38,7 @@ impl Record {
         Record {
             held: 0,
             removed: 0,
+            blank: 0,
             used: positions,
             cells: [0; Record::POSITIONS],
             counts: [0; Record::POSITIONS],
@@ -130,7 +132,7 @@ impl Record {
         ensures { λ _. ⌜ now (words .exit) ≡ take (number .0 * recordWords n) (now (words .entry)) ++ (recordToWords (positions self) ++ drop (recordWords n) (drop (number .0 * recordWords n) (now (words .entry)))) ⌝ }
     {
         let at = number.word(n);
-        let head = [self.held, self.removed, 0];
+        let head = [self.held, self.removed, self.blank];
         let cells = self.cells;
         let counts = self.counts;
         put_at(&head, words, at);
@@ -141,7 +143,7 @@ impl Record {
 
 // 1 for a held position whose count is 0; `held` is the mask from that position on.
 fn unused(held: u32, count: u32) -> u32
-    ensures { λ r. ⌜ (r ≡ cond (goes (positionOf (held % 2) 0 0 count)) 1 0) × (r ≤ 1) ⌝ }
+    ensures { λ r. ⌜ (r ≡ cond (goes (positionOf (held % 2) 0 0 0 count)) 1 0) × (r ≤ 1) ⌝ }
 {
     if held % 2 == 0 {
         return 0;
@@ -193,6 +195,7 @@ pub fn load(words: &[u32], number: RecordNumber, n: usize) -> Record
     Record {
         held: words[at],
         removed: words[at + 1],
+        blank: words[at + 2],
         used: n,
         cells,
         counts,

@@ -9,7 +9,7 @@ use lib.Seq.{getD-append-add, length-take-le, getD-drop}
 use lib.Dec.{eqb}
 use borrow.Author.Tests.{eqb-true, eqb-false}
 use Rattle.lists.specs.Each.{Each}
-use Rattle.model.specs.State.{Pointer, nullPointer, direct, indirect}
+use Rattle.model.specs.State.{Pointer, nullPointer, blankPointer, direct, indirect}
 use Rattle.model.specs.Table.{kindUnit, pointerWord, pointerOf, wordToPointer}
 use Rattle.model.specs.Calls.{taken, takeOver}
 use Rattle.laws.proofs.Fits.{PointerFits}
@@ -23,7 +23,8 @@ unfolding pointerOf
 no-indirect gone zero r f = refl
 no-indirect gone (suc zero) r f = refl
 no-indirect gone (suc (suc zero)) r f = absurd (f refl)
-no-indirect gone (suc (suc (suc k))) r f = refl
+no-indirect gone (suc (suc (suc zero))) r f = refl
+no-indirect gone (suc (suc (suc (suc k)))) r f = refl
 
 taken-pointer : (gone : List ℕ) (w : ℕ) → wordToPointer (takenWord gone w) ≡ taken (map wordToPointer gone) (wordToPointer w)
 unfolding takenWord wordToPointer pointerOf
@@ -55,6 +56,7 @@ taken-each P gone (w ∷ ws) z f (suc i) = taken-each P gone ws z f i
 over-word : (gone : List Pointer) (p : Pointer) → PointerFits p → takeOverWord (map pointerWord gone) (pointerWord p) ≡ pointerWord (takeOver gone p)
 unfolding takeOverWord pointerWord
 over-word gone nullPointer h = refl
+over-word gone blankPointer h = refl
 over-word gone (direct k i) h = let q : (kindUnit + (k * 16 + i)) / kindUnit ≡ 1 = omega arith in rw q refl
 over-word gone (indirect n) h =
     let q : (2 * kindUnit + n) / kindUnit ≡ 2 = omega arith in

@@ -14,8 +14,8 @@ use Rattle.lists.proofs.Rows.{getD-rows, set-rows}
 use Rattle.lists.proofs.Sets.{map-set, set-append-add}
 use Rattle.lists.proofs.Slices.{drop-next, drop-end}
 use Rattle.model.specs.Measures.{recordWords}
-use Rattle.model.specs.Records.{isHeld, isRemoved, cellOf, countOf}
-use Rattle.model.specs.State.{Position, nullPosition, held, removed, Segment, Pointer, nullPointer, direct, indirect}
+use Rattle.model.specs.Records.{isHeld, isRemoved, isBlankPosition, cellOf, countOf}
+use Rattle.model.specs.State.{Position, nullPosition, blankPosition, held, removed, Segment, Pointer, nullPointer, blankPointer, direct, indirect}
 use Rattle.model.specs.Place.{oneMore}
 use Rattle.model.specs.Sweep.{oneLess, changeAt, changeAll}
 use Rattle.model.specs.Table.{recordToWords, wordToPointer, pointerOf, recordsIn}
@@ -28,6 +28,7 @@ use Rattle.shelf.proofs.Read.{row-inside, count-at, wide-of, records-re
 pub record Recounts (f : Position → Position) (g : ℕ → ℕ) (Ok : Position → Type 0) : Type 0 where
   pub recount : Recount f
   pub isRemoved : (p : Position) → isRemoved (f p) ≡ isRemoved p
+  pub isBlank : (p : Position) → isBlankPosition (f p) ≡ isBlankPosition p
   pub count : (p : Position) → Ok p → countOf (f p) ≡ g (countOf p)
 
 count-word : (n : ℕ) (seg : Segment) → length seg ≡ n → (i : ℕ) → getD (recordToWords seg) (3 + n + i) 0 ≡ countOf (getD seg i nullPosition)
@@ -72,11 +73,12 @@ module _ (f : Position → Position) (g : ℕ → ℕ) (Ok : Position → Type 0
         q,
         mask-same isHeld seg i nullPosition (f p) (c .recount .isHeld p),
         mask-same isRemoved seg i nullPosition (f p) (c .isRemoved p),
+        mask-same isBlankPosition seg i nullPosition (f p) (c .isBlank p),
         map-set-same cellOf seg i (f p) nullPosition (c .recount .cell p),
         map-set countOf seg i (f p),
         c .count p ok,
       )
-      (ap (λ (l : List ℕ). maskOf isHeld seg ∷ maskOf isRemoved seg ∷ 0 ∷ l) (set-append-add (map cellOf seg) (map countOf seg) i (g (countOf p))))
+      (ap (λ (l : List ℕ). maskOf isHeld seg ∷ maskOf isRemoved seg ∷ maskOf isBlankPosition seg ∷ l) (set-append-add (map cellOf seg) (map countOf seg) i (g (countOf p))))
 
   -- the position of a direct pointer
   change-word : (n : ℕ) (ws : List ℕ) (segs : List Segment) → RecordsTold n ws segs → (k i : ℕ) → k * recordWords n + recordWords n ≤ length ws → i < n → Ok (positionIn segs k i)
@@ -110,7 +112,8 @@ change-other f segs w h = go (w / 16777216) h
     go zero h = refl
     go (suc zero) h = absurd (h refl)
     go (suc (suc zero)) h = refl
-    go (suc (suc (suc k))) h = refl
+    go (suc (suc (suc zero))) h = refl
+    go (suc (suc (suc (suc k)))) h = refl
 
 -- the pointers from `i` on are still to change their counts
 pub record Changing (f : Position → Position) (n : ℕ) (words₀ pointers words : List ℕ) (i : ℕ) : Type 0 where
@@ -149,28 +152,44 @@ module _ (f : Position → Position) where
 -- ---- counts that fall, and that rise
 
 pub lowers : Recounts oneLess pred (λ p. Unit)
-lowers = record { recount = falls; isRemoved = same; count = λ p ok. less p }
+lowers = record { recount = falls; isRemoved = same; isBlank = blank; count = λ p ok. less p }
   where
     same : (p : Position) → isRemoved (oneLess p) ≡ isRemoved p
     same nullPosition = refl
+    same blankPosition = refl
     same (held c n) = refl
     same removed = refl
 
+    blank : (p : Position) → isBlankPosition (oneLess p) ≡ isBlankPosition p
+    blank nullPosition = refl
+    blank blankPosition = refl
+    blank (held c n) = refl
+    blank removed = refl
+
     less : (p : Position) → countOf (oneLess p) ≡ pred (countOf p)
     less nullPosition = refl
+    less blankPosition = refl
     less (held c n) = refl
     less removed = refl
 
 pub raises : Recounts oneMore (λ n. n + 1) (λ p. isHeld p ≡ true)
-raises = record { recount = grows; isRemoved = same; count = more }
+raises = record { recount = grows; isRemoved = same; isBlank = blank; count = more }
   where
     same : (p : Position) → isRemoved (oneMore p) ≡ isRemoved p
     same nullPosition = refl
+    same blankPosition = refl
     same (held c n) = refl
     same removed = refl
 
+    blank : (p : Position) → isBlankPosition (oneMore p) ≡ isBlankPosition p
+    blank nullPosition = refl
+    blank blankPosition = refl
+    blank (held c n) = refl
+    blank removed = refl
+
     more : (p : Position) → isHeld p ≡ true → countOf (oneMore p) ≡ countOf p + 1
     more nullPosition h = absurd (false≢true h)
+    more blankPosition h = absurd (false≢true h)
     more (held c n) h = omega arith
     more removed h = absurd (false≢true h)
 
@@ -203,5 +222,6 @@ raising-next n words₀ pointers words i h v ys l r =
 pub names-still : (old new : List Segment) → ((k j : ℕ) → isHeld (positionIn new k j) ≡ isHeld (positionIn old k j)) → (p : Pointer) → NamesHeld old p → NamesHeld new p
 unfolding NamesHeld
 names-still old new s nullPointer h = tt
+names-still old new s blankPointer h = tt
 names-still old new s (direct k i) h = s k i ∙ h
 names-still old new s (indirect b) h = tt

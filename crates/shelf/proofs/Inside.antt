@@ -17,10 +17,11 @@ use Rattle.lists.proofs.Uses.{uses}
 use Rattle.model.specs.Image.{zeroBlock}
 use Rattle.model.specs.Measures.{Measures, recordWords}
 use Rattle.model.specs.Records.{isHeld, cellOf, namedCells}
-use Rattle.model.specs.State.{Block, Position, nullPosition, held, removed, Segment, Shelf}
+use Rattle.model.specs.State.{Block, Position, nullPosition, blankPosition, held, removed, Segment, Shelf}
 use Rattle.model.specs.Table.{cellsIn, recordsIn, shelfIn}
 use Rattle.laws.proofs.Named.{inside-any}
-use Rattle.laws.proofs.Place.{held-named, zero-eq}
+use Rattle.laws.proofs.Bare.{zero-eq}
+use Rattle.laws.proofs.Place.{held-named}
 use Rattle.laws.proofs.Sweep.{Exact, named-one}
 use Rattle.laws.proofs.Uses.{bit}
 use Rattle.shelf.specs.Stored.{CellsTold, Stored, positionIn}
@@ -73,6 +74,7 @@ module _ (sh : Shelf) (x : Exact sh) where
     where
       go : (p : Position) → (isHeld p ≡ true → cellOf p < length (sh .cells)) → cellOf p < length (sh .cells)
       go nullPosition f = z
+      go blankPosition f = z
       go (held c n) f = f refl
       go removed f = z
 

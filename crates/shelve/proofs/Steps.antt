@@ -5,7 +5,7 @@ use Prim.Native.Nat.{ℕ, _≤_, _<_}
 use native.Mathlib.Omega.{arith}
 use lib.ListN.{length, getD}
 use Rattle.lists.specs.Each.{Each}
-use Rattle.model.specs.Image.{imageBlocks, imageSegments}
+use Rattle.model.specs.Image.{imageBlocks, imageSegments, withBlanks}
 use Rattle.model.specs.Measures.{Measures}
 use Rattle.model.specs.Place.{Placed}
 use Rattle.model.specs.State.{Pointer, Shelf, Outcome, refused, done}
@@ -27,7 +27,7 @@ prev-fits n l ws p j h =
 
 module _ (m : Measures) (image pool ws prev : List ℕ) (t : Turnable m image pool ws prev) where
   abbrev ps : List Pointer
-  ps = turning (shelfIn m pool ws) (imageBlocks (m .blockBytes) image) (map wordToPointer prev)
+  ps = turning withBlanks (shelfIn m pool ws) (imageBlocks (m .blockBytes) image) (map wordToPointer prev)
 
   good : Each (Followable (m .segmentBlocks) (length ws)) ps
   good = turning-good (m .segmentBlocks) (length ws) (shelfIn m pool ws) (imageBlocks (m .blockBytes) image) (map wordToPointer prev) (t .pointers .good)
@@ -40,7 +40,7 @@ module _ (m : Measures) (image pool ws prev : List ℕ) (t : Turnable m image po
 
   pub turned-swept : (out pool′ ws′ prev′ : List ℕ) → out ≡ map pointerWord ps
       → Told m pool′ ws′ (sweep m (release (shelfIn m pool ws) (map wordToPointer out)))
-      → prev′ ≡ map pointerWord (turn (shelfIn m pool ws) (imageBlocks (m .blockBytes) image) (map wordToPointer prev))
+      → prev′ ≡ map pointerWord (turn withBlanks (shelfIn m pool ws) (imageBlocks (m .blockBytes) image) (map wordToPointer prev))
       → Turned m (shelfIn m pool ws) (imageBlocks (m .blockBytes) image) (map wordToPointer prev) pool′ ws′ prev′
   turned-swept out pool′ ws′ prev′ e d w = record {
     told =

@@ -4,7 +4,7 @@ use mathlib.Core.List.{List, map}
 use Prim.Native.Nat.{ℕ, _≤_, _<_}
 use lib.ListN.{length}
 use Rattle.lists.specs.Each.{Each}
-use Rattle.model.specs.Image.{imageBlocks}
+use Rattle.model.specs.Image.{imageBlocks, withBlanks}
 use Rattle.model.specs.Measures.{Measures}
 use Rattle.model.specs.Place.{Placed}
 use Rattle.model.specs.State.{Block, Pointer, Shelf, Outcome, refused, done}
@@ -28,8 +28,8 @@ pub record Turnable (m : Measures) (image pool ws prev : List ℕ) : Type 0 wher
   pub pointers : Pointed (m .segmentBlocks) (length ws) prev
 
 pub record Turned (m : Measures) (shelf : Shelf) (blocks : List Block) (ps : List Pointer) (pool ws prev : List ℕ) : Type 0 where
-  pub told : Told m pool ws (sweep m (release shelf (turning shelf blocks ps)))
-  pub words : prev ≡ map pointerWord (turn shelf blocks ps)
+  pub told : Told m pool ws (sweep m (release shelf (turning withBlanks shelf blocks ps)))
+  pub words : prev ≡ map pointerWord (turn withBlanks shelf blocks ps)
 
 pub record Readied (m : Measures) (image pool ws words prev : List ℕ) : Type 0 where
   pub ready : AllReady m image pool ws words

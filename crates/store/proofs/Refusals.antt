@@ -7,7 +7,7 @@ use Prim.Native.Nat.{ℕ}
 use borrow.Author.Tests.{not-true, not-false}
 use Rattle.lists.specs.Lists.{isSome}
 use Rattle.model.specs.Sound.{storeOf}
-use Rattle.model.specs.Calls.{BackupAnswer, backupIn, backupOf, ListingAnswer, RestoreAnswer, listingRefusal, listingIn, listingOf, restoreRefusal, restoreIn, restoreOf, RetireAnswer, retireIn, retireOf, TallyAnswer, tallyIn, tallyOf}
+use Rattle.model.specs.Calls.{BackupAnswer, backupBy, backupIn, backupOf, ListingAnswer, RestoreAnswer, listingRefusal, listingIn, listingOf, restoreRefusal, restoreIn, restoreOf, RetireAnswer, retireIn, retireOf, TallyAnswer, tallyIn, tallyOf}
 use Rattle.laws.specs.Stores.{Sound}
 use Rattle.laws.proofs.Stores.{sound-if, none-if}
 
@@ -35,5 +35,5 @@ module _ (pool table : List ℕ) (r : Bool) (e : r ≡ isSome (storeOf pool tabl
   tally-10 n = rw (no-store n)
 
   pub backup-10 : not r ≡ true → (t : ℕ) (image : List ℕ) → record { refusal = 10; version = 0; pool = pool; table = table } ≡ backupOf pool table t image
-  unfolding backupOf backupIn
+  unfolding backupOf backupBy backupIn
   backup-10 n t image = rw (no-store n)

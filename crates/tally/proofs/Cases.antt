@@ -18,8 +18,8 @@ use Rattle.lists.proofs.Masks.{ones-mask}
 use Rattle.lists.proofs.Places.{rows-few}
 use Rattle.lists.proofs.Slices.{drop-next, drop-end, tail-all}
 use Rattle.model.specs.Measures.{Measures, recordWords, tableWords}
-use Rattle.model.specs.State.{nullPosition, held, removed, Segment}
-use Rattle.model.specs.Records.{isHeld, isRemoved, isFree, cellOf, cellsOf, namedCells, countOf}
+use Rattle.model.specs.State.{nullPosition, blankPosition, held, removed, Segment}
+use Rattle.model.specs.Records.{isHeld, isRemoved, isFree, cellOf, cellsOf, namedCells, countOf, isBlankPosition}
 use Rattle.model.specs.Table.{recordToWords, segmentIn, recordsIn, shapeOf, stateIn, shelfIn, recordsPart}
 use Rattle.model.specs.Calls.{tallyIn, tallyOf}
 use Rattle.laws.proofs.Bounds.{counts-most}
@@ -34,37 +34,43 @@ use Rattle.tally.specs.Answers.{sum, inUse, Row, Counts, Rows, tallied, 
 
 -- ---- one record
 
-pub in-use-held : (h r : ℕ) → (h ≡ 0 → ⊥) → _≡_ {A = ℕ} 1 (inUse h r)
-in-use-held zero r n = absurd (n refl)
-in-use-held (suc h) r n = refl
+pub in-use-held : (h r b : ℕ) → (h ≡ 0 → ⊥) → _≡_ {A = ℕ} 1 (inUse h r b)
+in-use-held zero r b n = absurd (n refl)
+in-use-held (suc h) r b n = refl
 
-pub in-use-removed : (h r : ℕ) → (r ≡ 0 → ⊥) → _≡_ {A = ℕ} 1 (inUse h r)
-in-use-removed zero zero n = absurd (n refl)
-in-use-removed zero (suc r) n = refl
-in-use-removed (suc h) r n = refl
+pub in-use-removed : (h r b : ℕ) → (r ≡ 0 → ⊥) → _≡_ {A = ℕ} 1 (inUse h r b)
+in-use-removed zero zero b n = absurd (n refl)
+in-use-removed zero (suc r) b n = refl
+in-use-removed (suc h) r b n = refl
+
+pub in-use-blank : (h r b : ℕ) → (b ≡ 0 → ⊥) → _≡_ {A = ℕ} 1 (inUse h r b)
+in-use-blank zero zero zero n = absurd (n refl)
+in-use-blank zero zero (suc b) n = refl
+in-use-blank zero (suc r) b n = refl
+in-use-blank (suc h) r b n = refl
 
 held-cells : (seg : Segment) → count isHeld seg ≡ length (cellsOf seg)
 unfolding count cellsOf
 held-cells [] = refl
 held-cells (nullPosition ∷ seg) = omega (arith, held-cells seg)
+held-cells (blankPosition ∷ seg) = omega (arith, held-cells seg)
 held-cells (held c n ∷ seg) = omega (arith, held-cells seg)
 held-cells (removed ∷ seg) = omega (arith, held-cells seg)
 
-use-free : (seg : Segment) → inUse (maskOf isHeld seg) (maskOf isRemoved seg) ≡ cond (not (isFree seg)) 1 0
+-- twice the masks, with a null position in front
+double : (h r b : ℕ) → inUse (0 + 2 * h) (0 + 2 * r) (0 + 2 * b) ≡ inUse h r b
+double zero zero zero = refl
+double zero zero (suc b) = sym (in-use-blank 0 0 (0 + 2 * suc b) (λ z. omega arith))
+double zero (suc r) b = sym (in-use-removed 0 (0 + 2 * suc r) (0 + 2 * b) (λ z. omega arith))
+double (suc h) r b = sym (in-use-held (0 + 2 * suc h) (0 + 2 * r) (0 + 2 * b) (λ z. omega arith))
+
+use-free : (seg : Segment) → inUse (maskOf isHeld seg) (maskOf isRemoved seg) (maskOf isBlankPosition seg) ≡ cond (not (isFree seg)) 1 0
 unfolding maskOf isFree every
 use-free [] = refl
-use-free (nullPosition ∷ seg) = double (maskOf isHeld seg) (maskOf isRemoved seg) ∙ use-free seg
-  where
-    double : (h r : ℕ) → inUse (0 + 2 * h) (0 + 2 * r) ≡ inUse h r
-    double zero zero = refl
-    double zero (suc r) = let e : 0 + 2 * suc r ≡ suc (suc (2 * r)) = omega arith in ap (inUse 0) e
-    double (suc h) r = let e : 0 + 2 * suc h ≡ suc (suc (2 * h)) = omega arith in ap (λ (x : ℕ). inUse x (0 + 2 * r)) e
-use-free (held c n ∷ seg) = let e : 1 + 2 * maskOf isHeld seg ≡ suc (2 * maskOf isHeld seg) = omega arith in ap (λ (x : ℕ). inUse x (0 + 2 * maskOf isRemoved seg)) e
-use-free (removed ∷ seg) = odd (2 * maskOf isHeld seg) (2 * maskOf isRemoved seg)
-  where
-    odd : (h r : ℕ) → inUse (0 + h) (1 + r) ≡ 1
-    odd zero r = let e : 1 + r ≡ suc r = omega arith in ap (inUse 0) e
-    odd (suc h) r = let e : 0 + suc h ≡ suc h = omega arith in ap (λ (x : ℕ). inUse x (1 + r)) e
+use-free (nullPosition ∷ seg) = double (maskOf isHeld seg) (maskOf isRemoved seg) (maskOf isBlankPosition seg) ∙ use-free seg
+use-free (blankPosition ∷ seg) = sym (in-use-blank (0 + 2 * maskOf isHeld seg) (0 + 2 * maskOf isRemoved seg) (1 + 2 * maskOf isBlankPosition seg) (λ z. omega arith))
+use-free (held c n ∷ seg) = sym (in-use-held (1 + 2 * maskOf isHeld seg) (0 + 2 * maskOf isRemoved seg) (0 + 2 * maskOf isBlankPosition seg) (λ z. omega arith))
+use-free (removed ∷ seg) = sym (in-use-removed (0 + 2 * maskOf isHeld seg) (1 + 2 * maskOf isRemoved seg) (0 + 2 * maskOf isBlankPosition seg) (λ z. omega arith))
 
 module _ (n : ℕ) (row : List ℕ) (h : Row n row) where
   abbrev seg : Segment
@@ -86,12 +92,12 @@ module _ (n : ℕ) (row : List ℕ) (h : Row n row) where
   pub counts-few : sum (take (length row - (3 + n)) (drop (3 + n) row)) ≤ 1048576
   counts-few = omega (arith, counts-sum, h .few)
 
-  pub row-counted : (r k : ℕ) → r ≡ inUse (getD row 0 0) (getD row 1 0) → k ≡ sum (take (length row - (3 + n)) (drop (3 + n) row))
+  pub row-counted : (r k : ℕ) → r ≡ inUse (getD row 0 0) (getD row 1 0) (getD row 2 0) → k ≡ sum (take (length row - (3 + n)) (drop (3 + n) row))
       → Counts seg (record { refusal = 0; cells = ones (getD row 0 0); records = r; counts = k })
   unfolding recordToWords
   row-counted r k e f = record {
     cells = ap (λ (ws : List ℕ). ones (getD ws 0 0)) (h .words) ∙ ones-mask isHeld seg ∙ held-cells seg;
-    records = e ∙ ap (λ (ws : List ℕ). inUse (getD ws 0 0) (getD ws 1 0)) (h .words) ∙ use-free seg;
+    records = e ∙ ap (λ (ws : List ℕ). inUse (getD ws 0 0) (getD ws 1 0) (getD ws 2 0)) (h .words) ∙ use-free seg;
     counts = f ∙ counts-sum;
   }
 

@@ -20,11 +20,12 @@ tallyAnswer r = record { refusal = r .refusal; cells = r .cells; records = r .re
 abbrev pub sum : List ℕ → ℕ
 sum ns = total (λ n. n) ns
 
--- 1 for a record in use, from its two masks
-abbrev pub inUse : ℕ → ℕ → ℕ
-inUse zero zero = 0
-inUse zero (suc r) = 1
-inUse (suc h) r = 1
+-- 1 for a record in use, from its three masks
+abbrev pub inUse : ℕ → ℕ → ℕ → ℕ
+inUse zero zero zero = 0
+inUse zero zero (suc b) = 1
+inUse zero (suc r) b = 1
+inUse (suc h) r b = 1
 
 -- a row of words is that of a record of n positions
 pub record Row (n : ℕ) (row : List ℕ) : Type 0 where

@@ -28,14 +28,17 @@ fn add_all(words: &[u32]) -> u32
     n
 }
 
-// 1 unless both masks are 0.
-fn in_use(held: u32, removed: u32) -> u32
-    ensures { λ r. ⌜ r ≡ inUse held removed ⌝ }
+// 1 unless all three masks are 0.
+fn in_use(held: u32, removed: u32, blank: u32) -> u32
+    ensures { λ r. ⌜ r ≡ inUse held removed blank ⌝ }
 {
     if held != 0 {
         return 1;
     }
     if removed != 0 {
+        return 1;
+    }
+    if blank != 0 {
         return 1;
     }
     0
@@ -46,7 +49,7 @@ fn tally_row(row: &[u32], n: usize) -> Tally
     requires { ⌜ (n ≤ 16) × Row n (now row) ⌝ }
     ensures { λ r. ⌜ Counts (segmentIn n (now (row .entry))) r ⌝ }
 {
-    let records = in_use(row[0], row[1]);
+    let records = in_use(row[0], row[1], row[2]);
     let from = 3 + n;
     let counts = add_all(&row[from..]);
     Tally {

@@ -14,10 +14,10 @@ use Rattle.lists.proofs.Counted.{length-counted, counted-at}
 use Rattle.lists.proofs.Each.{each-counted}
 use Rattle.lists.proofs.Rows.{getD-rows, length-joined}
 use Rattle.lists.proofs.Slices.{drop-end, take-replicate}
-use Rattle.model.specs.Image.{zeroBlock}
+use Rattle.model.specs.Image.{blankBlock, zeroBlock}
 use Rattle.model.specs.Measures.{Measures, recordWords}
 use Rattle.model.specs.Records.{cellOf, countOf, cellAt, positionAt}
-use Rattle.model.specs.State.{Segment, nullPosition, Shelf, direct, indirect, nullPointer, Pointer, Version, Block}
+use Rattle.model.specs.State.{Segment, nullPosition, Shelf, direct, indirect, nullPointer, blankPointer, Pointer, Version, Block}
 use Rattle.model.specs.Table.{recordToWords, shelfIn, recordsIn, wordToPointer, pointerOf, versionsIn, versionIn}
 use Rattle.model.specs.Trace.{blockAt, endOf, tracedBlock, tracedBlocks, imageOf, longestChain, hops}
 use Rattle.shelf.specs.Fits.{Fits}
@@ -27,7 +27,7 @@ use Rattle.shelf.proofs.Read.{row-inside, wide-of, count-at, cells-length, stor
 use Rattle.lists.proofs.Places.{row-room}
 use Rattle.lists.proofs.Joins.{row-joined}
 use Rattle.kept.proofs.Named.{named-in}
-use Rattle.trace.specs.Versions.{noVersion, Traceable, Direct, pointersAt}
+use Rattle.trace.specs.Versions.{fillByte, noVersion, Traceable, Direct, pointersAt}
 use Rattle.trace.proofs.Traces.{ends-fit, length-versions, version-row}
 
 -- ---- the cell of a position
@@ -45,6 +45,23 @@ cell-word n ws segs r k i h l =
     ap (λ (x : List ℕ). getD x (k * recordWords n + (3 + i)) 0) (r .words)
     ∙ getD-rows recordToWords (recordWords n) [] 0 segs (wide-of n segs (r .sized)) k (3 + i) hk (omega arith)
     ∙ cell-row (getD segs k []) i (omega (arith, count-at n ws segs r k hk))
+
+-- ---- the byte of a block that has no cell
+
+pub blank-fill : (w : ℕ) → w / 16777216 ≡ 3 → 255 ≡ fillByte (wordToPointer w)
+unfolding wordToPointer pointerOf fillByte
+blank-fill w e = rw e
+
+pub null-fill : (w : ℕ) → (w / 16777216 ≡ 3 → ⊥) → 0 ≡ fillByte (wordToPointer w)
+unfolding wordToPointer pointerOf fillByte
+null-fill w f = go (w / 16777216) f
+  where
+    go : (k : ℕ) → (k ≡ 3 → ⊥) → 0 ≡ fillByte (pointerOf k (w % 16777216))
+    go zero f = refl
+    go (suc zero) f = refl
+    go (suc (suc zero)) f = refl
+    go (suc (suc (suc zero))) f = absurd (f refl)
+    go (suc (suc (suc (suc k)))) f = refl
 
 -- ---- the block of a pointer
 
@@ -82,6 +99,7 @@ module _ (m : Measures) (pool words : List ℕ) (s : Stored m pool words) where
   pub length-block : (p : Pointer) → Fits n (length words) p → length (blockAt size sh p) ≡ size
   unfolding Fits
   length-block nullPointer f = unfold blockAt zeroBlock in length-replicate {A = ℕ} size 0
+  length-block blankPointer f = unfold blockAt blankBlock in length-replicate {A = ℕ} size 255
   length-block (direct k i) f =
       sym (ap length (block-direct k i (f .0) (f .1)))
       ∙ length-take-le size (drop (cellOf (getD (getD (recordsIn n words) k []) i nullPosition) * size) pool)
@@ -105,21 +123,22 @@ module _ (m : Measures) (pool words : List ℕ) (s : Stored m pool words) where
       ∙ ap (λ (i : ℕ). take l (take size (drop i pool))) (ef ∙ ec′)
       ∙ ap (take l) (block-direct (w % 16777216 / 16) (w % 16777216 % 16) room hi ∙ ap (blockAt size sh) (sym (direct-word w e))))
 
-  -- a part cleared
-  zero-other : (w : ℕ) → (w / 16777216 ≡ 1 → ⊥) → blockAt size sh (wordToPointer w) ≡ zeroBlock size
-  unfolding blockAt wordToPointer pointerOf
-  zero-other w f = go (w / 16777216) f
+  -- a part filled with one byte
+  fill-other : (w : ℕ) → (w / 16777216 ≡ 1 → ⊥) → blockAt size sh (wordToPointer w) ≡ replicate size (fillByte (wordToPointer w))
+  unfolding blockAt wordToPointer pointerOf fillByte zeroBlock blankBlock
+  fill-other w f = go (w / 16777216) f
     where
-      go : (k : ℕ) → (k ≡ 1 → ⊥) → blockAt size sh (pointerOf k (w % 16777216)) ≡ zeroBlock size
+      go : (k : ℕ) → (k ≡ 1 → ⊥) → blockAt size sh (pointerOf k (w % 16777216)) ≡ replicate size (fillByte (pointerOf k (w % 16777216)))
       go zero f = refl
       go (suc zero) f = absurd (f refl)
       go (suc (suc zero)) f = refl
-      go (suc (suc (suc k))) f = refl
+      go (suc (suc (suc zero))) f = refl
+      go (suc (suc (suc (suc k)))) f = refl
 
-  pub put-zero : (w : ℕ) (part ys : List ℕ) → (w / 16777216 ≡ 1 → ⊥) → length part ≤ size → ys ≡ replicate (length part) 0
+  pub put-filled : (w v : ℕ) (part ys : List ℕ) → (w / 16777216 ≡ 1 → ⊥) → length part ≤ size → v ≡ fillByte (wordToPointer w) → ys ≡ replicate (length part) v
       → ys ≡ take (length part) (blockAt size sh (wordToPointer w))
-  unfolding zeroBlock
-  put-zero w part ys f h e = e ∙ sym (ap (take (length part)) (zero-other w f) ∙ take-replicate (length part) size 0 h)
+  put-filled w v part ys f h b e =
+      e ∙ ap (replicate (length part)) b ∙ sym (ap (take (length part)) (fill-other w f) ∙ take-replicate (length part) size (fillByte (wordToPointer w)) h)
 
   -- ---- the image
 

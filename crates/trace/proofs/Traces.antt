@@ -15,7 +15,7 @@ use Rattle.lists.specs.Rows.{parts}
 use Rattle.lists.proofs.Sets.{map-at}
 use Rattle.lists.proofs.Cuts.{part-at, length-parts}
 use Rattle.model.specs.Measures.{partsFor}
-use Rattle.model.specs.State.{Pointer, nullPointer, direct, indirect, Version}
+use Rattle.model.specs.State.{Pointer, nullPointer, blankPointer, direct, indirect, Version}
 use Rattle.model.specs.Table.{wordToPointer, pointerOf, versionIn, versionsIn}
 use Rattle.model.specs.Trace.{hopsVia, endVia, hops, endOf}
 use Rattle.shelf.specs.Fits.{Fits}
@@ -79,7 +79,8 @@ end-other w n f = go (w / 16777216) n
     go zero n = refl
     go (suc zero) n = refl
     go (suc (suc zero)) n = absurd (n refl)
-    go (suc (suc (suc k))) n = refl
+    go (suc (suc (suc zero))) n = refl
+    go (suc (suc (suc (suc k)))) n = refl
 
 hops-other : (w : ℕ) → (w / 16777216 ≡ 2 → ⊥) → (f : ℕ → ℕ) → hopsVia (wordToPointer w) f ≡ 0
 unfolding wordToPointer pointerOf hopsVia
@@ -89,7 +90,8 @@ hops-other w n f = go (w / 16777216) n
     go zero n = refl
     go (suc zero) n = refl
     go (suc (suc zero)) n = absurd (n refl)
-    go (suc (suc (suc k))) n = refl
+    go (suc (suc (suc zero))) n = refl
+    go (suc (suc (suc (suc k)))) n = refl
 
 pub record Tracing (bytes b h : ℕ) (slots : List ℕ) (block v n w : ℕ) : Type 0 where
   pub there : n < length (pointersAt (versionsIn bytes b h slots) v)
@@ -164,6 +166,7 @@ ends-fit m l (v ∷ vs) f n = go (getD (v .pointers) n nullPointer) (f 0 n) (λ 
   where
     go : (p : Pointer) → Fits m l p → ((k : ℕ) → Fits m l (endOf vs k)) → Fits m l (endVia p (λ k. endOf vs k))
     go nullPointer a r = tt
+    go blankPointer a r = tt
     go (direct k i) a r = a
     go (indirect k) a r = r k
 

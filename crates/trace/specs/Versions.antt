@@ -3,7 +3,7 @@ use mathlib.Core.Path.{_≡_}
 use mathlib.Core.List.{List, []}
 use Prim.Native.Nat.{ℕ, suc, _+_, _*_, _≤_, _<_}
 use lib.ListN.{length, getD}
-use Rattle.model.specs.State.{Pointer, nullPointer, direct, indirect, Version}
+use Rattle.model.specs.State.{Pointer, nullPointer, blankPointer, direct, indirect, Version}
 use Rattle.model.specs.Table.{wordToPointer, versionsIn}
 use Rattle.model.specs.Trace.{endOf, hops}
 use Rattle.shelf.specs.Fits.{Fits}
@@ -16,9 +16,17 @@ noVersion = record { number = 0; length = 0; pointers = [] }
 abbrev pub pointersAt : List Version → ℕ → List Pointer
 pointersAt vs i = getD vs i noVersion .pointers
 
+-- the byte of a block that has no cell: 255 of a blank one, 0 of a null one
+unfoldable pub fillByte : Pointer → ℕ
+fillByte nullPointer = 0
+fillByte blankPointer = 255
+fillByte (direct k i) = 0
+fillByte (indirect m) = 0
+
 -- an indirect pointer names one of n blocks
 unfoldable pub LeadsTo : ℕ → Pointer → Type 0
 LeadsTo n nullPointer = Unit {0}
+LeadsTo n blankPointer = Unit {0}
 LeadsTo n (direct k i) = Unit {0}
 LeadsTo n (indirect m) = m < n
 

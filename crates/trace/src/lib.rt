@@ -11,7 +11,7 @@ ghost use Rattle.model.specs.Trace.{blockAt, imageOf, longestChain};
 ghost use Rattle.numbers.specs.Measures.{measuresOf};
 ghost use Rattle.shelf.specs.Stored.{RecordsTold, Stored};
 ghost use Rattle.shelf.specs.Fits.{Fits};
-ghost use Rattle.trace.specs.Versions.{pointersAt, Traceable, Direct, Traces};
+ghost use Rattle.trace.specs.Versions.{pointersAt, fillByte, Traceable, Direct, Traces};
 use numbers::Block;
 use numbers::Cell;
 use numbers::Measures;
@@ -53,6 +53,16 @@ pub fn cell_of(words: &[u32], number: RecordNumber, position: u32, n: usize) -> 
     Cell(words[at])
 }
 
+// The byte that fills a block that has no cell.
+fn fill_byte(pointer: u32) -> u8
+    ensures { λ r. ⌜ r ≡ fillByte (wordToPointer pointer) ⌝ }
+{
+    if pointer / 16777216 == 3 {
+        return 255;
+    }
+    0
+}
+
 // A part of the output is filled with the front of the block that a pointer's word, which is not indirect, leads to.
 pub fn put_block(pool: &[u8], words: &[u32], pointer: u32, part: &mut [u8], m: Measures)
     requires { ⌜ Stored (measuresOf m) (now pool) (now words) ⌝ }
@@ -67,7 +77,7 @@ pub fn put_block(pool: &[u8], words: &[u32], pointer: u32, part: &mut [u8], m: M
         blocks::copy_in(&pool[from..end], part);
         return;
     }
-    blocks::clear(part);
+    blocks::fill_with(part, fill_byte(pointer));
 }
 
 fn larger(a: u32, b: u32) -> u32

@@ -160,6 +160,15 @@ fn retires_tried() {
     retires_of(&mut first, &mut second);
 }
 
+// Erased flash: a stored block among blank and null ones, blank blocks only, and a short last block of 255s, which is stored.
+fn erased_tried(image: &mut [u8]) {
+    images::spell(image, b"A\xff\xff\0B\xff\xff\xff");
+    first_bytes(image, 512);
+    images::spell(image, b"\xff\xff\xff\xff\xff\xff\xff\xff");
+    first_bytes(image, 512);
+    first_bytes(image, 500);
+}
+
 fn all(image: &mut [u8]) {
     images::spell(image, b"ABCDEFGHIJKLMNOPQRSTUV");
     images_tried(image);
@@ -170,4 +179,6 @@ pub fn cases() {
     retires_tried();
     let mut image = [0u8; 1408];
     all(&mut image);
+    let mut erased = [0u8; 512];
+    erased_tried(&mut erased);
 }

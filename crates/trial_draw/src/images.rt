@@ -1,5 +1,7 @@
-// Images made from letters. A letter is a block: 0 is the null block, 1 is null up to its last byte, and 2k and 2k + 1 differ in their last byte only.
+// Images made from letters. A letter is a block: 0 is the null block, 1 is null up to its last byte, 2k and 2k + 1 differ in their last byte only, and 9 is
+// the blank block.
 ghost use mathlib.Core.Path.{_≡_};
+ghost use mathlib.Core.Logic.{_⊎_};
 ghost use Prim.Native.Nat.{ℕ, _≤_, _<_, _/_};
 ghost use lib.ListN.{length, getD};
 use crate::dice::Dice;
@@ -14,7 +16,7 @@ pub struct Plan {
 }
 
 pub fn plan_of(d: Dice) -> Plan
-    ensures { λ r. ⌜ (1 ≤ r .seed) × (r .seed ≤ 4) × (r .changed < 24) × (r .letter ≤ 8) ⌝ }
+    ensures { λ r. ⌜ (1 ≤ r .seed) × (r .seed ≤ 4) × (r .changed < 24) × (r .letter ≤ 9) ⌝ }
 {
     Plan {
         seed: 1 + d.drawn(16, 4),
@@ -24,19 +26,19 @@ pub fn plan_of(d: Dice) -> Plan
     }
 }
 
-// Letters 0 to 8; one in four is 0.
+// Letters 0 to 9; one in four is 0.
 fn letter_of(x: u64) -> u8
-    ensures { λ r. ⌜ r ≤ 8 ⌝ }
+    ensures { λ r. ⌜ r ≤ 9 ⌝ }
 {
-    let n = x % 11;
-    if n < 9 {
+    let n = x % 12;
+    if n < 10 {
         return n as u8;
     }
     0
 }
 
 fn letter_at(p: Plan, block: usize) -> u8
-    ensures { λ r. ⌜ (p .letter ≤ 8 → r ≤ 8) ⌝ }
+    ensures { λ r. ⌜ (p .letter ≤ 9 → r ≤ 9) ⌝ }
 {
     if block == p.changed {
         return p.letter;
@@ -49,8 +51,11 @@ fn letter_at(p: Plan, block: usize) -> u8
 }
 
 fn byte_of(letter: u8, at: usize) -> u8
-    ensures { λ r. ⌜ r ≤ letter ⌝ }
+    ensures { λ r. ⌜ (letter ≤ 9 → (r ≤ 8) ⊎ (r ≡ 255)) ⌝ }
 {
+    if letter == 9 {
+        return 255;
+    }
     if at == 63 {
         return letter;
     }
@@ -58,7 +63,7 @@ fn byte_of(letter: u8, at: usize) -> u8
 }
 
 pub fn fill(image: &mut [u8], p: Plan)
-    ensures { λ _. ⌜ ((k : ℕ) → k < length (now (image .entry)) → p .letter ≤ 8 → getD (now (image .exit)) k 0 ≤ 8) ⌝ }
+    ensures { λ _. ⌜ ((k : ℕ) → k < length (now (image .entry)) → p .letter ≤ 9 → (getD (now (image .exit)) k 0 ≤ 8) ⊎ (getD (now (image .exit)) k 0 ≡ 255)) ⌝ }
 {
     let mut i = 0;
     while i < image.len() {

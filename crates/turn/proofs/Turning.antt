@@ -11,26 +11,28 @@ use lib.ListN.{List·getD-map, drop, getD, length, set, take}
 use lib.Seq.{take-suc-set}
 use lib.Dec.{eqb}
 use borrow.Author.Tests.{eq-eqb, le-ltb, lt-ltb, ne-eqb}
-use Rattle.lists.specs.Lists.{count, firstFrom, keep, sameNumbers}
+use Rattle.lists.specs.Lists.{count, every, firstFrom, keep, sameNumbers}
 use Rattle.lists.specs.Over.{over}
 use Rattle.lists.specs.Rows.{fill}
 use Rattle.lists.proofs.Cuts.{part-word}
 use Rattle.lists.proofs.Each.{each-at}
 use Rattle.lists.proofs.Same.{same-eq}
 use Rattle.lists.proofs.Slices.{drop-end, drop-next}
-use Rattle.model.specs.Image.{blockFrom, blocksFrom, imageBlocks}
+use Rattle.lists.proofs.Tests.{by-test}
+use Rattle.model.specs.Image.{blockFrom, blocksFrom, imageBlocks, isBlank, withBlanks}
 use Rattle.model.specs.Measures.{Measures, partsFor, recordWords}
 use Rattle.model.specs.Records.{cellAt, cellOf, positionAt}
-use Rattle.model.specs.State.{Block, Pointer, Segment, Shelf, direct, indirect, nullPointer, nullPosition}
+use Rattle.model.specs.State.{Block, Pointer, Segment, Shelf, direct, indirect, nullPointer, blankPointer, nullPosition}
 use Rattle.model.specs.Table.{cellsIn, pointerOf, pointerWord, recordToWords, recordsIn, shelfIn, wordToPointer}
-use Rattle.model.specs.Turn.{indirectTo, isFound, target, turn, turning}
+use Rattle.model.specs.Turn.{foundOr, indirectAt, isFound, target, turn, turnsTo, turning}
 use Rattle.laws.proofs.Image.{length-blocks, blocks-next}
 use Rattle.laws.proofs.Measures.{parts-few}
+use Rattle.laws.proofs.RoundTrip.{indirect-word}
 use Rattle.shelf.specs.Fits.{Fits}
 use Rattle.shelf.specs.Stored.{Stored}
 use Rattle.shelf.proofs.Inside.{cell-bytes, cell-inside, cell-room}
 use Rattle.lists.proofs.Puts.{first-found}
-use Rattle.turn.specs.Turn.{TargetOk, WordFits, keptWord, releasedOf, targetOf, targetWord, turnWord}
+use Rattle.turn.specs.Turn.{WordFits, keptWord, releasedOf, targetOf, targetWord, turnWord}
 
 -- ---- the first equal block
 
@@ -62,16 +64,16 @@ module _ (bytes : ℕ) (f : Block → Bool) (image : List ℕ) (count : ℕ) whe
   unfolding firstFrom
   find-step at n h = rw (blocks-next bytes image at count n h, add-one n)
 
-  pub find-yes : (at n : ℕ) → n < count → true ≡ f (blockFrom bytes image at) → n ≡ targetWord (firstFrom f n (blocksFrom bytes image at (count - n)))
+  pub find-yes : (at n : ℕ) → n < count → true ≡ f (blockFrom bytes image at) → pointerWord (indirect n) ≡ targetWord (indirectAt (firstFrom f n (blocksFrom bytes image at (count - n))))
   unfolding targetWord
   find-yes at n h e =
       let found : firstFrom f n (blocksFrom bytes image at (count - n)) ≡ some n = find-step at n h ∙ rw (← e) in
-      sym (ap targetWord found)
+      sym (ap (λ (o : Option ℕ). targetWord (indirectAt o)) found)
 
   pub find-no : (at n : ℕ) → n < count → false ≡ f (blockFrom bytes image at) → firstFrom f n (blocksFrom bytes image at (count - n)) ≡ firstFrom f (n + 1) (blocksFrom bytes image (at + bytes) (count - (n + 1)))
   find-no at n h e = find-step at n h ∙ rw (← e)
 
-  pub find-end : (at n : ℕ) → count ≤ n → 4294967295 ≡ targetWord (firstFrom f n (blocksFrom bytes image at (count - n)))
+  pub find-end : (at n : ℕ) → count ≤ n → 4294967295 ≡ targetWord (indirectAt (firstFrom f n (blocksFrom bytes image at (count - n))))
   unfolding firstFrom blocksFrom targetWord
   find-end at n h = let z : count - n ≡ 0 = omega arith in rw z
 
@@ -81,12 +83,13 @@ module _ (bytes : ℕ) (f : Block → Bool) (image : List ℕ) (count : ℕ) whe
 
 -- ---- the target of a word
 
-kind-none : (w kind n : ℕ) (shelf : Shelf) (image : List Block) → (kind ≡ 1 → ⊥) → target shelf image (pointerOf kind n) ≡ none
+kind-none : (w kind n : ℕ) (shelf : Shelf) (image : List Block) → (kind ≡ 1 → ⊥) → target withBlanks shelf image (pointerOf kind n) ≡ none
 unfolding target pointerOf
 kind-none w zero n shelf image h = refl
 kind-none w (suc zero) n shelf image h = absurd (h refl)
 kind-none w (suc (suc zero)) n shelf image h = refl
-kind-none w (suc (suc (suc k))) n shelf image h = refl
+kind-none w (suc (suc (suc zero))) n shelf image h = refl
+kind-none w (suc (suc (suc (suc k)))) n shelf image h = refl
 
 pub target-none : (m : Measures) (image pool ws : List ℕ) (w : ℕ) → (w / 16777216 ≡ 1 → ⊥) → 4294967295 ≡ targetOf m image pool ws w
 unfolding targetOf targetWord wordToPointer
@@ -115,72 +118,83 @@ module _ (m : Measures) (image pool ws : List ℕ) (st : Stored m pool ws) (w : 
 
     -- with the cell's first byte as the code has it
     pub target-is : (start r : ℕ) → start ≡ c * m .blockBytes
-        → r ≡ targetWord (firstFrom (sameNumbers (take (start + m .blockBytes - start) (drop start pool))) 0 (imageBlocks (m .blockBytes) image)) → r ≡ targetOf m image pool ws w
+        → r ≡ targetWord (turnsTo withBlanks (imageBlocks (m .blockBytes) image) (take (start + m .blockBytes - start) (drop start pool))) → r ≡ targetOf m image pool ws w
     unfolding targetOf wordToPointer pointerOf target positionAt cellAt shelfIn
     target-is start r es e =
         let z : start + m .blockBytes - start ≡ m .blockBytes = omega arith in
         e ∙ rw (one, ← ec, z, es, cell-bytes (m .blockBytes) pool c (omega (arith, st .measured .someBytes)) cell-fits)
 
+-- ---- what a cell turns into
+
+pub blank-turns : (image : List Block) (cell : Block) → true ≡ every (λ x. eqb x 255) cell → pointerWord blankPointer ≡ targetWord (turnsTo withBlanks image cell)
+unfolding targetWord turnsTo isBlank
+blank-turns image cell e = rw (← e)
+
+pub other-turns : (image : List Block) (cell : Block) → false ≡ every (λ x. eqb x 255) cell
+    → targetWord (indirectAt (firstFrom (sameNumbers cell) 0 image)) ≡ targetWord (turnsTo withBlanks image cell)
+unfolding turnsTo isBlank
+other-turns image cell e = rw (← e)
+
 -- ---- words and pointers
 
-abbrev Small : Option ℕ → Type 0
-Small none = Unit {0}
-Small (some n) = n ≤ 65536
+-- a pointer whose word is not that of no target
+abbrev Told : Option Pointer → Type 0
+Told none = Unit {0}
+Told (some q) = pointerWord q < 4294967295
 
-small-ok : (o : Option ℕ) → Small o → TargetOk (targetWord o)
+word-turns : (w : ℕ) (p : Pointer) (o : Option Pointer) → pointerWord p ≡ w → Told o → turnWord w (targetWord o) ≡ pointerWord (foundOr p o)
 unfolding targetWord
-small-ok none h = λ n. absurd (n refl)
-small-ok (some k) h = λ n. h
-
-word-turns : (w : ℕ) (p : Pointer) (o : Option ℕ) → pointerWord p ≡ w → Small o → turnWord w (targetWord o) ≡ pointerWord (indirectTo p o)
-unfolding targetWord pointerWord
 word-turns w p none e ok = sym e
-word-turns w p (some n) e ok = rw (ne-eqb n 4294967295 (λ z. omega (arith, ok)))
+word-turns w p (some q) e ok = rw (ne-eqb (pointerWord q) 4294967295 (λ z. omega (arith, ok)))
 
-word-kept : (w : ℕ) (p : Pointer) (o : Option ℕ) (ws : List ℕ) (ps : List Pointer) → pointerWord p ≡ w → Small o → ws ≡ map pointerWord ps
+word-kept : (w : ℕ) (p : Pointer) (o : Option Pointer) (ws : List ℕ) (ps : List Pointer) → pointerWord p ≡ w → Told o → ws ≡ map pointerWord ps
     → cond (eqb (targetWord o) 4294967295) ws (w ∷ ws) ≡ map pointerWord (cond (isFound o) (p ∷ ps) ps)
 unfolding targetWord
 word-kept w p none ws ps e ok f = f
-word-kept w p (some n) ws ps e ok f = rw (ne-eqb n 4294967295 (λ z. omega (arith, ok)), e, f)
+word-kept w p (some q) ws ps e ok f = rw (ne-eqb (pointerWord q) 4294967295 (λ z. omega (arith, ok)), e, f)
 
 module _ (m : Measures) (some-bytes : 0 < m .blockBytes) (image pool ws : List ℕ) (small : length image ≤ 65536) where
   abbrev shelf : Shelf
   shelf = shelfIn m pool ws
 
-  found-small : (o : Option ℕ) (f : Block → Bool) → firstFrom f 0 (imageBlocks (m .blockBytes) image) ≡ o → Small o
+  found-told : (o : Option ℕ) (f : Block → Bool) → firstFrom f 0 (imageBlocks (m .blockBytes) image) ≡ o → Told (indirectAt o)
   unfolding imageBlocks
-  found-small none f e = tt
-  found-small (some k) f e =
+  found-told none f e = tt
+  found-told (some k) f e =
       let q = first-found [] f (blocksFrom (m .blockBytes) image 0 (partsFor (m .blockBytes) (length image))) k e in
       let l : k < partsFor (m .blockBytes) (length image) = omega (arith, q .0, length-blocks (m .blockBytes) image 0 (partsFor (m .blockBytes) (length image))) in
-      omega (arith, small, begins-in (m .blockBytes) k (length image) some-bytes l, next-at (m .blockBytes) k some-bytes)
+      omega (arith, small, begins-in (m .blockBytes) k (length image) some-bytes l, next-at (m .blockBytes) k some-bytes, indirect-word k)
 
-  target-small : (p : Pointer) → Small (target shelf (imageBlocks (m .blockBytes) image) p)
+  turns-told : (b : Block) → Told (turnsTo withBlanks (imageBlocks (m .blockBytes) image) b)
+  unfolding turnsTo
+  turns-told b = by-test Told (isBlank withBlanks b) (λ e. blank-told) (λ e. found-told _ (sameNumbers b) refl)
+    where
+      blank-told : pointerWord blankPointer < 4294967295
+      blank-told = unfold pointerWord in omega arith
+
+  target-told : (p : Pointer) → Told (target withBlanks shelf (imageBlocks (m .blockBytes) image) p)
   unfolding target
-  target-small nullPointer = tt
-  target-small (direct k i) = found-small _ (sameNumbers (cellAt shelf (cellOf (positionAt shelf k i)))) refl
-  target-small (indirect b) = tt
-
-  pub target-ok : (w : ℕ) → TargetOk (targetOf m image pool ws w)
-  unfolding targetOf
-  target-ok w = small-ok _ (target-small (wordToPointer w))
+  target-told nullPointer = tt
+  target-told blankPointer = tt
+  target-told (direct k i) = turns-told (cellAt shelf (cellOf (positionAt shelf k i)))
+  target-told (indirect b) = tt
 
   module _ (n l : ℕ) where
     pub turned-all : (vs : List ℕ) → ((b : ℕ) → b < length vs → WordFits n l (getD vs b 0))
-        → over turnWord vs (map (targetOf m image pool ws) vs) ≡ map pointerWord (turn shelf (imageBlocks (m .blockBytes) image) (map wordToPointer vs))
+        → over turnWord vs (map (targetOf m image pool ws) vs) ≡ map pointerWord (turn withBlanks shelf (imageBlocks (m .blockBytes) image) (map wordToPointer vs))
     unfolding turn targetOf
     turned-all [] f = refl
     turned-all (v ∷ vs) f =
-        ap₂ (λ (x : ℕ) (xs : List ℕ). x ∷ xs) (word-turns v (wordToPointer v) (target shelf (imageBlocks (m .blockBytes) image) (wordToPointer v)) (f 0 (omega arith) .says) (target-small (wordToPointer v)))
+        ap₂ (λ (x : ℕ) (xs : List ℕ). x ∷ xs) (word-turns v (wordToPointer v) (target withBlanks shelf (imageBlocks (m .blockBytes) image) (wordToPointer v)) (f 0 (omega arith) .says) (target-told (wordToPointer v)))
         (turned-all vs (λ b h. f (suc b) (omega arith)))
 
     pub released-all : (vs : List ℕ) → ((b : ℕ) → b < length vs → WordFits n l (getD vs b 0))
-        → releasedOf vs (map (targetOf m image pool ws) vs) ≡ map pointerWord (turning shelf (imageBlocks (m .blockBytes) image) (map wordToPointer vs))
+        → releasedOf vs (map (targetOf m image pool ws) vs) ≡ map pointerWord (turning withBlanks shelf (imageBlocks (m .blockBytes) image) (map wordToPointer vs))
     unfolding turning keep targetOf releasedOf
     released-all [] f = refl
     released-all (v ∷ vs) f =
-        word-kept v (wordToPointer v) (target shelf (imageBlocks (m .blockBytes) image) (wordToPointer v)) (releasedOf vs (map (targetOf m image pool ws) vs)) (turning shelf (imageBlocks (m .blockBytes) image) (map wordToPointer vs))
-        (f 0 (omega arith) .says) (target-small (wordToPointer v)) (released-all vs (λ b h. f (suc b) (omega arith)))
+        word-kept v (wordToPointer v) (target withBlanks shelf (imageBlocks (m .blockBytes) image) (wordToPointer v)) (releasedOf vs (map (targetOf m image pool ws) vs)) (turning withBlanks shelf (imageBlocks (m .blockBytes) image) (map wordToPointer vs))
+        (f 0 (omega arith) .says) (target-told (wordToPointer v)) (released-all vs (λ b h. f (suc b) (omega arith)))
 
 -- ---- the words that are released, one by one
 
@@ -205,13 +219,5 @@ kept-put w t m out n h = rw (ne-eqb t 4294967295 n, add-one m) (take-suc-set out
 pub turn-same : (w t : ℕ) → t ≡ 4294967295 → w ≡ turnWord w t
 turn-same w t e = rw (eq-eqb t 4294967295 e)
 
-pub turn-new : (w t : ℕ) → (t ≡ 4294967295 → ⊥) → 33554432 + t ≡ turnWord w t
+pub turn-new : (w t : ℕ) → (t ≡ 4294967295 → ⊥) → t ≡ turnWord w t
 turn-new w t n = rw (ne-eqb t 4294967295 n)
-
-pub targets-ok : (f : ℕ → ℕ) → ((w : ℕ) → TargetOk (f w)) → (ps ts : List ℕ) → ts ≡ map f ps → (b : ℕ) → b < length ts → TargetOk (getD ts b 0)
-targets-ok f ok ps ts e b h = rw e (go ps b (rw e at h))
-  where
-    go : (ps : List ℕ) (b : ℕ) → b < length (map f ps) → TargetOk (getD (map f ps) b 0)
-    go [] b h = absurd (not-suc-le-zero h)
-    go (p ∷ ps) zero h = ok p
-    go (p ∷ ps) (suc b) h = go ps b (le-of-suc-le-suc h)

@@ -3,9 +3,9 @@ use mathlib.Core.Path.{_≡_}
 use mathlib.Core.Bool.{cond}
 use mathlib.Core.List.{List, [], _∷_}
 use mathlib.Core.Option.{Option, none, some}
-use Prim.Native.Nat.{_+_, _≤_, ℕ}
+use Prim.Native.Nat.{ℕ}
 use lib.Dec.{eqb}
-use Rattle.model.specs.Image.{imageBlocks}
+use Rattle.model.specs.Image.{imageBlocks, withBlanks}
 use Rattle.model.specs.Measures.{Measures}
 use Rattle.model.specs.State.{Pointer}
 use Rattle.model.specs.Table.{pointerWord, shelfIn, wordToPointer}
@@ -25,26 +25,22 @@ pub record Followable (n l : ℕ) (p : Pointer) : Type 0 where
 abbrev pub noTarget : ℕ
 noTarget = 4294967295
 
-unfoldable pub targetWord : Option ℕ → ℕ
+unfoldable pub targetWord : Option Pointer → ℕ
 targetWord none = noTarget
-targetWord (some n) = n
+targetWord (some q) = pointerWord q
 
--- the target of a word, as a word
+-- what a pointer's word turns into, as a word
 unfoldable pub targetOf : Measures → List ℕ → List ℕ → List ℕ → ℕ → ℕ
-targetOf m image pool ws w = targetWord (target (shelfIn m pool ws) (imageBlocks (m .blockBytes) image) (wordToPointer w))
+targetOf m image pool ws w = targetWord (target withBlanks (shelfIn m pool ws) (imageBlocks (m .blockBytes) image) (wordToPointer w))
 
 abbrev pub turnWord : ℕ → ℕ → ℕ
-turnWord w t = cond (eqb t 4294967295) w (33554432 + t)
+turnWord w t = cond (eqb t 4294967295) w t
 
 -- those of the words whose target is one
 unfoldable pub releasedOf : List ℕ → List ℕ → List ℕ
 releasedOf [] ts = []
 releasedOf (w ∷ ws) [] = []
 releasedOf (w ∷ ws) (t ∷ ts) = let r = releasedOf ws ts in cond (eqb t 4294967295) r (w ∷ r)
-
--- a target is none, or a small block number
-abbrev pub TargetOk : ℕ → Type 0
-TargetOk t = (t ≡ 4294967295 → ⊥) → t ≤ 65536
 
 abbrev pub keptWord : ℕ → ℕ → List ℕ
 keptWord w t = cond (eqb t 4294967295) [] (w ∷ [])

@@ -1,16 +1,16 @@
-// Step 2 of a backup: the previous version's direct pointers turn to equal blocks of the new image.
+// Step 2 of a backup: the previous version's direct pointers turn blank, or to equal blocks of the new image.
 ghost use mathlib.Core.Path.{_≡_};
 ghost use mathlib.Core.List.{List, map, _++_};
 ghost use Prim.Native.Nat.{ℕ, _+_, _%_, _≤_, _<_};
 ghost use lib.ListN.{length, getD, take, drop};
 ghost use Rattle.lists.specs.Lists.{sameNumbers, firstFrom};
 ghost use Rattle.lists.specs.Over.{over};
-ghost use Rattle.model.specs.Image.{blockFrom, imageBlocks};
-ghost use Rattle.model.specs.Turn.{turn, turning};
+ghost use Rattle.model.specs.Image.{blockFrom, imageBlocks, withBlanks};
+ghost use Rattle.model.specs.Turn.{indirectAt, turnsTo, turn, turning};
 ghost use Rattle.model.specs.Table.{shelfIn, pointerWord, wordToPointer};
 ghost use Rattle.numbers.specs.Measures.{measuresOf};
 ghost use Rattle.shelf.specs.Stored.{Stored};
-ghost use Rattle.turn.specs.Turn.{WordFits, targetWord, targetOf, turnWord, releasedOf, TargetOk, keptWord};
+ghost use Rattle.turn.specs.Turn.{WordFits, targetWord, targetOf, turnWord, releasedOf, keptWord};
 use numbers::Block;
 use numbers::Measures;
 use numbers::Pointer;
@@ -29,17 +29,18 @@ fn block_here(image: &[u8], at: usize, cell: &[u8], bytes: usize) -> bool
     blocks::block_same(image, at, cell, bytes)
 }
 
-// The lowest block of the image that equals a cell.
+// An indirect pointer to the lowest block of the image that equals a cell.
 fn find_block(image: &[u8], cell: &[u8], bytes: usize) -> u32
     requires { ⌜ (length (now image) ≤ 65536) × (length (now cell) ≡ bytes) × (64 ≤ bytes) × (bytes ≤ 512) × (bytes % 64 ≡ 0) ⌝ }
-    ensures { λ r. ⌜ r ≡ targetWord (firstFrom (sameNumbers (now (cell .entry))) 0 (imageBlocks bytes (now (image .entry)))) ⌝ }
+    ensures { λ r. ⌜ r ≡ targetWord (indirectAt (firstFrom (sameNumbers (now (cell .entry))) 0 (imageBlocks bytes (now (image .entry))))) ⌝ }
 {
     let count = numbers::parts_for(bytes, image.len());
     let mut at: usize = 0;
     let mut n: usize = 0;
     while n < count {
         if block_here(image, at, cell, bytes) {
-            return n as u32;
+            let found = Pointer::indirect(Block(n as u32));
+            return found.0;
         }
         at = at + bytes;
         n = n + 1;
@@ -47,7 +48,19 @@ fn find_block(image: &[u8], cell: &[u8], bytes: usize) -> u32
     NO_TARGET
 }
 
-// The target of a pointer's word.
+// What a direct pointer to a cell turns into: blank if the cell is, else indirect.
+fn turned_to(image: &[u8], cell: &[u8], bytes: usize) -> u32
+    requires { ⌜ (length (now image) ≤ 65536) × (length (now cell) ≡ bytes) × (64 ≤ bytes) × (bytes ≤ 512) × (bytes % 64 ≡ 0) ⌝ }
+    ensures { λ r. ⌜ r ≡ targetWord (turnsTo withBlanks (imageBlocks bytes (now (image .entry))) (now (cell .entry))) ⌝ }
+{
+    if blocks::pieces_filled(cell, 255) {
+        let erased = Pointer::blank();
+        return erased.0;
+    }
+    find_block(image, cell, bytes)
+}
+
+// What a pointer's word turns into.
 fn target_of(word: u32, image: &[u8], pool: &[u8], records: &[u32], m: Measures) -> u32
     requires { ⌜ (length (now image) ≤ 65536) × Stored (measuresOf m) (now pool) (now records) × WordFits (m .blocks) (length (now records)) word ⌝ }
     ensures { λ r. ⌜ r ≡ targetOf (measuresOf m) (now (image .entry)) (now (pool .entry)) (now (records .entry)) word ⌝ }
@@ -59,10 +72,10 @@ fn target_of(word: u32, image: &[u8], pool: &[u8], records: &[u32], m: Measures)
     let cell = trace::cell_of(records, RecordNumber(place / 16), place % 16, m.blocks);
     let start = cell.byte(m.bytes);
     let end = start + m.bytes;
-    find_block(image, &pool[start..end], m.bytes)
+    turned_to(image, &pool[start..end], m.bytes)
 }
 
-// The target of each pointer.
+// What each pointer turns into.
 pub fn find_targets(
     pointers: &[u32],
     image: &[u8],
@@ -83,19 +96,17 @@ pub fn find_targets(
 
 // A pointer's word turned to its target.
 fn turned_word(word: u32, target: u32) -> u32
-    requires { ⌜ (TargetOk target) ⌝ }
     ensures { λ r. ⌜ r ≡ turnWord word target ⌝ }
 {
     if target == NO_TARGET {
         return word;
     }
-    let turned = Pointer::indirect(Block(target));
-    turned.0
+    target
 }
 
 // Pointers turned to their targets.
 fn turn_words(pointers: &mut [u32], targets: &[u32])
-    requires { ⌜ (length (now pointers) ≡ length (now targets)) × ((b : ℕ) → b < length (now targets) → TargetOk (getD (now targets) b 0)) ⌝ }
+    requires { ⌜ length (now pointers) ≡ length (now targets) ⌝ }
     ensures { λ _. ⌜ now (pointers .exit) ≡ over turnWord (now (pointers .entry)) (now (targets .entry)) ⌝ }
 {
     let mut b: usize = 0;
@@ -142,7 +153,7 @@ pub fn turn_pointers(
     m: Measures,
 ) -> usize
     requires { ⌜ (length (now image) ≤ 65536) × Stored (measuresOf m) (now pool) (now records) × (length (now targets) ≡ length (now pointers)) × (length (now pointers) ≤ length (now out)) × ((b : ℕ) → b < length (now pointers) → WordFits (m .blocks) (length (now records)) (getD (now pointers) b 0)) ⌝ }
-    ensures { λ r. ⌜ (now (pointers .exit) ≡ map pointerWord (turn (shelfIn (measuresOf m) (now (pool .entry)) (now (records .entry))) (imageBlocks (m .bytes) (now (image .entry))) (map wordToPointer (now (pointers .entry))))) × (take r (now (out .exit)) ≡ map pointerWord (turning (shelfIn (measuresOf m) (now (pool .entry)) (now (records .entry))) (imageBlocks (m .bytes) (now (image .entry))) (map wordToPointer (now (pointers .entry))))) × (r ≤ length (now (pointers .entry))) ⌝ }
+    ensures { λ r. ⌜ (now (pointers .exit) ≡ map pointerWord (turn withBlanks (shelfIn (measuresOf m) (now (pool .entry)) (now (records .entry))) (imageBlocks (m .bytes) (now (image .entry))) (map wordToPointer (now (pointers .entry))))) × (take r (now (out .exit)) ≡ map pointerWord (turning withBlanks (shelfIn (measuresOf m) (now (pool .entry)) (now (records .entry))) (imageBlocks (m .bytes) (now (image .entry))) (map wordToPointer (now (pointers .entry))))) × (r ≤ length (now (pointers .entry))) ⌝ }
 {
     find_targets(pointers, image, pool, records, targets, m);
     let r = list_released(pointers, targets, out);

@@ -3,9 +3,11 @@
 //!
 //! `bench [ROUNDS] [--write]`: with `--write` the run is put into docs/PERFORMANCE.md too.
 //! `bench --backups [--write]`: the same for the tool's backups.
+//! `bench --erased`: only what chips that erase to 255 take.
 
 mod backups;
 mod cases;
+mod erased;
 mod picture;
 mod space;
 mod timing;
@@ -24,13 +26,18 @@ fn main() -> io::Result<()> {
     }
     let words: Vec<String> = env::args().skip(1).collect();
     let has = |option: &str| words.iter().any(|word| word == option);
+    if has("--erased") {
+        print!("{}", erased::report());
+        return Ok(());
+    }
     let (report, from) = if has("--backups") {
         (backups::report()?, BACKUPS_FROM)
     } else {
         let rounds = words.iter().find_map(|word| word.parse().ok()).unwrap_or(25);
         let days = space::days();
         fs::write(docs("space.svg"), picture::svg(&days))?;
-        (format!("{}\n## Space\n\n{}", time_report(rounds), space::table(&days)), STORE_FROM)
+        let space = format!("## Space\n\n{}\n### Erased memory\n\n{}", space::table(&days), erased::report());
+        (format!("{}\n{space}", time_report(rounds)), STORE_FROM)
     };
     print!("{report}");
     if has("--write") {

@@ -4,8 +4,8 @@ use keeper::closings::{Shop, LENGTH};
 use lurdempos::{Capacities, Store};
 use std::fmt::Write;
 
-const TILLS: usize = 16;
-const CLOSINGS: usize = 64;
+pub const TILLS: usize = 16;
+pub const CLOSINGS: usize = 64;
 
 /// After so many closings of every till.
 pub struct Day {

@@ -10,10 +10,27 @@ use terms::{Capacities, BLOCK_BYTES, LAST_NUMBER, SEGMENT_BLOCKS};
 pub enum Call {
     TableLength(Capacities),
     LayOut(Capacities),
-    Backup { till: u32, image: Vec<u8> },
-    Restore { till: u32, version: u32, room: usize },
-    Retire { till: u32, version: u32 },
-    Listing { till: u32 },
+    Backup {
+        till: u32,
+        image: Vec<u8>,
+    },
+    /// A backup as it was made before blank blocks were known.
+    Earlier {
+        till: u32,
+        image: Vec<u8>,
+    },
+    Restore {
+        till: u32,
+        version: u32,
+        room: usize,
+    },
+    Retire {
+        till: u32,
+        version: u32,
+    },
+    Listing {
+        till: u32,
+    },
     Tally,
 }
 
@@ -23,10 +40,49 @@ impl fmt::Debug for Call {
             Call::TableLength(capacities) => write!(f, "table length {:?}", capacities.to_array()),
             Call::LayOut(capacities) => write!(f, "lay out {:?}", capacities.to_array()),
             Call::Backup { till, image } => write!(f, "backup till {till}, {} bytes", image.len()),
+            Call::Earlier { till, image } => write!(f, "earlier backup till {till}, {} bytes", image.len()),
             Call::Restore { till, version, room } => write!(f, "restore till {till}, version {version}, room {room}"),
             Call::Retire { till, version } => write!(f, "retire till {till}, version {version}"),
             Call::Listing { till } => write!(f, "listing till {till}"),
             Call::Tally => write!(f, "tally"),
+        }
+    }
+}
+
+impl Call {
+    /// The same call, made before blank blocks were known.
+    pub fn made_before(self) -> Call {
+        match self {
+            Call::Backup { till, image } => Call::Earlier { till, image },
+            other => other,
+        }
+    }
+}
+
+/// Which backups of a list were made before blank blocks were known.
+#[derive(Clone, Copy, Debug, PartialEq, Eq)]
+pub enum Before {
+    Never,
+    FirstThird,
+    /// One in two, at random.
+    Half,
+    /// Thirty calls before, thirty after, and so on: no store in the field goes back, but the page lets it.
+    Stretches,
+}
+
+impl Before {
+    /// Call `n` of so many, as it is made.
+    pub fn made(self, random: &mut Random, n: usize, of: usize, call: Call) -> Call {
+        let before = match self {
+            Before::Never => false,
+            Before::FirstThird => n < of / 3,
+            Before::Half => random.percent(50),
+            Before::Stretches => n % 60 < 30,
+        };
+        if before {
+            call.made_before()
+        } else {
+            call
         }
     }
 }

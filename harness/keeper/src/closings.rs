@@ -17,16 +17,17 @@ const TOTALS: usize = 40;
 pub struct Till {
     image: Vec<u8>,
     written: usize,
+    unused: u8,
 }
 
 impl Till {
-    /// A till as delivered.
-    pub fn new(firmware: &[u8], random: &mut Random) -> Till {
-        let mut image = vec![0; LENGTH];
+    /// A till as delivered, with this byte wherever its memory is not in use.
+    pub fn new(firmware: &[u8], random: &mut Random, unused: u8) -> Till {
+        let mut image = vec![unused; LENGTH];
         image[..SETTINGS].copy_from_slice(&firmware[..SETTINGS]);
         random.fill(&mut image[SETTINGS..SETTINGS + 3_000]);
         random.fill(&mut image[COUNTERS..COUNTERS + 600]);
-        Till { image, written: JOURNAL }
+        Till { image, written: JOURNAL, unused }
     }
 
     /// A day of sales: totals move, the journal gets its lines, now and then a setting changes.
@@ -48,7 +49,7 @@ impl Till {
     /// One line of the journal, of 32 bytes. A full journal is cleared and begun anew.
     fn line(&mut self, random: &mut Random) {
         if self.written + 32 > LENGTH {
-            self.image[JOURNAL..].fill(0);
+            self.image[JOURNAL..].fill(self.unused);
             self.written = JOURNAL;
         }
         random.fill(&mut self.image[self.written..self.written + 12]);
@@ -70,11 +71,21 @@ pub struct Shop {
 }
 
 impl Shop {
+    /// Memory that is not in use is zero.
     pub fn new(seed: u64, tills: usize) -> Shop {
+        Shop::with_unused(seed, tills, 0)
+    }
+
+    /// Tills with the chip that erases to 255.
+    pub fn erased(seed: u64, tills: usize) -> Shop {
+        Shop::with_unused(seed, tills, 255)
+    }
+
+    fn with_unused(seed: u64, tills: usize, unused: u8) -> Shop {
         let mut random = Random::new(seed);
         let mut firmware = vec![0; SETTINGS];
         random.fill(&mut firmware);
-        let tills = (0..tills).map(|_| Till::new(&firmware, &mut random)).collect();
+        let tills = (0..tills).map(|_| Till::new(&firmware, &mut random, unused)).collect();
         Shop { random, firmware, tills }
     }
 

@@ -5,7 +5,7 @@ use crate::events::Events;
 use crate::words::Words;
 use crate::{Call, Keeper};
 use std::collections::BTreeSet;
-use terms::{Calls, Capacities, Refusal, LAST_NUMBER};
+use terms::{Backup, Calls, Capacities, Refusal, LAST_NUMBER};
 
 /// What outputs are filled with before a restore.
 const UNTOUCHED: u8 = 0xa5;
@@ -20,6 +20,8 @@ pub struct Lane {
 pub struct Course {
     capacities: Capacities,
     lanes: Vec<Lane>,
+    /// Who makes the backups from before blank blocks were known, in the buffers of every store.
+    earlier: Option<Backup>,
     keeper: Keeper,
     /// Pool and table as the last accepted call left them.
     pool: Vec<u8>,
@@ -54,9 +56,15 @@ impl Course {
     fn start(capacities: Capacities, lanes: Vec<Lane>, keeper: Keeper) -> Course {
         let (pool, table) = (lanes[0].pool.clone(), lanes[0].table.clone());
         let (met, events) = (BTreeSet::new(), Events::default());
-        let mut course = Course { capacities, lanes, keeper, pool, table, met, made: 0, accepted: 0, events };
+        let mut course =
+            Course { capacities, lanes, earlier: None, keeper, pool, table, met, made: 0, accepted: 0, events };
         course.lanes_agree(&Call::LayOut(capacities));
         course
+    }
+
+    /// With somebody who makes the backups from before blank blocks were known.
+    pub fn with_earlier(self, earlier: Backup) -> Course {
+        Course { earlier: Some(earlier), ..self }
     }
 
     pub fn keeper(&self) -> &Keeper {
@@ -69,7 +77,7 @@ impl Course {
 
     /// Makes one call of all stores and compares. Answers the refusal's number.
     pub fn call(&mut self, call: &Call) -> [u32; 4] {
-        let mut answers: Vec<Answer> = self.lanes.iter_mut().map(|lane| answer(lane, call)).collect();
+        let mut answers: Vec<Answer> = self.lanes.iter_mut().map(|lane| answer_by(self.earlier, lane, call)).collect();
         let (first, output) = answers.swap_remove(0);
         for (other, other_output) in &answers {
             assert_eq!(first, *other, "{}: answers differ", self.place(call));
@@ -79,7 +87,7 @@ impl Course {
         self.met.insert((letter(call), first[0]));
         self.made += 1;
         self.accepted += accepted as usize;
-        if accepted && matches!(call, Call::Backup { .. } | Call::Retire { .. }) {
+        if accepted && matches!(call, Call::Backup { .. } | Call::Earlier { .. } | Call::Retire { .. }) {
             self.events += self.events_of(call);
             self.pool.copy_from_slice(&self.lanes[0].pool);
             self.table.copy_from_slice(&self.lanes[0].table);
@@ -91,11 +99,18 @@ impl Course {
 
     /// What an accepted backup or retire has done, with the table before it still at hand.
     fn events_of(&self, call: &Call) -> Events {
-        let mut events = Events::between(&self.table, &self.lanes[0].table, self.capacities);
-        if let Call::Retire { till, version } = *call {
-            // Counts rise by pointers taken over, and not by a new segment.
-            events.shared = 0;
-            events += Events::taken_over(&self.table, self.capacities, till as usize, version);
+        let after = &self.lanes[0].table;
+        let mut events = Events::between(&self.table, after, self.capacities);
+        match *call {
+            Call::Retire { till, version } => {
+                // Counts rise by pointers taken over, and not by a new segment.
+                (events.shared, events.shared_with_blanks) = (0, 0);
+                events += Events::taken_over(&self.table, self.capacities, till as usize, version);
+            }
+            Call::Backup { till, .. } => {
+                events += Events::turned(&self.table, after, self.capacities, till as usize);
+            }
+            _ => {}
         }
         events
     }
@@ -115,7 +130,7 @@ impl Course {
     /// The answer and output are what the keeper knows, which then follows the call.
     fn judge(&mut self, call: &Call, answer: [u32; 4], output: &[u8]) {
         let expected = self.refusal(call);
-        let left_open = expected.is_none() && matches!(call, Call::Backup { .. });
+        let left_open = expected.is_none() && matches!(call, Call::Backup { .. } | Call::Earlier { .. });
         let number = expected.map_or(0, Refusal::number);
         let fits = answer[0] == number || left_open && [14, 16].contains(&answer[0]);
         assert!(fits, "{}: answered {}, the keeper has {number}", self.place(call), answer[0]);
@@ -125,8 +140,8 @@ impl Course {
             return;
         }
         match call {
-            Call::Backup { till, image } => {
-                self.keeper.file(*till, image);
+            Call::Backup { till, image } | Call::Earlier { till, image } => {
+                self.keeper.file(*till, image, matches!(call, Call::Backup { .. }));
                 assert_eq!(answer[1], self.keeper.tills()[*till as usize].last, "{}", self.place(call));
             }
             Call::Retire { till, version } => {
@@ -166,7 +181,7 @@ impl Course {
             Call::LayOut(_) => Some(Refusal::Lengths),
             Call::Tally => None,
             Call::Listing { till } => self.keeper.till(*till).is_none().then_some(Refusal::NoSuchTill),
-            Call::Backup { till, image } => self.backup_refusal(*till, image.len()),
+            Call::Backup { till, image } | Call::Earlier { till, image } => self.backup_refusal(*till, image.len()),
             Call::Restore { till, version, room } => {
                 let Some(till) = self.keeper.till(*till) else { return Some(Refusal::NoSuchTill) };
                 let Some(image) = till.image(*version) else { return Some(Refusal::NotHeld) };
@@ -191,7 +206,7 @@ impl Course {
     }
 }
 
-/// A store laid out in buffers that were not blank.
+/// A store laid out in buffers that were not all zero.
 fn lane(store: Box<dyn Calls>, capacities: Capacities) -> Lane {
     let [0, words] = store.table_length(capacities) else { panic!("{}: no length", store.name()) };
     let (mut pool, mut table) = (vec![1; capacities.pool_bytes()], vec![1; words as usize]);
@@ -216,12 +231,21 @@ fn keeper_of(store: &dyn Calls, pool: &[u8], table: &[u32], capacities: Capaciti
 
 /// Makes one call of one store.
 pub fn answer(lane: &mut Lane, call: &Call) -> Answer {
+    answer_by(None, lane, call)
+}
+
+/// The same with somebody who makes the earlier backups.
+fn answer_by(earlier: Option<Backup>, lane: &mut Lane, call: &Call) -> Answer {
     let Lane { store, pool, table } = lane;
     let mut output = Vec::new();
     let numbers = match call {
         Call::TableLength(capacities) => store.table_length(*capacities).to_vec(),
         Call::LayOut(capacities) => store.lay_out(pool, table, *capacities).to_vec(),
         Call::Backup { till, image } => store.backup(pool, table, *till, image).to_vec(),
+        Call::Earlier { till, image } => {
+            let earlier = earlier.expect("somebody makes the earlier backups");
+            earlier(pool, table, *till, image).to_vec()
+        }
         Call::Restore { till, version, room } => {
             output.resize(*room, UNTOUCHED);
             store.restore(pool, table, *till, *version, &mut output).to_vec()
@@ -239,6 +263,7 @@ fn letter(call: &Call) -> char {
         Call::TableLength(_) => 'l',
         Call::LayOut(_) => 'o',
         Call::Backup { .. } => 'b',
+        Call::Earlier { .. } => 'e',
         Call::Restore { .. } => 'r',
         Call::Retire { .. } => 'q',
         Call::Listing { .. } => 'i',

@@ -23,6 +23,14 @@ pub struct Events {
     pub direct: usize,
     /// Indirect ones likewise.
     pub indirect: usize,
+    /// Blank ones likewise.
+    pub blank: usize,
+    /// Records taken for a new segment that has blank blocks too.
+    pub taken_with_blanks: usize,
+    /// Records with blank positions that a new segment used once more.
+    pub shared_with_blanks: usize,
+    /// Direct pointers of the previous version that turned blank.
+    pub turned_blank: usize,
 }
 
 impl AddAssign for Events {
@@ -35,13 +43,24 @@ impl AddAssign for Events {
         self.freed += other.freed;
         self.direct += other.direct;
         self.indirect += other.indirect;
+        self.blank += other.blank;
+        self.taken_with_blanks += other.taken_with_blanks;
+        self.shared_with_blanks += other.shared_with_blanks;
+        self.turned_blank += other.turned_blank;
     }
 }
 
 impl Events {
-    pub fn each(&self) -> [usize; 8] {
-        let Events { taken, shared, cleared, rebuilt, stuck, freed, direct, indirect } = *self;
-        [taken, shared, cleared, rebuilt, stuck, freed, direct, indirect]
+    /// Those that happen to every store.
+    pub fn each(&self) -> [usize; 10] {
+        let Events { taken, shared, cleared, rebuilt, stuck, freed, direct, indirect, .. } = *self;
+        let (taken_with_blanks, shared_with_blanks) = (self.taken_with_blanks, self.shared_with_blanks);
+        [taken, shared, cleared, rebuilt, stuck, freed, direct, indirect, taken_with_blanks, shared_with_blanks]
+    }
+
+    /// Those that happen only to a store with backups from before blank blocks were known.
+    pub fn each_from_before(&self) -> [usize; 2] {
+        [self.turned_blank, self.blank]
     }
 
     /// From the table before and after a call.
@@ -67,8 +86,25 @@ impl Events {
             Kind::Indirect(block) => Some(kind(retired[block])),
             _ => None,
         };
-        let direct = older.iter().filter_map(named).filter(|&kind| kind == Kind::Direct).count();
-        Events { direct, indirect: older.iter().filter_map(named).count() - direct, ..Events::default() }
+        let mut events = Events::default();
+        for kind in older.iter().filter_map(named) {
+            match kind {
+                Kind::Direct => events.direct += 1,
+                Kind::Indirect(_) => events.indirect += 1,
+                Kind::Blank => events.blank += 1,
+                Kind::Null => {}
+            }
+        }
+        events
+    }
+
+    /// The direct pointers that a backup of this till has turned blank in the version before.
+    pub fn turned(before: &[u32], after: &[u32], capacities: Capacities, till: usize) -> Events {
+        let (before, after) = (Words::new(before, capacities), Words::new(after, capacities));
+        let Some(slot) = before.numbers(till).len().checked_sub(1) else { return Events::default() };
+        let pairs = before.pointers(till, slot).iter().zip(after.pointers(till, slot));
+        let turned = pairs.filter(|(&old, &new)| kind(old) == Kind::Direct && kind(new) == Kind::Blank).count();
+        Events { turned_blank: turned, ..Events::default() }
     }
 }
 
@@ -82,6 +118,8 @@ fn one(old: &[u32], new: &[u32], capacities: Capacities) -> Events {
     Events {
         taken: (held == 0) as usize,
         shared: (held != 0 && more) as usize,
+        taken_with_blanks: (held == 0 && new[2] != 0) as usize,
+        shared_with_blanks: (held != 0 && more && new[2] != 0) as usize,
         cleared: (r > 0 && kept != 0 && few) as usize,
         rebuilt: (r > 0 && kept != 0 && moved) as usize,
         stuck: (r > 0 && kept != 0 && !few && !moved) as usize,

@@ -1,5 +1,5 @@
-//! Random images for small stores: few different blocks, so that blocks, null blocks and whole segments come again,
-//! within an image, from version to version and from till to till.
+//! Random images for small stores: few different blocks, so that blocks, null and blank blocks and whole segments come
+//! again, within an image, from version to version and from till to till.
 
 use crate::Random;
 use terms::Capacities;
@@ -39,16 +39,34 @@ impl Images {
         bytes
     }
 
-    fn null(&self) -> Block {
-        vec![0; self.bytes]
+    fn filled(&self, byte: u8) -> Block {
+        vec![byte; self.bytes]
+    }
+
+    /// Null or blank: memory that is not in use.
+    fn unused(&self, random: &mut Random) -> Block {
+        self.filled(*random.pick(&[0, 255]))
     }
 
     fn one(&self, random: &mut Random) -> Block {
-        if random.percent(12) {
-            self.null()
-        } else {
-            random.pick(&self.palette).clone()
+        match random.below(100) {
+            0..=11 => self.filled(0),
+            12..=23 => self.filled(255),
+            24..=26 => self.nearly_blank(random),
+            _ => random.pick(&self.palette).clone(),
         }
+    }
+
+    /// 255s but for one byte, or but for the end.
+    fn nearly_blank(&self, random: &mut Random) -> Block {
+        let mut block = self.filled(255);
+        let any = random.below(self.bytes);
+        let at = *random.pick(&[0, self.bytes - 1, any]);
+        match random.below(3) {
+            0 => block[at.max(1)..].fill(0),
+            _ => block[at] ^= 1 << random.below(8),
+        }
+        block
     }
 
     fn some(&self, random: &mut Random, count: usize) -> Vec<Block> {
@@ -58,7 +76,7 @@ impl Images {
     fn fresh(&self, random: &mut Random) -> Vec<Block> {
         let count = random.between(1, self.blocks);
         match random.below(8) {
-            0 => vec![self.null(); count],
+            0 => vec![self.unused(random); count],
             1 => vec![self.one(random); count],
             _ => self.some(random, count),
         }
@@ -77,7 +95,7 @@ impl Images {
             5 => image.extend(self.some(random, self.segment)),
             6 => image.rotate_left(at),
             7 => image.truncate(at + 1),
-            _ => image[segment..end].fill(self.null()),
+            _ => image[segment..end].fill(self.unused(random)),
         }
         image.truncate(self.blocks);
     }

@@ -11,6 +11,10 @@ fn is_null(block: &[u8]) -> bool {
     block.iter().all(|&byte| byte == 0)
 }
 
+fn is_blank(block: &[u8]) -> bool {
+    block.iter().all(|&byte| byte == 255)
+}
+
 /// The slots have the keeper's numbers. The occupied cells, the cells that are not zero and the cells that direct
 /// pointers lead to are the same ones. The blocks of an image are the store's.
 pub fn inspect(pool: &[u8], table: &[u32], keeper: &Keeper) {
@@ -28,7 +32,8 @@ pub fn inspect(pool: &[u8], table: &[u32], keeper: &Keeper) {
 }
 
 /// No block that the next newer image has too is pointed to directly, if the older version was the till's newest when
-/// the newer one was taken. Gives the cells that direct pointers lead to.
+/// the newer one was taken. Only blank blocks have blank pointers, and all have them in a version that knows of blanks.
+/// Gives the cells that direct pointers lead to.
 fn inspect_till(words: &Words, number: usize, till: &Till, bytes: usize) -> Vec<usize> {
     let mut led_to = Vec::new();
     let (mut newer, mut previous) = (HashSet::new(), 0);
@@ -36,6 +41,9 @@ fn inspect_till(words: &Words, number: usize, till: &Till, bytes: usize) -> Vec<
         let blocks = blocks_of(&kept.image, bytes);
         for (b, (block, &pointer)) in blocks.iter().zip(words.pointers(number, slot)).enumerate() {
             assert_eq!(pointer == 0, is_null(block), "null pointers are those of null blocks");
+            let (pointed, blank) = (kind(pointer) == Kind::Blank, is_blank(block));
+            assert!(!pointed || blank, "till {number}, version {version}, block {b} is not blank");
+            assert!(pointed || !blank || !kept.knows_blanks, "till {number}, version {version}, block {b} is blank");
             if kind(pointer) == Kind::Direct {
                 let shared = previous == version && newer.contains(block);
                 assert!(!shared, "till {number}, version {version}, block {b} is in the next newer image");

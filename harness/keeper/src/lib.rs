@@ -1,12 +1,14 @@
 //! What the stores are tried with: the page's keeper of whole images, random images and calls to feed it, and the
 //! course that puts one list of calls to several stores and the keeper and compares all they answer and leave.
 
+pub mod blanks;
 pub mod calls;
 pub mod closings;
 pub mod course;
 pub mod day;
 pub mod dense;
 pub mod events;
+pub mod flash;
 pub mod images;
 pub mod inspect;
 pub mod retires;

@@ -1,5 +1,6 @@
 //! Any sound stores, most of them such as no list of calls leads to: records of equal content, cells in any order,
-//! direct pointers where indirect ones would do, numbers that begin anywhere and have gaps.
+//! direct pointers where indirect ones would do, cells of 255s beside blank positions, numbers that begin anywhere and
+//! have gaps.
 
 use crate::Random;
 use terms::{Capacities, LAST_NUMBER};
@@ -9,6 +10,7 @@ enum Position {
     Null,
     Held { cell: usize, count: u32 },
     Removed,
+    Blank,
 }
 
 #[derive(Clone, Copy, PartialEq)]
@@ -16,12 +18,15 @@ enum Pointer {
     Null,
     Direct(usize, usize),
     Indirect(usize),
+    Blank,
 }
 
 struct Version {
     number: u32,
     length: usize,
     pointers: Vec<Pointer>,
+    /// Whether each block, as traced, is blank without a cell.
+    blank: Vec<bool>,
 }
 
 /// A till's versions stand newest first while they are made.
@@ -63,10 +68,11 @@ impl Sketch {
         let mut cells: Vec<usize> = (0..self.capacities.cells as usize).collect();
         (1..cells.len()).rev().for_each(|n| cells.swap(n, random.below(n + 1)));
         for _ in 0..self.capacities.records {
-            let (nulls, removed) = (random.below(80), random.below(30));
+            let (nulls, removed, blanks) = (random.below(80), random.below(30), random.below(60));
             let mut draw = |_| match cells.pop() {
                 Some(cell) if !random.percent(nulls) && !random.percent(removed) => Position::Held { cell, count: 0 },
                 _ if random.percent(removed) => Position::Removed,
+                _ if random.percent(blanks) => Position::Blank,
                 _ => Position::Null,
             };
             self.records.push((0..self.capacities.segment_blocks).map(&mut draw).collect());
@@ -81,19 +87,19 @@ impl Sketch {
         for older in (0..held).rev() {
             // Each older one needs a number too.
             let number = if random.percent(50) { above - 1 } else { random.between(older + 1, above - 1) };
-            let newer = versions.last().map_or(&[][..], |newer| &newer.pointers);
-            let version = self.draw_version(random, number as u32, newer);
+            let version = self.draw_version(random, number as u32, versions.last());
             versions.push(version);
             above = number;
         }
         Till { last, versions }
     }
 
-    fn draw_version(&self, random: &mut Random, number: u32, newer: &[Pointer]) -> Version {
+    fn draw_version(&self, random: &mut Random, number: u32, newer: Option<&Version>) -> Version {
         let length = random.between(1, self.capacities.image_bytes());
         let length = if random.percent(50) { length.next_multiple_of(self.bytes()) } else { length };
-        let (directs, indirects) = (random.below(101), random.below(101));
-        let named: Vec<usize> = (0..newer.len()).filter(|&n| newer[n] != Pointer::Null).collect();
+        let (directs, indirects, blanks) = (random.below(101), random.below(101), random.below(60));
+        let pointers = newer.map_or(&[][..], |newer| &newer.pointers);
+        let named: Vec<usize> = (0..pointers.len()).filter(|&n| pointers[n] != Pointer::Null).collect();
         let held = |k: usize, i: usize| matches!(self.records[k][i], Position::Held { .. });
         let mut draw = || {
             let (k, i) = (random.below(self.records.len()), random.below(self.records[0].len()));
@@ -101,11 +107,21 @@ impl Sketch {
                 Pointer::Indirect(*random.pick(&named))
             } else if held(k, i) && random.percent(directs) {
                 Pointer::Direct(k, i)
+            } else if random.percent(blanks) {
+                Pointer::Blank
             } else {
                 Pointer::Null
             }
         };
-        Version { number, length, pointers: (0..length.div_ceil(self.bytes())).map(|_| draw()).collect() }
+        let mut pointers: Vec<Pointer> = (0..length.div_ceil(self.bytes())).map(|_| draw()).collect();
+        let mut blank: Vec<bool> = pointers.iter().map(|pointer| is_blank(*pointer, newer)).collect();
+        if let (Some(pointer), Some(blank @ true)) = (pointers.last_mut(), blank.last_mut()) {
+            // A block that is not whole is zero at its end.
+            if !length.is_multiple_of(self.bytes()) {
+                (*pointer, *blank) = (Pointer::Null, false);
+            }
+        }
+        Version { number, length, pointers, blank }
     }
 
     /// Counts every direct pointer.
@@ -119,13 +135,14 @@ impl Sketch {
         }
     }
 
-    /// Held positions that no pointer names become removed or null; a record that then holds none is free.
+    /// Held positions that no pointer names become removed, null or blank; a record that then holds none is free.
     fn strike_unused(&mut self, random: &mut Random) {
         let whole = random.percent(50);
         for record in &mut self.records {
             for position in record.iter_mut() {
                 if matches!(position, Position::Held { count: 0, .. } | Position::Removed) {
-                    *position = if whole || random.percent(50) { Position::Null } else { Position::Removed };
+                    let others = [Position::Null, Position::Null, Position::Blank, Position::Removed];
+                    *position = *random.pick(&others[..if whole { 3 } else { 4 }]);
                 }
             }
             if !record.iter().any(|position| matches!(position, Position::Held { .. })) {
@@ -136,12 +153,13 @@ impl Sketch {
 
     /// Few different blocks, so that cells and records come out equal; zero after the ends of versions.
     fn fill_cells(&mut self, random: &mut Random) {
-        let (letters, alike) = (random.between(1, 4), random.percent(50));
+        let (letters, alike, cells_of_255) = (random.between(1, 4), random.percent(50), random.percent(50));
         let (bytes, positions) = (self.bytes(), self.capacities.segment_blocks as usize);
         for (n, position) in self.records.iter().flatten().enumerate() {
             if let Position::Held { cell, .. } = *position {
                 let letter = if alike { n % positions % letters } else { random.below(letters) };
-                self.pool[bytes * cell..bytes * (cell + 1)].fill(b'a' + letter as u8);
+                let byte = if letter == 0 && cells_of_255 { 255 } else { b'a' + letter as u8 };
+                self.pool[bytes * cell..bytes * (cell + 1)].fill(byte);
             }
         }
         for till in &self.tills {
@@ -156,7 +174,7 @@ impl Sketch {
 
     fn trace(&self, till: &Till, version: usize, block: usize) -> Option<usize> {
         match till.versions[version].pointers[block] {
-            Pointer::Null => None,
+            Pointer::Null | Pointer::Blank => None,
             Pointer::Indirect(newer) => self.trace(till, version - 1, newer),
             Pointer::Direct(k, i) => match self.records[k][i] {
                 Position::Held { cell, .. } => Some(cell),
@@ -184,11 +202,21 @@ impl Sketch {
     }
 }
 
+/// Whether a pointer is blank, or leads to a blank one by way of the next newer version.
+fn is_blank(pointer: Pointer, newer: Option<&Version>) -> bool {
+    match pointer {
+        Pointer::Blank => true,
+        Pointer::Indirect(block) => newer.is_some_and(|newer| newer.blank[block]),
+        Pointer::Null | Pointer::Direct(..) => false,
+    }
+}
+
 fn pointer_word(pointer: &Pointer) -> u32 {
     match *pointer {
         Pointer::Null => 0,
         Pointer::Direct(k, i) => (1 << 24) + (16 * k + i) as u32,
         Pointer::Indirect(n) => (2 << 24) + n as u32,
+        Pointer::Blank => 3 << 24,
     }
 }
 
@@ -199,6 +227,7 @@ fn record_words(record: &[Position]) -> Vec<u32> {
         match *position {
             Position::Null => {}
             Position::Removed => words[1] |= 1 << i,
+            Position::Blank => words[2] |= 1 << i,
             Position::Held { cell, count } => {
                 words[0] |= 1 << i;
                 (words[3 + i], words[3 + positions + i]) = (cell as u32, count);

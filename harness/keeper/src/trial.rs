@@ -1,6 +1,7 @@
-//! One store under test, with its buffers. Its images are letters: a letter is a block filled with it.
+//! One store under test, with its buffers. Its images are letters: a letter is a block filled with it, a dot a null
+//! block and a hash a blank one.
 
-use terms::{Calls, Capacities};
+use terms::{Backup, Calls, Capacities};
 
 #[derive(Clone)]
 pub struct Trial<'a> {
@@ -12,11 +13,25 @@ pub struct Trial<'a> {
 
 /// An image of blocks of so many bytes, each filled with a letter.
 pub fn letters(text: &str, bytes: u32) -> Vec<u8> {
-    text.bytes().flat_map(|letter| vec![letter; bytes as usize]).collect()
+    let byte = |letter| match letter {
+        b'.' => 0,
+        b'#' => 255,
+        letter => letter,
+    };
+    text.bytes().flat_map(|letter| vec![byte(letter); bytes as usize]).collect()
+}
+
+/// The letter of a block.
+fn letter(block: &[u8]) -> char {
+    match block[0] {
+        0 => '.',
+        255 => '#',
+        letter => letter as char,
+    }
 }
 
 impl<'a> Trial<'a> {
-    /// A store laid out in buffers that were not blank.
+    /// A store laid out in buffers that were not all zero.
     pub fn new(store: &'a dyn Calls, capacities: Capacities) -> Trial<'a> {
         let [_, words] = store.table_length(capacities);
         let (mut pool, mut table) = (vec![9; capacities.pool_bytes()], vec![9; words as usize]);
@@ -30,7 +45,16 @@ impl<'a> Trial<'a> {
     }
 
     pub fn backup(&mut self, image: &[u8]) -> [u32; 2] {
-        self.store.backup(&mut self.pool, &mut self.table, 0, image)
+        self.backup_of(0, image)
+    }
+
+    pub fn backup_of(&mut self, till: u32, image: &[u8]) -> [u32; 2] {
+        self.store.backup(&mut self.pool, &mut self.table, till, image)
+    }
+
+    /// Backs letters up as an earlier rule did.
+    pub fn file_by(&mut self, earlier: Backup, till: u32, text: &str) -> [u32; 2] {
+        earlier(&mut self.pool, &mut self.table, till, &letters(text, self.capacities.block_bytes))
     }
 
     /// Backs letters up.
@@ -48,7 +72,7 @@ impl<'a> Trial<'a> {
         let mut output = vec![0; self.capacities.image_bytes()];
         let [refusal, length, hops] = self.restore(version, &mut output);
         assert_eq!(refusal, 0, "restore of {version}");
-        let text: String = output[..length as usize].chunks(bytes).map(|block| block[0] as char).collect();
+        let text: String = output[..length as usize].chunks(bytes).map(letter).collect();
         assert_eq!(letters(&text, bytes as u32), output[..length as usize], "version {version}");
         (text, hops)
     }
@@ -67,9 +91,8 @@ impl<'a> Trial<'a> {
 
     /// What each cell holds: its letter, or a dot.
     pub fn picture(&self) -> String {
-        let shown = |cell: &[u8]| if cell[0] == 0 { '.' } else { cell[0] as char };
         let cells = self.pool.chunks(self.capacities.block_bytes as usize);
-        cells.map(shown).collect::<String>().trim_end_matches('.').to_string()
+        cells.map(letter).collect::<String>().trim_end_matches('.').to_string()
     }
 
     /// The pointer words of a slot's first blocks, as many as wanted.
@@ -81,6 +104,11 @@ impl<'a> Trial<'a> {
     /// Where the records begin.
     pub fn records_at(&self) -> usize {
         self.table.len() - self.capacities.record_words() * self.capacities.records as usize
+    }
+
+    /// A record's mask of blank positions.
+    pub fn blanks(&self, number: usize) -> u32 {
+        self.table[self.records_at() + self.capacities.record_words() * number + 2]
     }
 
     /// A record: held mask, removed mask, cells, counts.

@@ -20,6 +20,9 @@ pub struct Kept {
     pub image: Vec<u8>,
     /// The number of its till's newest version when it was taken, 0 if none was held.
     pub previous: u32,
+    /// Whether it was taken when blank blocks were known, or was its till's newest when such a one was taken: then its
+    /// blocks of 255s have no cell.
+    pub knows_blanks: bool,
 }
 
 impl Keeper {
@@ -42,15 +45,21 @@ impl Keeper {
 
     /// A version that is there from the beginning. Nobody knows which one was the newest when it was taken.
     pub fn find(&mut self, till: u32, version: u32, image: &[u8]) {
-        self.tills[till as usize].held.insert(version, Kept { image: image.to_vec(), previous: 0 });
+        self.tills[till as usize]
+            .held
+            .insert(version, Kept { image: image.to_vec(), previous: 0, knows_blanks: false });
     }
 
-    /// An accepted backup files the image under the till's next number.
-    pub fn file(&mut self, till: u32, image: &[u8]) {
+    /// An accepted backup files the image under the till's next number. It was made when blank blocks were known, or
+    /// before.
+    pub fn file(&mut self, till: u32, image: &[u8], knows_blanks: bool) {
         let till = &mut self.tills[till as usize];
         let previous = till.newest();
+        if let Some(kept) = till.held.get_mut(&previous) {
+            kept.knows_blanks |= knows_blanks;
+        }
         till.last += 1;
-        till.held.insert(till.last, Kept { image: image.to_vec(), previous });
+        till.held.insert(till.last, Kept { image: image.to_vec(), previous, knows_blanks });
     }
 
     /// An accepted retire strikes the version named.

@@ -10,12 +10,14 @@ pub enum Kind {
     Direct,
     /// Names this block of the next newer version.
     Indirect(usize),
+    Blank,
 }
 
 pub fn kind(pointer: u32) -> Kind {
     match pointer >> 24 {
         1 => Kind::Direct,
         2 => Kind::Indirect((pointer & 0x00ff_ffff) as usize),
+        3 => Kind::Blank,
         _ => Kind::Null,
     }
 }

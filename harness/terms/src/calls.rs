@@ -17,6 +17,9 @@ pub trait Calls {
     fn turn(&self, record: [u32; 3]) -> [u32; 6];
 }
 
+/// A backup alone, such as one by an earlier rule.
+pub type Backup = fn(&mut [u8], &mut [u32], u32, &[u8]) -> [u32; 2];
+
 /// An accepted answer as bare numbers.
 pub trait Fields<const N: usize> {
     fn fields(self) -> [u32; N];

@@ -4,7 +4,7 @@ mod calls;
 mod capacities;
 mod refusal;
 
-pub use calls::{numbers, Calls, Fields};
+pub use calls::{numbers, Backup, Calls, Fields};
 pub use capacities::{Capacities, BASE, BLOCK_BYTES, LONGEST_IMAGE, SEGMENT_BLOCKS};
 pub use refusal::Refusal;
 

@@ -99,8 +99,8 @@ impl<'a> Call<'a> {
         (here, format!("choose one that `lurdempos list {file} {till}` shows."))
     }
 
-    /// No record or no run of cells for a segment. If no cell is in use, though versions of zeros may be held or one may
-    /// just have made room, only the store's own measure can be the reason.
+    /// No record or no run of cells for a segment. If no cell is in use, though versions without any may be held or one
+    /// may just have made room, only the store's own measure can be the reason.
     fn no_room(&self, refusal: Refusal) -> (String, String) {
         let Capacities { records, cells, .. } = self.store.capacities();
         let (what, option, largest) = match refusal {
@@ -142,11 +142,13 @@ pub struct Need {
 }
 
 impl Need {
-    /// A segment of zeros takes nothing, one that comes again nothing more.
+    /// Blocks of zeros and of 255s take nothing, a segment that comes again nothing more.
     pub fn of(image: &[u8], capacities: Capacities) -> Need {
         let block = capacities.block_bytes as usize;
         let segment = block * capacities.segment_blocks as usize;
-        let cells = |segment: &[u8]| segment.chunks(block).filter(|block| block.iter().any(|&byte| byte != 0)).count();
+        let is_all = |block: &[u8], byte: u8| block.iter().all(|&one| one == byte);
+        let is_stored = |block: &&[u8]| !is_all(block, 0) && !is_all(block, 255);
+        let cells = |segment: &[u8]| segment.chunks(block).filter(is_stored).count();
         let different: HashSet<Vec<u8>> = image.chunks(segment).map(|some| filled_up(some, segment)).collect();
         let taken = different.iter().map(|segment| cells(segment)).filter(|&cells| cells > 0);
         taken.fold(Need { records: 0, cells: 0 }, |need, cells| Need {

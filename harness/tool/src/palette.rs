@@ -11,12 +11,14 @@ pub enum Mark {
     /// A cell, or the position that holds it. A position of a free record is free.
     Cell(Use),
     Null,
+    Blank,
     Removed,
 }
 
 const FREE: &str = "#eceff1";
 const TILLS: &str = "#101418";
 const NULL: &str = "#ffffff";
+const BLANK: &str = "#f2deb0";
 /// A colour for each till. Neighbours are far apart in lightness.
 const COLOURS: [&str; 16] = [
     "#7c1212", "#179e3e", "#8f20de", "#c7b21c", "#0f5766", "#eb75b5", "#308613", "#c4c2f6", "#763311", "#18a771",
@@ -31,7 +33,7 @@ pub fn colour(till: usize) -> &'static str {
 pub fn marks() -> impl Iterator<Item = Mark> {
     let tills = (0..COLOURS.len()).flat_map(|till| [Use::Single(till), Use::Versions(till)]);
     let cells = [Use::Free, Use::Tills].into_iter().chain(tills).map(Mark::Cell);
-    cells.chain([Mark::Null, Mark::Removed])
+    cells.chain([Mark::Null, Mark::Blank, Mark::Removed])
 }
 
 impl Mark {
@@ -40,6 +42,7 @@ impl Mark {
         match position {
             Position::Held { cell } => Mark::Cell(uses.get(cell).copied().unwrap_or(Use::Free)),
             Position::Removed => Mark::Removed,
+            Position::Blank => Mark::Blank,
             Position::Null if free => Mark::Cell(Use::Free),
             Position::Null => Mark::Null,
         }
@@ -52,6 +55,7 @@ impl Mark {
             Mark::Cell(Use::Single(till)) => format!("till {till}, one version"),
             Mark::Cell(Use::Versions(till)) => format!("till {till}, shared by several versions"),
             Mark::Null => "null, of a record in use".into(),
+            Mark::Blank => "blank".into(),
             Mark::Removed => "removed".into(),
         }
     }
@@ -70,6 +74,7 @@ impl Mark {
             Mark::Cell(Use::Single(till)) => format!("fill=\"url(#till{till})\""),
             Mark::Cell(Use::Versions(till)) => format!("fill=\"{}\"", colour(till)),
             Mark::Null => format!("fill=\"{NULL}\""),
+            Mark::Blank => format!("fill=\"{BLANK}\""),
             Mark::Removed => "fill=\"url(#removed)\"".into(),
         }
     }
@@ -94,7 +99,7 @@ fn hatched(name: &str, ground: &str, line: &str) -> String {
 
 #[cfg(test)]
 mod tests {
-    use super::{COLOURS, FREE, NULL, TILLS};
+    use super::{BLANK, COLOURS, FREE, NULL, TILLS};
 
     /// The lightness of a colour, 0 for black to 100 for white (CIE L*).
     fn lightness(colour: &str) -> f64 {
@@ -106,7 +111,8 @@ mod tests {
 
     #[test]
     fn colours_differ_in_lightness() {
-        let mut all: Vec<f64> = COLOURS.iter().chain(&[FREE, TILLS, NULL]).map(|colour| lightness(colour)).collect();
+        let mut all: Vec<f64> =
+            COLOURS.iter().chain(&[FREE, TILLS, NULL, BLANK]).map(|colour| lightness(colour)).collect();
         all.sort_by(f64::total_cmp);
         assert!(all.windows(2).all(|pair| pair[1] - pair[0] >= 3.5), "{all:?}");
         let neighbours = COLOURS.windows(2).map(|pair| (lightness(pair[0]) - lightness(pair[1])).abs());

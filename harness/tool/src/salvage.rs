@@ -69,6 +69,7 @@ struct Traced {
 #[derive(Clone, Copy, PartialEq, Eq)]
 enum End {
     Null,
+    Blank,
     Cell(usize),
     Lost,
 }
@@ -147,6 +148,7 @@ impl<'a> Wreck<'a> {
         let pointer = self.word(at).map_or(Pointer::Unknown, Pointer::of);
         let next = match pointer {
             Pointer::Null => Traced { end: End::Null, good: true },
+            Pointer::Blank => Traced { end: End::Blank, good: true },
             Pointer::Direct { record, position } => self.position(record, position),
             // A null block is never named by an indirect pointer.
             Pointer::Indirect { block } => newer.get(block).map_or(LOST, |next| match next.end {
@@ -165,11 +167,11 @@ impl<'a> Wreck<'a> {
             return LOST;
         }
         let at = self.layout.record(record);
-        let words = [at, at + 1, at + MASK_WORDS + position];
-        let [Some(held), Some(removed), Some(cell)] = words.map(|at| self.word(at)) else {
+        let words = [at, at + 1, at + 2, at + MASK_WORDS + position];
+        let [Some(held), Some(removed), Some(blank), Some(cell)] = words.map(|at| self.word(at)) else {
             return LOST;
         };
-        match Position::of(held, removed, position, cell) {
+        match Position::of([held, removed, blank], position, cell) {
             Position::Held { cell } if cell < cells as usize => {
                 let good = words.into_iter().all(|at| self.word_is_good(at)) && self.is_good(&self.cell_at(cell));
                 Traced { end: End::Cell(cell), good }
@@ -186,13 +188,15 @@ impl<'a> Wreck<'a> {
             let from = block_bytes * block;
             let place = from..length.min(from + block_bytes);
             let bytes = match traced.end {
+                End::Null => Some(&[][..]),
+                End::Blank => Some(&BLANK[..block_bytes]),
                 End::Cell(cell) => self.bytes.get(self.cell_at(cell)),
-                _ => None,
+                End::Lost => None,
             };
-            match (traced.end, bytes) {
-                (End::Null, _) | (End::Cell(_), Some(_)) if traced.good => {}
-                (End::Null, _) | (End::Cell(_), Some(_)) => ranges::add(&mut doubtful, place),
-                _ => ranges::add(&mut missing, place),
+            match bytes {
+                Some(_) if traced.good => {}
+                Some(_) => ranges::add(&mut doubtful, place),
+                None => ranges::add(&mut missing, place),
             }
             image.extend_from_slice(bytes.unwrap_or_default());
             image.resize(from + block_bytes, 0);
@@ -252,6 +256,9 @@ impl<'a> Wreck<'a> {
         self.good.get(grains(range)).is_some_and(|good| good.iter().all(|good| *good))
     }
 }
+
+/// A blank block, as large as one can be.
+const BLANK: [u8; 512] = [255; 512];
 
 const LOST: Traced = Traced { end: End::Lost, good: false };
 

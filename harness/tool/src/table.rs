@@ -46,6 +46,7 @@ pub enum Pointer {
     Indirect {
         block: usize,
     },
+    Blank,
     /// No store writes such a word.
     Unknown,
 }
@@ -57,6 +58,7 @@ impl Pointer {
             (0, 0) => Pointer::Null,
             (1, _) => Pointer::Direct { record: payload / 16, position: payload % 16 },
             (2, _) => Pointer::Indirect { block: payload },
+            (3, 0) => Pointer::Blank,
             _ => Pointer::Unknown,
         }
     }
@@ -68,14 +70,16 @@ pub enum Position {
     Null,
     Held { cell: usize },
     Removed,
+    Blank,
 }
 
 impl Position {
-    /// From the record's two masks and its cell.
-    pub fn of(held: u32, removed: u32, position: usize, cell: u32) -> Position {
-        match (held >> position & 1, removed >> position & 1) {
-            (1, _) => Position::Held { cell: cell as usize },
-            (_, 1) => Position::Removed,
+    /// From the record's three masks, of held, removed and blank positions, and its cell.
+    pub fn of(masks: [u32; MASK_WORDS], position: usize, cell: u32) -> Position {
+        match masks.map(|mask| mask >> position & 1) {
+            [1, ..] => Position::Held { cell: cell as usize },
+            [_, 1, _] => Position::Removed,
+            [_, _, 1] => Position::Blank,
             _ => Position::Null,
         }
     }
@@ -89,11 +93,12 @@ pub struct Version {
     pub direct: u32,
     pub indirect: u32,
     pub null: u32,
+    pub blank: u32,
     /// Where each block leads.
     pub traced: Vec<Traced>,
 }
 
-/// A block's chain: the indirect pointers followed, and the cell at its end, none for a null block.
+/// A block's chain: the indirect pointers followed, and the cell at its end, none for a null or blank block.
 #[derive(Clone, Copy, Default)]
 pub struct Traced {
     pub hops: u32,
@@ -143,7 +148,7 @@ fn versions(store: &Store, till: u32, records: &[Vec<Position>]) -> Vec<Version>
 fn version(slot: &[u32], capacities: Capacities, newer: &[Traced], records: &[Vec<Position>]) -> Version {
     let (number, bytes) = (slot[0], slot[1]);
     let blocks = bytes.div_ceil(capacities.block_bytes) as usize;
-    let mut version = Version { number, bytes, direct: 0, indirect: 0, null: 0, traced: Vec::new() };
+    let mut version = Version { number, bytes, direct: 0, indirect: 0, null: 0, blank: 0, traced: Vec::new() };
     for &word in slot.iter().skip(SLOT_WORDS).take(blocks) {
         let traced = match Pointer::of(word) {
             Pointer::Direct { record, position } => {
@@ -154,6 +159,10 @@ fn version(slot: &[u32], capacities: Capacities, newer: &[Traced], records: &[Ve
                 version.indirect += 1;
                 let next = newer.get(block).copied().unwrap_or_default();
                 Traced { hops: next.hops + 1, ..next }
+            }
+            Pointer::Blank => {
+                version.blank += 1;
+                Traced::default()
             }
             Pointer::Null | Pointer::Unknown => {
                 version.null += 1;
@@ -177,7 +186,7 @@ pub fn records(store: &Store) -> Vec<Vec<Position>> {
     let capacities = store.capacities();
     let words = store.table().get(Layout { capacities }.record(0)..).unwrap_or_default();
     let one = |words: &[u32]| {
-        let position = |n: usize| Position::of(words[0], words[1], n, words[MASK_WORDS + n]);
+        let position = |n: usize| Position::of([words[0], words[1], words[2]], n, words[MASK_WORDS + n]);
         (0..capacities.segment_blocks as usize).map(position).collect()
     };
     words.chunks_exact(capacities.record_words()).map(one).collect()

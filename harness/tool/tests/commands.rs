@@ -66,10 +66,10 @@ fn list_shows_versions_and_chains() {
         bench.fed("backup s 1 -", &letters(text)).accepted();
     }
     let shown = "till 1: versions 1 to 3\n  \
-                   version   bytes  longest chain  direct  indirect  null\n        \
-                         1     512              2       1         7     0\n        \
-                         2     512              1       1         7     0\n        \
-                         3     512              0       7         0     1\n";
+                   version   bytes  longest chain  direct  indirect  null  blank\n        \
+                         1     512              2       1         7     0      0\n        \
+                         2     512              1       1         7     0      0\n        \
+                         3     512              0       7         0     1      0\n";
     assert_eq!(bench.run("list s 1").accepted().out, shown);
     assert_eq!(bench.run("list s").accepted().out, format!("till 0: nothing yet\n{shown}"));
     for version in 1..=3 {
@@ -86,8 +86,8 @@ fn json_for_programs() {
     let listed = "{\"file\": \"s\", \"tills\": [\n  \
                     {\"till\": 0, \"oldest\": 0, \"newest\": 0, \"last\": 0, \"versions\": []},\n  \
                     {\"till\": 1, \"oldest\": 1, \"newest\": 2, \"last\": 2, \"versions\": [\n    \
-                      {\"version\": 1, \"bytes\": 192, \"chain\": 1, \"direct\": 0, \"indirect\": 2, \"null\": 1},\n    \
-                      {\"version\": 2, \"bytes\": 150, \"chain\": 0, \"direct\": 3, \"indirect\": 0, \"null\": 0}]}]";
+                      {\"version\": 1, \"bytes\": 192, \"chain\": 1, \"direct\": 0, \"indirect\": 2, \"null\": 1, \"blank\": 0},\n    \
+                      {\"version\": 2, \"bytes\": 150, \"chain\": 0, \"direct\": 3, \"indirect\": 0, \"null\": 0, \"blank\": 0}]}]";
     let capacities = "\"capacities\": {\"tills\": 2, \"versions\": 4, \"blocks\": 16, \"records\": 8, \"cells\": 64, \
                       \"block_bytes\": 64, \"segment_blocks\": 8, \"rebuild_percent\": 20}}\n";
     assert_eq!(bench.run("list --json s").accepted().out, format!("{listed}, {capacities}"));
@@ -111,10 +111,10 @@ fn any_version_goes() {
     assert_eq!(store.retire(0, 3), Ok(512));
     assert_eq!(bench.read("s"), file_of(store.pool(), store.table()));
     let listed = "till 0: versions 1 to 2, 4\n  \
-                    version   bytes  longest chain  direct  indirect  null\n        \
-                          1     512              2       1         7     0\n        \
-                          2     512              1       1         7     0\n        \
-                          4     512              0       8         0     0\n";
+                    version   bytes  longest chain  direct  indirect  null  blank\n        \
+                          1     512              2       1         7     0      0\n        \
+                          2     512              1       1         7     0      0\n        \
+                          4     512              0       8         0     0      0\n";
     assert_eq!(bench.run("list s 0").accepted().out, listed);
     bench.run("retire s 0 4").accepted();
     bench.run("list s 0").accepted().says("till 0: versions 1 to 2; the last was 4\n");

@@ -5,7 +5,7 @@ use common::{file_of, form_1_of, kept_file, letters, salvage_at_random, salvage_
 use lurdempos::{Capacities, Store};
 
 const TEXTS: [(u32, &str); 5] =
-    [(0, "ABCDEFGH"), (1, "ABCDEFGHXY"), (0, "ABCDEFGZ"), (1, "AB.DEFGHXY"), (1, "QRSTUVWX.YZ")];
+    [(0, "ABCDEFGH"), (1, "ABCDEFGHXY"), (0, "ABCDEFGZ"), (1, "AB.#EFGHXY"), (1, "QRSTUVWX.YZ")];
 
 /// Each version held.
 fn held() -> Vec<Held> {

@@ -15,10 +15,14 @@ fn options([bytes, blocks, percent]: [u32; 3]) -> String {
     format!("--block-bytes {bytes} --segment-blocks {blocks} --rebuild-percent {percent}")
 }
 
-/// An image of blocks of this store, each filled with a letter; a dot is a block of zeros. The last is cut.
+/// An image of blocks of this store, each filled with a letter; a dot is a block of zeros, a hash one of 255s. The last is cut.
 fn image(settings: [u32; 3], text: &str) -> Vec<u8> {
     let block = settings[0] as usize;
-    let byte = |letter| if letter == b'.' { 0 } else { letter };
+    let byte = |letter| match letter {
+        b'.' => 0,
+        b'#' => 255,
+        letter => letter,
+    };
     let mut image: Vec<u8> = text.bytes().flat_map(|letter| vec![byte(letter); block]).collect();
     image.truncate(image.len() - 5);
     image
@@ -29,7 +33,7 @@ const TEXTS: [(u32, &str); 7] = [
     (1, "ABCDEFGHIJKLMNOPQRSTUVWX.."),
     (0, "ABCDEFGHIJKLMNOPQRSTUVWXY!"),
     (0, "ABxDEFGHIJKLMNO.QRSTUVWXY!ab"),
-    (1, "ABCDEFGHIJKLMNOPQRSTUVWXYZcdefgh"),
+    (1, "ABCDEFGHIJKLMNOPQRSTUVWXYZc##f#h"),
     (0, "ABxDEFG"),
     (0, "BxDEFGHAAB"),
 ];
@@ -121,10 +125,11 @@ fn lists_and_maps_are_the_librarys() {
             let line = format!("{{\"version\": {version}, \"bytes\": {}, \"chain\": {hops},", image.len());
             let part = listed.split("{\"till\": ").find(|part| part.starts_with(&format!("{till},"))).unwrap();
             assert!(part.contains(&line), "till {till}: {line} is not in {part}");
-            let blocks = image.chunks(settings[0] as usize);
-            let null = blocks.filter(|block| block.iter().all(|&byte| byte == 0)).count();
+            let blocks = || image.chunks(settings[0] as usize);
+            let [null, blank] =
+                [0, 255].map(|byte| blocks().filter(|block| block.iter().all(|&one| one == byte)).count());
             let line = part.lines().find(|one| one.contains(&line)).unwrap();
-            assert!(line.contains(&format!("\"null\": {null}}}")), "{line}");
+            assert!(line.contains(&format!("\"null\": {null}, \"blank\": {blank}}}")), "{line}");
         }
         let tally = store.tally().unwrap();
         let numbers = bench.run("map s --json");

@@ -58,7 +58,7 @@ pub fn each_call(random: &mut Random, pool: &[u8], table: &[u32]) -> Vec<Call> {
 }
 
 fn of_letters(random: &mut Random, bytes: u32) -> Vec<u8> {
-    let text: String = (0..random.between(1, 20)).map(|_| *random.pick(&['a', 'b', 'c', 'd'])).collect();
+    let text: String = (0..random.between(1, 20)).map(|_| *random.pick(&['a', 'b', 'c', 'd', '#', '.'])).collect();
     letters(&text, bytes)
 }
 
@@ -71,8 +71,10 @@ fn of_records(random: &mut Random, pool: &[u8], table: &[u32], capacities: Capac
         let record = *random.pick(&records);
         for i in 0..capacities.segment_blocks as usize {
             let at = bytes * record[3 + i] as usize;
-            let block = if record[0] >> i & 1 == 1 { &pool[at..at + bytes] } else { &vec![0; bytes] };
-            image.extend_from_slice(block);
+            match (record[0] >> i & 1, record[2] >> i & 1) {
+                (1, _) => image.extend_from_slice(&pool[at..at + bytes]),
+                (_, blank) => image.extend(vec![255 * blank as u8; bytes]),
+            }
         }
     }
     image

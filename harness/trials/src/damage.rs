@@ -9,7 +9,7 @@ pub fn damage(random: &mut Random, pool: &mut [u8], table: &mut [u32], capacitie
     let at = table.len() - size * capacities.records as usize;
     let (here, there) = (random.below(table.len()), random.below(table.len()));
     let (cell, other) = (block * random.below(pool.len() / block), block * random.below(pool.len() / block));
-    match random.below(17) {
+    match random.below(21) {
         0 => table[here] ^= 1 << random.below(32),
         1 => table[here] = random.edge(),
         2 => table[here] = table[there],
@@ -26,6 +26,10 @@ pub fn damage(random: &mut Random, pool: &mut [u8], table: &mut [u32], capacitie
         13 => double(random, pool, &mut table[at..], capacities),
         14 => measure_anew(random, table),
         15 => misnumber(random, &mut table[..at]),
+        16 => pool[cell..cell + block].fill(255),
+        17 => mark_blank(random, &mut table[at..], size),
+        18 => point_blank(random, &mut table[..at]),
+        19 => shorten(random, &mut table[..at], block),
         _ => swap_cells(random, pool, &mut table[at..], capacities),
     }
 }
@@ -39,6 +43,50 @@ fn measure_anew(random: &mut Random, table: &mut [u32]) {
         _ => random.measures(),
     };
     table[5..8].copy_from_slice(&measures);
+}
+
+/// A record's mask of blank positions gets or loses one, or is any: sound where the others have none of it and the record
+/// holds a position.
+fn mark_blank(random: &mut Random, records: &mut [u32], size: usize) {
+    let record = random.below(records.len() / size);
+    let words = &mut records[size * record..][..3];
+    let bit = 1 << random.below(size / 2);
+    match random.below(5) {
+        0 => words[2] = random.edge(),
+        1 => words[2] = !(words[0] | words[1]) & (bit - 1),
+        2 => words[2] |= words[random.below(2)],
+        _ => words[2] ^= bit,
+    }
+}
+
+/// Words at the kind of a blank pointer and near it.
+const NEARLY_BLANK: [u32; 5] = [(3 << 24) + 1, (3 << 24) - 1, 4 << 24, (3 << 24) + (1 << 16), 1 << 31 | 3 << 24];
+
+/// A block's pointer word becomes that of a blank one or one near it, or a blank one becomes null: sound where nothing
+/// was counted, and the block is whole.
+fn point_blank(random: &mut Random, words: &mut [u32]) {
+    let blocks = words[2] as usize;
+    let Some((words, places)) = numbers_of(random, words) else { return };
+    if !places.is_empty() && blocks > 0 {
+        let word = &mut words[random.pick(&places) + 3 + random.below(blocks)];
+        *word = match random.below(6) {
+            0 => *random.pick(&NEARLY_BLANK),
+            1 | 2 if *word == 3 << 24 => 0,
+            _ => 3 << 24,
+        };
+    }
+}
+
+/// A version loses some bytes of its last block, or gets them back: sound where the block is zero there.
+fn shorten(random: &mut Random, words: &mut [u32], block: usize) {
+    let Some((words, places)) = numbers_of(random, words) else { return };
+    if !places.is_empty() {
+        let length = &mut words[random.pick(&places) + 1];
+        let any = random.below(block) as u32;
+        let less = *random.pick(&[0, 1, block as u32 - 1, any]);
+        // Other damage may have made it too large for that.
+        *length = length.checked_next_multiple_of(block as u32).map_or(0, |whole| whole.saturating_sub(less));
+    }
 }
 
 /// Two records change places, their pointers stay: mostly unsound, but not if the two have the same counts.
@@ -142,6 +190,7 @@ pub fn garbage(random: &mut Random, table: &mut [u32]) {
             0 => random.edge(),
             1 => random.below(8) as u32,
             2 => (1 + random.below(2) as u32) << 24 | random.below(64) as u32,
+            3 if random.percent(30) => 3 << 24,
             _ => 0,
         };
     }

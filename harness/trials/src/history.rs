@@ -1,7 +1,7 @@
 //! Random lists of calls from the empty store, the proved store against the twin and the keeper.
 
 use crate::stores;
-use keeper::calls::{List, Style};
+use keeper::calls::{Before, List, Style};
 use keeper::inspect::inspect;
 use keeper::{Course, Random};
 use terms::Capacities;
@@ -22,11 +22,23 @@ pub fn small(random: &mut Random) -> (Capacities, Style) {
 
 /// Runs one list of so many calls, and looks into the words every so often.
 pub fn run(seed: u64, capacities: Capacities, style: Style, calls: usize, look: usize) -> Course {
+    run_from_before(seed, capacities, style, (calls, look), Before::Never)
+}
+
+/// The same where some backups are the twin's, by the rule from before blank blocks were known.
+pub fn run_from_before(
+    seed: u64,
+    capacities: Capacities,
+    style: Style,
+    (calls, look): (usize, usize),
+    before: Before,
+) -> Course {
     let mut random = Random::new(seed);
     let list = List::new(&mut random, capacities, style);
-    let mut course = Course::new(capacities, stores());
+    let mut course = Course::new(capacities, stores()).with_earlier(twin::earlier);
     for n in 1..=calls {
-        course.call(&list.next(&mut random, course.keeper()));
+        let call = list.next(&mut random, course.keeper());
+        course.call(&before.made(&mut random, n, calls, call));
         if n % look == 0 {
             let (pool, table) = course.buffers();
             inspect(pool, table, course.keeper());

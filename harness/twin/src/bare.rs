@@ -1,9 +1,15 @@
 //! The twin's calls with answers as bare numbers.
 
+use crate::Era;
 use terms::{numbers, Calls, Capacities};
 
 /// The twin, where a test can be put to more than one store.
 pub struct Twin;
+
+/// A backup as it was made before blank blocks were known.
+pub fn earlier(pool: &mut [u8], table: &mut [u32], till: u32, image: &[u8]) -> [u32; 2] {
+    numbers(crate::backup_by(Era::BeforeBlanks, pool, table, till, image))
+}
 
 impl Calls for Twin {
     fn name(&self) -> &'static str {

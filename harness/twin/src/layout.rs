@@ -1,5 +1,6 @@
 //! Where the table's words stand, and what a pointer word and a record's words say (docs/FORMAT.md).
 
+use crate::era::Masks;
 use crate::rows::{Blocks, BlocksMut, Records, RecordsMut, Rows};
 use terms::{Capacities, Refusal};
 
@@ -148,34 +149,42 @@ pub enum Pointer {
     Null,
     Direct(Place),
     Indirect(usize),
+    Blank,
 }
+
+/// The two words that are a pointer of their kind by themselves.
+const NULL: u32 = 0;
+const BLANK: u32 = 3 << 24;
 
 impl Pointer {
     /// None if the word is of no kind. Ranges are left to the check.
     pub fn read(word: u32) -> Option<Pointer> {
         let payload = (word & 0x00ff_ffff) as usize;
         match word >> 24 {
-            0 if payload == 0 => Some(Pointer::Null),
             1 => Some(Pointer::Direct(Place { record: payload / POSITIONS, position: payload % POSITIONS })),
             2 => Some(Pointer::Indirect(payload)),
+            _ if word == NULL => Some(Pointer::Null),
+            _ if word == BLANK => Some(Pointer::Blank),
             _ => None,
         }
     }
 
     pub fn word(self) -> u32 {
         match self {
-            Pointer::Null => 0,
+            Pointer::Null => NULL,
             Pointer::Direct(place) => 1 << 24 | (POSITIONS * place.record + place.position) as u32,
             Pointer::Indirect(block) => 2 << 24 | block as u32,
+            Pointer::Blank => BLANK,
         }
     }
 }
 
-/// A segment record by value: both masks, and a cell and a count for each position.
+/// A segment record by value: its three masks, and a cell and a count for each position.
 #[derive(Clone, Copy, Debug, Default)]
 pub struct Record {
     pub held: u32,
     pub removed: u32,
+    pub blank: u32,
     pub cells: [u32; POSITIONS],
     pub counts: [u32; POSITIONS],
 }
@@ -184,14 +193,15 @@ impl Record {
     pub fn read(words: &[u32]) -> Record {
         let (cells, counts) = Record::places(words);
         let filled = |some: &[u32]| std::array::from_fn(|i| some.get(i).copied().unwrap_or(0));
-        Record { held: words[0], removed: words[1], cells: filled(cells), counts: filled(counts) }
+        let [held, removed, blank] = [words[0], words[1], words[2]];
+        Record { held, removed, blank, cells: filled(cells), counts: filled(counts) }
     }
 
     pub fn write(&self, words: &mut [u32]) {
         let (head, places) = words.split_at_mut(RECORD_HEAD);
         let positions = places.len() / 2;
         let (cells, counts) = places.split_at_mut(positions);
-        head.copy_from_slice(&[self.held, self.removed, 0]);
+        head.copy_from_slice(&[self.held, self.removed, self.blank]);
         cells.copy_from_slice(&self.cells[..positions]);
         counts.copy_from_slice(&self.counts[..positions]);
     }
@@ -209,6 +219,11 @@ impl Record {
     /// In use, and no position removed.
     pub fn is_whole(words: &[u32]) -> bool {
         words[0] != 0 && words[1] == 0
+    }
+
+    /// Which positions are held, and which are blank.
+    pub fn masks(words: &[u32]) -> Masks {
+        Masks { held: words[0], blank: words[2] }
     }
 
     pub fn cell(words: &[u32], position: usize) -> usize {

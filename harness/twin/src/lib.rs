@@ -2,6 +2,7 @@
 //! the proved store has something to be compared with and raced against. Nothing here is proved.
 
 mod bare;
+mod era;
 mod layout;
 mod line;
 mod place;
@@ -13,11 +14,13 @@ mod take_over;
 mod trace;
 mod turn;
 
-pub use bare::Twin;
+pub use bare::{earlier, Twin};
+pub use era::Era;
 use layout::{Layout, Place, Pointer, Record, HEADER, SLOT_HEAD, TILL_HEAD};
 pub use line::take_turn;
 use rows::Rows;
 use terms::{Capacities, Listing, Refusal, Restored, Tally, LAST_NUMBER};
+use trace::End;
 
 /// Words of the table that these capacities need.
 pub fn table_length(capacities: Capacities) -> Result<usize, Refusal> {
@@ -61,6 +64,11 @@ pub fn tally(pool: &[u8], table: &[u32]) -> Result<Tally, Refusal> {
 
 /// Files an image as a till's next version and answers its number.
 pub fn backup(pool: &mut [u8], table: &mut [u32], till: u32, image: &[u8]) -> Result<u32, Refusal> {
+    backup_by(Era::WithBlanks, pool, table, till, image)
+}
+
+/// The same by the rule of an era.
+pub fn backup_by(era: Era, pool: &mut [u8], table: &mut [u32], till: u32, image: &[u8]) -> Result<u32, Refusal> {
     let sound::Found { layout, mut occupied } = sound::check(pool, table)?;
     let till = layout.till(till)?;
     if image.is_empty() || image.len() > layout.bytes * layout.blocks {
@@ -77,7 +85,7 @@ pub fn backup(pool: &mut [u8], table: &mut [u32], till: u32, image: &[u8]) -> Re
     let (words, mut records) = layout.parts(table);
     let bytes = place::fill_up(image, &layout);
     let segments = place::segments(&bytes, &layout);
-    let plan = place::plan(&segments, cells.read(), records.read(), &mut occupied)?;
+    let plan = place::plan(&segments, era, cells.read(), records.read(), &mut occupied)?;
     let pointers = plan.carry_out(&layout, &segments, &mut cells, &mut records);
 
     let blocks = image.len().div_ceil(layout.bytes);
@@ -85,7 +93,7 @@ pub fn backup(pool: &mut [u8], table: &mut [u32], till: u32, image: &[u8]) -> Re
     if let Some(previous) = before.chunks_exact_mut(layout.slot_words()).last() {
         let used = (previous[1] as usize).div_ceil(layout.bytes);
         let image = Rows::new(&bytes[..blocks * layout.bytes], layout.bytes);
-        let let_go = turn::turn(&mut previous[SLOT_HEAD..][..used], image, cells.read(), records.read());
+        let let_go = turn::turn(&mut previous[SLOT_HEAD..][..used], era, image, cells.read(), records.read());
         sweep::let_go(let_go, &mut cells, &mut records, &mut occupied, layout.percent);
     }
     slot[..2].copy_from_slice(&[last + 1, image.len() as u32]);
@@ -104,10 +112,11 @@ pub fn restore(pool: &[u8], table: &[u32], till: u32, version: u32, output: &mut
     let (cells, records) = (layout.cells_of(pool), layout.records_of(table));
     let mut longest = 0;
     for (n, part) in output.chunks_mut(layout.bytes).enumerate() {
-        let (place, hops) = trace::trace(till, slot, n);
-        match place {
-            Some(at) => part.copy_from_slice(&cells[Record::cell(&records[at.record], at.position)][..part.len()]),
-            None => part.fill(0),
+        let (end, hops) = trace::trace(till, slot, n);
+        match end {
+            End::Held(at) => part.copy_from_slice(&cells[Record::cell(&records[at.record], at.position)][..part.len()]),
+            End::Blank => part.fill(255),
+            End::Null => part.fill(0),
         }
         longest = longest.max(hops);
     }

@@ -1,8 +1,9 @@
 //! Step 1 of a backup: where each segment of the image goes. All is planned before a byte is written, so a refusal
 //! alters nothing.
 
+use crate::era::{Era, Masks};
 use crate::layout::{ones, Layout, Place, Pointer, Record};
-use crate::rows::{is_null, Blocks, BlocksMut, Records, RecordsMut, Rows};
+use crate::rows::{Blocks, BlocksMut, Records, RecordsMut, Rows};
 use crate::runs::Occupied;
 use terms::Refusal;
 
@@ -24,48 +25,57 @@ pub fn segments<'a>(bytes: &'a [u8], layout: &Layout) -> Vec<Segment<'a>> {
 /// A segment that takes a free record and a run of free cells.
 struct Placing {
     segment: usize,
+    masks: Masks,
     record: usize,
     cell: usize,
 }
 
-/// Which record each segment uses, none if it is all null, and those to be written first.
+/// What a segment needs: the mask of its blank blocks, and a record unless all others are null.
+struct Use {
+    blank: u32,
+    record: Option<usize>,
+}
+
+/// What each segment uses, and the records to be written first.
 pub struct Plan {
-    uses: Vec<Option<usize>>,
+    uses: Vec<Use>,
     placings: Vec<Placing>,
 }
 
-/// The mask of the blocks that are not null.
-fn mask(segment: Segment) -> u32 {
-    segment.iter().enumerate().fold(0, |mask, (i, block)| mask | (!is_null(block) as u32) << i)
-}
-
 /// Plans all segments. The planned cells become occupied.
-pub fn plan(segments: &[Segment], cells: Blocks, records: Records, occupied: &mut Occupied) -> Result<Plan, Refusal> {
+pub fn plan(
+    segments: &[Segment],
+    era: Era,
+    cells: Blocks,
+    records: Records,
+    occupied: &mut Occupied,
+) -> Result<Plan, Refusal> {
     let numbered = || records.iter().enumerate();
-    let whole: Vec<(usize, u32)> =
-        numbered().filter(|(_, words)| Record::is_whole(words)).map(|(k, words)| (k, words[0])).collect();
+    let whole: Vec<(usize, Masks)> =
+        numbered().filter(|(_, words)| Record::is_whole(words)).map(|(k, words)| (k, Record::masks(words))).collect();
     let mut free = numbered().filter(|(_, words)| Record::is_free(words)).map(|(k, _)| k);
     let mut plan = Plan { uses: Vec::with_capacity(segments.len()), placings: Vec::new() };
     for (n, &segment) in segments.iter().enumerate() {
-        let mask = mask(segment);
-        let equal = |&&(k, held): &&(usize, u32)| held == mask && has_content(&records[k], cells, segment);
+        let masks = era.masks(segment);
+        let equal = |&&(k, held): &&(usize, Masks)| held == masks && has_content(&records[k], cells, segment);
         let placed = || plan.placings.iter().find(|one| segments[one.segment] == segment).map(|one| one.record);
-        let found = if mask == 0 { None } else { whole.iter().find(equal).map(|&(k, _)| k).or_else(placed) };
-        if mask != 0 && found.is_none() {
+        let found = || whole.iter().find(equal).map(|&(k, _)| k).or_else(placed);
+        let mut used = Use { blank: masks.blank, record: if masks.held == 0 { None } else { found() } };
+        if masks.held != 0 && used.record.is_none() {
             let record = free.next().ok_or(Refusal::NoRecord)?;
-            let need = mask.count_ones() as usize;
+            let need = masks.held.count_ones() as usize;
             let cell = occupied.best_run(need).ok_or(Refusal::NoRun)?;
             (cell..cell + need).for_each(|cell| occupied.set(cell));
-            plan.placings.push(Placing { segment: n, record, cell });
-            plan.uses.push(Some(record));
-        } else {
-            plan.uses.push(found);
+            plan.placings.push(Placing { segment: n, masks, record, cell });
+            used.record = Some(record);
         }
+        plan.uses.push(used);
     }
     Ok(plan)
 }
 
-/// Whether the record's held positions, which are the segment's blocks that are not null, have those blocks' bytes.
+/// Whether the record's held positions, which are the segment's blocks that need a cell, have those blocks' bytes. To
+/// a backup that knows blank blocks none of these is blank, so that a cell of 255s from before equals none.
 fn has_content(words: &[u32], cells: Blocks, segment: Segment) -> bool {
     ones(words[0]).all(|i| cells.is_same(Record::cell(words, i), segment, i))
 }
@@ -80,12 +90,13 @@ impl Plan {
         records: &mut RecordsMut,
     ) -> Vec<u32> {
         for one in &self.placings {
-            let record = write(segments[one.segment], one.cell, cells);
+            let record = write(segments[one.segment], one.masks, one.cell, cells);
             record.write(&mut records[one.record]);
         }
         let mut pointers = vec![Pointer::Null.word(); segments.len() * layout.positions];
         for (used, pointers) in self.uses.iter().zip(pointers.chunks_exact_mut(layout.positions)) {
-            if let Some(record) = *used {
+            ones(used.blank).for_each(|i| pointers[i] = Pointer::Blank.word());
+            if let Some(record) = used.record {
                 use_record(record, &mut records[record], pointers);
             }
         }
@@ -93,9 +104,9 @@ impl Plan {
     }
 }
 
-/// Writes a segment's blocks that are not null to consecutive cells; its record, nothing counted yet.
-fn write(segment: Segment, cell: usize, cells: &mut BlocksMut) -> Record {
-    let mut record = Record { held: mask(segment), ..Record::default() };
+/// Writes a segment's blocks that need a cell to consecutive ones; its record, nothing counted yet.
+fn write(segment: Segment, Masks { held, blank }: Masks, cell: usize, cells: &mut BlocksMut) -> Record {
+    let mut record = Record { held, blank, ..Record::default() };
     for (cell, i) in (cell..).zip(ones(record.held)) {
         cells[cell].copy_from_slice(&segment[i]);
         record.cells[i] = cell as u32;

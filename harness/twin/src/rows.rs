@@ -82,3 +82,10 @@ pub fn is_null(block: &[u8]) -> bool {
     let (pieces, _) = block.as_chunks::<PIECE>();
     pieces.iter().all(|piece| piece.iter().fold(0, |all, byte| all | byte) == 0)
 }
+
+/// Whether a block is all 255s.
+#[inline]
+pub fn is_blank(block: &[u8]) -> bool {
+    let (pieces, _) = block.as_chunks::<PIECE>();
+    pieces.iter().all(|piece| piece.iter().fold(255, |all, byte| all & byte) == 255)
+}

@@ -3,7 +3,7 @@
 use crate::layout::{Layout, Pointer, Record, TillWords, POSITIONS, RECORD_HEAD, SLOT_HEAD, TILL_HEAD};
 use crate::rows::{is_null, Blocks, Records};
 use crate::runs::Occupied;
-use crate::trace::trace;
+use crate::trace::{trace, End};
 use terms::{Capacities, Refusal, LAST_NUMBER};
 
 /// What a call learns from the check of a sound store.
@@ -33,7 +33,7 @@ fn survey(pool: &[u8], table: &[u32]) -> Option<Found> {
         till(&table[layout.till_at(n)..layout.till_at(n + 1)], &layout, &mut owed)?;
         tails(layout.till_of(table, n), records, cells, layout.bytes)?;
     }
-    holds(blank(&owed))?;
+    holds(empty(&owed))?;
     Some(Found { layout, occupied })
 }
 
@@ -42,7 +42,7 @@ fn holds(condition: bool) -> Option<()> {
 }
 
 /// Whether all words are zero: sixteen at a time, so that they are read abreast.
-fn blank(words: &[u32]) -> bool {
+fn empty(words: &[u32]) -> bool {
     words.chunks(16).all(|some| some.iter().fold(0, |all, word| all | word) == 0)
 }
 
@@ -55,9 +55,10 @@ fn header(pool: &[u8], table: &[u32]) -> Option<Layout> {
 
 /// Masks and zero words of one record; its cells become occupied, its counts owed.
 fn record(words: &[u32], layout: &Layout, occupied: &mut Occupied, owed: &mut Owed) -> Option<()> {
-    let [held, removed, 0] = *words.first_chunk::<RECORD_HEAD>()? else { return None };
-    holds(held & removed == 0 && (held | removed) >> layout.positions == 0)?;
-    holds(held != 0 || removed == 0)?;
+    let [held, removed, blank] = *words.first_chunk::<RECORD_HEAD>()?;
+    holds(held & removed == 0 && blank & (held | removed) == 0)?;
+    holds((held | removed | blank) >> layout.positions == 0)?;
+    holds(held != 0 || removed | blank == 0)?;
     let (cells, counts) = Record::places(words);
     for (i, (&cell, &count)) in cells.iter().zip(counts).enumerate() {
         if held >> i & 1 == 0 {
@@ -86,7 +87,7 @@ fn till(words: &[u32], layout: &Layout, owed: &mut Owed) -> Option<()> {
     let [last, held, 0, 0] = *head else { return None };
     holds(last <= LAST_NUMBER && held as usize <= layout.versions)?;
     let (used, unused) = slots.split_at(held as usize * layout.slot_words());
-    holds(blank(unused))?;
+    holds(empty(unused))?;
     let (mut above, mut newer): (u32, &[u32]) = (last + 1, &[]);
     for slot in used.chunks_exact(layout.slot_words()).rev() {
         holds((1..above).contains(&slot[0]))?;
@@ -103,10 +104,10 @@ fn version<'a>(slot: &'a [u32], newer: &[u32], owed: &mut Owed, bytes: usize) ->
     let blocks = (length as usize).div_ceil(bytes);
     holds((1..=words.len()).contains(&blocks))?;
     let (pointers, unused) = words.split_at(blocks);
-    holds(blank(unused))?;
+    holds(empty(unused))?;
     for &word in pointers {
         match Pointer::read(word)? {
-            Pointer::Null => {}
+            Pointer::Null | Pointer::Blank => {}
             Pointer::Direct(place) => {
                 let count = owed.get_mut(POSITIONS * place.record + place.position)?;
                 *count = count.checked_sub(1)?;
@@ -122,9 +123,14 @@ fn tails(till: TillWords, records: Records, cells: Blocks, bytes: usize) -> Opti
     for slot in 0..till.held() {
         let length = till.length(slot);
         if !length.is_multiple_of(bytes) {
-            let (place, _) = trace(till, slot, length / bytes);
-            let cell = place.map(|at| &cells[Record::cell(&records[at.record], at.position)]);
-            holds(cell.is_none_or(|cell| cell[length % bytes..].iter().all(|&byte| byte == 0)))?;
+            match trace(till, slot, length / bytes).0 {
+                End::Null => {}
+                End::Blank => return None,
+                End::Held(at) => {
+                    let cell = &cells[Record::cell(&records[at.record], at.position)];
+                    holds(cell[length % bytes..].iter().all(|&byte| byte == 0))?;
+                }
+            }
         }
     }
     Some(())

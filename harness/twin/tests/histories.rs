@@ -1,22 +1,30 @@
 //! Long lists of calls, the twin against the keeper of whole images.
 
-use keeper::calls::{List, Style};
+use keeper::calls::{Before, List, Style};
 use keeper::closings::Shop;
+use keeper::events::Events;
 use keeper::inspect::inspect;
 use keeper::{Call, Course, Random};
 use terms::{Capacities, BLOCK_BYTES, SEGMENT_BLOCKS};
-use twin::Twin;
+use twin::{earlier, Twin};
 
 fn history(seed: u64, capacities: Capacities, style: Style, calls: usize) {
+    history_from_before(seed, capacities, style, calls, Before::Never);
+}
+
+/// The same where some backups are by the rule from before blank blocks were known.
+fn history_from_before(seed: u64, capacities: Capacities, style: Style, calls: usize, before: Before) -> Events {
     let mut random = Random::new(seed);
     let list = List::new(&mut random, capacities, style);
-    let mut course = Course::new(capacities, vec![Box::new(Twin)]);
+    let mut course = Course::new(capacities, vec![Box::new(Twin)]).with_earlier(earlier);
     for n in 0..calls {
-        course.call(&list.next(&mut random, course.keeper()));
+        let call = list.next(&mut random, course.keeper());
+        course.call(&before.made(&mut random, n, calls, call));
         if n % 50 == 0 {
             inspect(course.buffers().0, course.buffers().1, course.keeper());
         }
     }
+    course.events
 }
 
 #[test]
@@ -43,6 +51,19 @@ fn all_measures() {
 fn all_pairs() -> impl Iterator<Item = (u64, [u32; 2])> {
     let pairs = BLOCK_BYTES.into_iter().flat_map(|bytes| SEGMENT_BLOCKS.map(|blocks| [bytes, blocks]));
     (100..).zip(pairs)
+}
+
+#[test]
+fn stores_from_before() {
+    let mut events = Events::default();
+    for seed in 0..60 {
+        let measures = Random::new(seed).measures();
+        let blocks = measures[1];
+        let capacities = Capacities::new(2, 5, 3 * blocks, 14, 8 * blocks).measured(measures);
+        let before = [Before::FirstThird, Before::Half, Before::Stretches][seed as usize % 3];
+        events += history_from_before(seed, capacities, Style { retires: 20, kinds: 5 }, 500, before);
+    }
+    assert!(events.each_from_before().iter().all(|&often| often > 50), "{events:?}");
 }
 
 #[test]

@@ -1,7 +1,7 @@
 //! The page's cases, and their counterparts at other settings, put to the twin.
 
-use keeper::{day, retires, settings};
-use twin::Twin;
+use keeper::{blanks, day, retires, settings};
+use twin::{earlier, Twin};
 
 #[test]
 fn days_in_a_row() {
@@ -71,4 +71,44 @@ fn backup_after_the_newest() {
 #[test]
 fn neighbours_that_were_none() {
     retires::neighbours_that_were_none(&Twin);
+}
+
+#[test]
+fn nothing_stored() {
+    blanks::nothing_stored(&Twin);
+}
+
+#[test]
+fn beside_others() {
+    blanks::beside_others(&Twin);
+}
+
+#[test]
+fn short_last_block() {
+    blanks::short_last_block(&Twin);
+}
+
+#[test]
+fn blank_soundness() {
+    blanks::soundness(&Twin);
+}
+
+#[test]
+fn store_from_before() {
+    blanks::store_from_before(&Twin, earlier);
+}
+
+#[test]
+fn cells_freed() {
+    blanks::cells_freed(&Twin, earlier);
+}
+
+#[test]
+fn neither_serves_the_other() {
+    blanks::neither_serves_the_other(&Twin, earlier);
+}
+
+#[test]
+fn earlier_after() {
+    blanks::earlier_after(&Twin, earlier);
 }

@@ -28,11 +28,11 @@ module _ (n : ℕ) (ws : List ℕ) (k i x : ℕ) (f : x ≡ k * recordWords n) (
 
   cell-on : bitOf (getD ws x 0) i ≡ 1 → getD ws (x + 3 + i) 0 ≡ cellOf (getD (getD (recordsIn n ws) k []) i nullPosition)
   cell-on e =
-      rw (position-in n ws k i (omega arith) g, position-held _ (bitOf (getD ws (at + 1) 0) i) (getD ws (at + (3 + i)) 0) (getD ws (at + (3 + n + i)) 0) (sym bit-is ∙ e))
+      rw (position-in n ws k i (omega arith) g, position-held _ (bitOf (getD ws (at + 1) 0) i) (bitOf (getD ws (at + 2) 0) i) (getD ws (at + (3 + i)) 0) (getD ws (at + (3 + n + i)) 0) (sym bit-is ∙ e))
       (ap (λ (j : ℕ). getD ws j 0) (let z : x + 3 + i ≡ at + (3 + i) = omega arith in z))
 
   cell-off : (bitOf (getD ws x 0) i ≡ 1 → ⊥) → 0 ≡ cellOf (getD (getD (recordsIn n ws) k []) i nullPosition)
-  cell-off e = rw (position-in n ws k i (omega arith) g) (sym (other-cell _ _ _ _ (bit-off (getD ws at 0) i (λ z. e (bit-is ∙ z)))))
+  cell-off e = rw (position-in n ws k i (omega arith) g) (sym (other-cell _ _ _ _ _ (bit-off (getD ws at 0) i (λ z. e (bit-is ∙ z)))))
 
 -- src/lib.rt:39:9
 word-requires : tie.Need-word-requires

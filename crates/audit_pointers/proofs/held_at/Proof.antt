@@ -32,9 +32,9 @@ module _ (n : ℕ) (ws : List ℕ) (k i : ℕ) where
       q : r ≡ bitOf (getD ws at 0) i
       q = e ∙ ap (λ (y : ℕ). bitOf (getD ws y 0) i) f
 
-      go : (t : Bool) → eqb r 1 ≡ t → eqb r 1 ≡ isHeld (positionOf (bitOf (getD ws at 0) i) (bitOf (getD ws (at + 1) 0) i) (getD ws (at + (3 + i)) 0) (getD ws (at + (3 + n + i)) 0))
-      go true z = z ∙ sym (ap isHeld (position-held _ _ (getD ws (at + (3 + i)) 0) (getD ws (at + (3 + n + i)) 0) (sym q ∙ eqb-true r 1 z)))
-      go false z = z ∙ sym (other-held _ _ _ _ (bit-off (getD ws at 0) i (λ y. eqb-false r 1 z (q ∙ y))))
+      go : (t : Bool) → eqb r 1 ≡ t → eqb r 1 ≡ isHeld (positionOf (bitOf (getD ws at 0) i) (bitOf (getD ws (at + 1) 0) i) (bitOf (getD ws (at + 2) 0) i) (getD ws (at + (3 + i)) 0) (getD ws (at + (3 + n + i)) 0))
+      go true z = z ∙ sym (ap isHeld (position-held _ _ (bitOf (getD ws (at + 2) 0) i) (getD ws (at + (3 + i)) 0) (getD ws (at + (3 + n + i)) 0) (sym q ∙ eqb-true r 1 z)))
+      go false z = z ∙ sym (other-held _ _ _ _ _ (bit-off (getD ws at 0) i (λ y. eqb-false r 1 z (q ∙ y))))
 
 -- src/lib.rt:24:9
 word-requires : tie.Need-word-requires

@@ -7,13 +7,13 @@ use Prim.Native.Nat.{ℕ}
 use lib.ListN.{getD}
 use denote.Ref.{now}
 use borrow.Author.Tests.{eqb-true, eq-eqb}
+use Rattle.lists.proofs.Checkers.{is-so}
 use Rattle.model.specs.State.{nullPosition, Segment, Shelf}
 use Rattle.model.specs.Records.{isHeld, positionAt}
 use Rattle.model.specs.Table.{wordToPointer, recordsIn}
 use Rattle.model.specs.Sound.{leads}
-use Rattle.audit_words.proofs.Pointers.{read-direct, read-indirect, read-other, direct-says, indirect-says, null-says, other-says}
+use Rattle.audit_words.proofs.Pointers.{read-direct, read-indirect, direct-says, indirect-says, null-reads, blank-reads, null-says, blank-says, other-says}
 use Rattle.audit_counts.proofs.Counters.{bumped-other}
-use borrow.Author.Needs.{needs}
 use Rattle.audit_pointers.proofs.pointer_good.Statement.{statement}
 use Rattle.audit_pointers.proofs.pointer_good.Tie as tie
 use Rattle.audit_pointers.proofs.pointer_good.Reads as reads
@@ -21,17 +21,19 @@ use Rattle.audit_pointers.proofs.pointer_good.Lts as lts
 use Rattle.audit_counts.proofs.bump.Reads as bump-reads
 use Rattle.audit_pointers.proofs.held_at.Reads as held-at-reads
 use Rattle.audit_pointers.proofs.not_null.Reads as not-null-reads
+use Rattle.numbers.proofs.Pointer.blank.Reads as blank-reads
+use Rattle.numbers.proofs.Pointer.null.Reads as null-reads
 
 -- a position of the records is one of any shelf that has them
 found : {r : Bool} (shelf : Shelf) (segs : List Segment) (k i : ℕ) → shelf .records ≡ segs → r ≡ isHeld (getD (getD segs k []) i nullPosition) → r ≡ isHeld (positionAt shelf k i)
 unfolding positionAt
 found shelf segs k i q e = e ∙ ap (λ (s : List Segment). isHeld (getD (getD s k []) i nullPosition)) (sym q)
 
--- src/lib.rt:78:9
+-- src/lib.rt:79:9
 not-null-requires : tie.Need-not-null-requires
 not-null-requires c κs = search needs
 
--- src/lib.rt:78:9
+-- src/lib.rt:79:9
 returns : tie.Need-returns
 returns c =
     let w = c .before .before .before .before .before .args .w in
@@ -39,23 +41,23 @@ returns c =
     let e : (shelf : Shelf) → c .not-null .result ≡ leads shelf (map wordToPointer (now (c .before .before .before .before .before .args .newer))) (wordToPointer w) = λ shelf. rw (read-indirect w k) (c .not-null .ensures) in
     (λ shelf q. record { holds = λ t. record { say = indirect-says w k; lead = sym (e shelf) ∙ t }; seen = λ g. e shelf ∙ g .lead }, λ t. bumped-other w _ (λ z. omega (arith, k, z)))
 
--- src/lib.rt:81:9
+-- src/lib.rt:82:9
 bump-requires : tie.Need-bump-requires
 bump-requires c κs = search needs
 
--- src/lib.rt:82:57
+-- src/lib.rt:83:57
 cast-held-at : tie.Need-cast-held-at
 cast-held-at c = search needs
 
--- src/lib.rt:82:9
+-- src/lib.rt:83:9
 held-at-requires : tie.Need-held-at-requires
 held-at-requires c κs = search needs
 
--- src/lib.rt:82:9
+-- src/lib.rt:83:9
 same-length : tie.Need-same-length
 same-length c = search needs
 
--- src/lib.rt:82:9
+-- src/lib.rt:83:9
 returns-2 : tie.Need-returns-2
 returns-2 c =
     let w = c .before .before .before .before .before .before .before .before .before .before .args .w in
@@ -63,13 +65,32 @@ returns-2 c =
     let e : (shelf : Shelf) → shelf .records ≡ recordsIn (c .before .before .before .before .before .before .before .before .before .before .args .n) (now (c .before .before .before .before .before .before .before .before .before .before .args .records)) → c .held-at .result ≡ leads shelf (map wordToPointer (now (c .before .before .before .before .before .before .before .before .before .before .args .newer))) (wordToPointer w) = λ shelf q. rw (read-direct w k) (found shelf _ _ _ q (c .held-at .ensures)) in
     (λ shelf q. record { holds = λ t. record { say = direct-says w k; lead = sym (e shelf q) ∙ t }; seen = λ g. e shelf q ∙ g .lead }, λ t. c .before .before .before .bump .ensures)
 
--- src/lib.rt:71:1
+-- src/lib.rt:85:13
+null-requires : tie.Need-null-requires
+null-requires c κs = search needs
+
+-- src/lib.rt:86:9
 returns-3 : tie.Need-returns-3
 returns-3 c =
-    let w = c .before .before .before .before .before .args .w in
-    let n = c .if2 .left in
-    let m = c .before .if1 .left in
-    (λ shelf q. record { holds = λ t. record { say = null-says w (eqb-true w 0 t); lead = rw (read-other w n m) }; seen = λ g. eq-eqb w 0 (other-says w n m (g .say)) }, λ t. bumped-other w _ n)
+    let w = c .before .before .before .before .before .before .before .before .args .w in
+    let e = c .if3 .taken ∙ c .before .before .null .ensures in
+    (λ shelf q. is-so (record { say = null-says w e; lead = rw (null-reads w e) }), λ t. bumped-other w _ (c .before .before .before .if2 .left))
+
+-- src/lib.rt:88:10
+blank-requires : tie.Need-blank-requires
+blank-requires c κs = search needs
+
+-- src/lib.rt:72:1
+returns-4 : tie.Need-returns-4
+returns-4 c =
+    let w = c .before .before .before .before .before .before .before .before .before .before .args .w in
+    let b = c .before .blank .ensures in (
+      λ shelf q. record {
+        holds = λ t. let e = eqb-true w (c .before .blank .result .0) t ∙ b in record { say = blank-says w e; lead = rw (blank-reads w e) };
+        seen = λ g. eq-eqb w (c .before .blank .result .0) (other-says w (c .before .before .before .before .before .if2 .left) (c .before .before .before .before .before .before .if1 .left) (λ e. c .before .before .if3 .left (e ∙ sym (c .before .before .before .before .null .ensures))) (g .say) ∙ sym b);
+      },
+      λ t. bumped-other w _ (c .before .before .before .before .before .if2 .left),
+    )
 
 pub pointer-good-spec : {M : Type 1} → statement M
 pointer-good-spec =
@@ -82,4 +103,7 @@ pointer-good-spec =
     held-at-requires
     same-length
     returns-2
-    returns-3)
+    null-requires
+    returns-3
+    blank-requires
+    returns-4)

@@ -6,7 +6,7 @@ use Prim.Native.Nat.{_+_, _-_, _<_, _≤_}
 use lib.ListN.{drop, getD, length}
 use denote.Ref.{now}
 use Rattle.lists.specs.Lists.{firstFrom}
-use Rattle.model.specs.Image.{blocksFrom}
+use Rattle.model.specs.Image.{blocksFrom, withBlanks}
 use Rattle.model.specs.Records.{equals}
 use Rattle.model.specs.Table.{recordsIn, shelfIn}
 use Rattle.numbers.specs.Measures.{measuresOf}
@@ -20,10 +20,10 @@ use Rattle.place_match.proofs.match_record.Statement.{statement}
 use Rattle.place_match.proofs.match_record.Tie as tie
 
 abbrev Inv-loop : tie.InvT-loop
-Inv-loop image from mask pool records used m width count stop at₀ k₀ at k = AtRow (m .blocks) records width count at k × (k ≤ stop) × (stop ≤ count) × (let f = equals (shelfIn (measuresOf m) pool records) (blocksFrom (m .bytes) image from (m .blocks)) in firstFrom f k (drop k (recordsIn (m .blocks) records)) ≡ firstFrom f 0 (recordsIn (m .blocks) records))
+Inv-loop image from mask blank pool records used m width count stop at₀ k₀ at k = AtRow (m .blocks) records width count at k × (k ≤ stop) × (stop ≤ count) × (let f = equals withBlanks (shelfIn (measuresOf m) pool records) (blocksFrom (m .bytes) image from (m .blocks)) in firstFrom f k (drop k (recordsIn (m .blocks) records)) ≡ firstFrom f 0 (recordsIn (m .blocks) records))
 
 abbrev μ-loop : tie.MeasureT-loop
-μ-loop image from mask pool records used m width count stop at₀ k₀ at k = stop - k
+μ-loop image from mask blank pool records used m width count stop at₀ k₀ at k = stop - k
 
 room : (c : tie.In-loop Inv-loop μ-loop) → c .before .loop .at + c .before .before .before .before .row-words .result ≤ length (now (c .before .before .before .before .before .before .before .before .args .records))
 room c = at-room (c .before .loop .inv .0) (omega arith) (stored-records _ (c .before .before .before .before .before .before .before .before .pre .3))
@@ -63,10 +63,10 @@ record-equals-requires c κs =
     let r = stored-records _ s in
     let h : l .k < c .before .before .before .before .rows .result = omega arith in
     let below = cells-below (a .args .m .blocks) _ (getD (recordsIn (a .args .m .blocks) (now (a .args .records))) (l .k) []) (at-sized (l .inv .0) h r) (λ i. cell-inside s (l .k) i) _ (at-row (l .inv .0) h r) in
-    (a .pre .0, a .pre .1, at-length (l .inv .0) h r, λ i q. cell-room s _ (below i q), s .measured .someBytes, s .measured .mostBytes, s .measured .pieces, omega (arith, s .measured .someBlocks), s .measured .mostBlocks)
+    (a .pre .0, a .pre .1, at-length (l .inv .0) h r, λ i q. cell-room s _ (below i q), s .measured .someBytes, s .measured .mostBytes, s .measured .pieces, omega (arith, s .measured .someBlocks), s .measured .mostBlocks, a .pre .5)
 
-cast-t22 : tie.Need-cast-t22 Inv-loop μ-loop
-cast-t22 c = omega (arith, at-few (c .before .before .before .before .loop .inv .0) (c .before .before .before .before .before .before .before .before .before .before .before .pre .3 .short))
+cast-t23 : tie.Need-cast-t23 Inv-loop μ-loop
+cast-t23 c = omega (arith, at-few (c .before .before .before .before .loop .inv .0) (c .before .before .before .before .before .before .before .before .before .before .before .pre .3 .short))
 
 returns : tie.Need-returns Inv-loop μ-loop
 returns c =
@@ -74,7 +74,7 @@ returns c =
     let l = c .before .before .before .before .loop in
     let r = stored-records _ (a .pre .3) in
     let h : l .k < c .before .before .before .before .before .before .rows .result = omega arith in
-    let f = equals (shelfIn (measuresOf (a .args .m)) (now (a .args .pool)) (now (a .args .records))) (blocksFrom (a .args .m .bytes) (now (a .args .image)) (a .args .from) (a .args .m .blocks)) in
+    let f = equals withBlanks (shelfIn (measuresOf (a .args .m)) (now (a .args .pool)) (now (a .args .records))) (blocksFrom (a .args .m .bytes) (now (a .args .image)) (a .args .from) (a .args .m .blocks)) in
     let e = c .before .record-equals .ensures _ _ (cells-of (measuresOf (a .args .m)) (now (a .args .pool)) (now (a .args .records))) (at-sized (l .inv .0) h r) (at-row (l .inv .0) h r) in
     (first-yes f [] _ (l .k) (omega (arith, l .inv .0 .all)) (sym (c .if1 .taken) ∙ e) ∙ l .inv .3, omega (arith, l .inv .0 .all))
 
@@ -90,12 +90,12 @@ loop-again c =
     let l = c .before .before .before .before .loop in
     let r = stored-records _ (a .pre .3) in
     let h : l .k < c .before .before .before .before .before .before .rows .result = omega arith in
-    let f = equals (shelfIn (measuresOf (a .args .m)) (now (a .args .pool)) (now (a .args .records))) (blocksFrom (a .args .m .bytes) (now (a .args .image)) (a .args .from) (a .args .m .blocks)) in
+    let f = equals withBlanks (shelfIn (measuresOf (a .args .m)) (now (a .args .pool)) (now (a .args .records))) (blocksFrom (a .args .m .bytes) (now (a .args .image)) (a .args .from) (a .args .m .blocks)) in
     let e = c .before .record-equals .ensures _ _ (cells-of (measuresOf (a .args .m)) (now (a .args .pool)) (now (a .args .records))) (at-sized (l .inv .0) h r) (at-row (l .inv .0) h r) in
     (at-next (l .inv .0) h r, omega arith, l .inv .2, sym (first-no f [] (recordsIn (a .args .m .blocks) (now (a .args .records))) (l .k) (omega (arith, l .inv .0 .all)) (sym (c .if1 .left) ∙ e)) ∙ l .inv .3)
 
-cast-t23 : tie.Need-cast-t23 Inv-loop μ-loop
-cast-t23 c = omega (arith, at-few (c .before .loop .inv .0) (c .before .before .before .before .before .before .before .before .pre .3 .short))
+cast-t24 : tie.Need-cast-t24 Inv-loop μ-loop
+cast-t24 c = omega (arith, at-few (c .before .loop .inv .0) (c .before .before .before .before .before .before .before .before .pre .3 .short))
 
 returns-2 : tie.Need-returns-2 Inv-loop μ-loop
 returns-2 c =
@@ -122,10 +122,10 @@ match-record-spec =
     part-record-equals-start
     part-record-equals-end
     record-equals-requires
-    cast-t22
+    cast-t23
     returns
     add-k
     loop-less
     loop-again
-    cast-t23
+    cast-t24
     returns-2)

@@ -6,7 +6,8 @@ use lib.Dec.{eqb}
 use denote.Ref.{now}
 use Rattle.lists.specs.Lists.{sameNumbers}
 use Rattle.model.specs.Image.{blockFrom}
-use Rattle.place_match.proofs.Matching.{cell-same, holds-held, holds-null, null-bit}
+use Rattle.place_match.proofs.Blank.{some-block}
+use Rattle.place_match.proofs.Matching.{bare-bit, cell-same, holds-bare, holds-held}
 use borrow.Author.Needs.{needs}
 use Rattle.place_match.proofs.position_holds.Statement.{statement}
 use Rattle.place_match.proofs.position_holds.Tie as tie
@@ -30,20 +31,20 @@ block-same-requires : tie.Need-block-same-requires
 block-same-requires c κs = search needs
 
 returns : tie.Need-returns
-returns c = λ s p e h q r.
+returns c = λ s p e h q r t.
     let a = c .before .before .before .before .before .before .args in
     let b = blockFrom (a .bytes) (now (a .image)) (a .at) in
     let f : c .before .before .byte .result ≡ a .cell .0 * a .bytes = c .before .before .byte .ensures in
     let k : a .cell .0 * a .bytes + a .bytes - a .cell .0 * a .bytes ≡ a .bytes = omega arith in
     (rw (f, k) at (c .block-same .ensures))
     ∙ ap (λ (l : List ℕ). sameNumbers l b) (sym (cell-same s (a .bytes) (now (a .pool)) (a .cell .0) e (omega arith) (c .before .before .before .before .before .before .pre .3)))
-    ∙ sym (holds-held s b (a .held) (a .cell .0) p h q (c .before .before .before .if1 .taken))
+    ∙ sym (holds-held s b (a .held) (a .cell .0) (some-block (a .bytes) (now (a .image)) (a .at) (omega arith)) p h q t (c .before .before .before .if1 .taken))
 
 returns-2 : tie.Need-returns-2
-returns-2 c = λ s p e h q r.
+returns-2 c = λ s p e h q r t.
     let a = c .before .before .before .args in
     let b = blockFrom (a .bytes) (now (a .image)) (a .at) in
-    ap (λ (x : ℕ). eqb x 0) (c .before .before .before .pre .1) ∙ null-bit b ∙ sym (holds-null s b (a .held) (a .cell .0) p h r (c .if1 .left))
+    ap (λ (x : ℕ). eqb x 0) (c .before .before .before .pre .1) ∙ bare-bit b ∙ sym (holds-bare s b (a .held) (a .cell .0) (some-block (a .bytes) (now (a .image)) (a .at) (omega arith)) p h r t (c .if1 .left))
 
 pub position-holds-spec : {M : Type 1} → statement M
 position-holds-spec =

@@ -29,7 +29,7 @@ loop-holds : tie.Need-loop-holds Inv-loop μ-loop
 loop-holds c =
     let a = c .before .before .before .before .args in
     let z : a .n - 0 ≡ a .n = omega arith in
-    (search needs, omega (arith, zero-mul (a .bytes)), rw z (c .before .before .before .before .pre .1), λ s seg e l q. equal-start s (a .bytes) (now (a .image)) (a .from) (a .n) seg (now (a .row)) q (c .before .before .before .before .pre .3))
+    (search needs, omega (arith, zero-mul (a .bytes)), rw z (c .before .before .before .before .pre .1), λ s seg e l q. equal-start s (a .bytes) (now (a .image)) (a .from) (a .n) seg (now (a .row)) q (c .before .before .before .before .pre .3) (c .before .before .before .before .pre .9))
 
 add-cell : tie.Need-add-cell Inv-loop μ-loop
 add-cell c = search needs
@@ -58,7 +58,7 @@ returns c = λ s seg e l q.
     let t = c .before .before .before .before .loop .inv .3 s seg e l q in
     let a = c .before .before .before .before .before .before .before .before .before .args in
     equal-no t l (omega arith) (now (a .row)) q
-    (sym (not-true _ (c .if1 .taken)) ∙ equal-here t l (omega arith) (now (a .row)) q _ (λ p x y z. c .before .position-holds .ensures s p e x y z))
+    (sym (not-true _ (c .if1 .taken)) ∙ equal-here t l (omega arith) (now (a .row)) q _ (λ p x y z w. c .before .position-holds .ensures s p e x y z w))
 
 add-at : tie.Need-add-at Inv-loop μ-loop
 add-at c = let l = c .before .before .before .before .loop in let a = c .before .before .before .before .before .before .before .before .before in omega (arith, l .inv .1, block-low (a .args .from) (a .args .bytes) (a .args .n) (l .i) (a .pre .0) (a .pre .6) (a .pre .8) (l .inv .0))
@@ -79,7 +79,7 @@ loop-again c =
       λ s seg e n q.
           let t = l .inv .3 s seg e n q in
           equal-yes t n (omega arith) (now (a .row)) q
-          (sym (not-false _ (c .if1 .left)) ∙ equal-here t n (omega arith) (now (a .row)) q _ (λ p x y z. c .before .position-holds .ensures s p e x y z)),
+          (sym (not-false _ (c .if1 .left)) ∙ equal-here t n (omega arith) (now (a .row)) q _ (λ p x y z w. c .before .position-holds .ensures s p e x y z w)),
     )
 
 returns-2 : tie.Need-returns-2 Inv-loop μ-loop

@@ -24,7 +24,7 @@ rowed c =
     part-room (a .args .m .blocks) (now (a .args .records)) _ (stored-records (measuresOf (a .args .m)) (a .pre .0 .stored)) _ (inside (c .before .before)) (c .before .word .result) (c .row-words .result) (c .before .word .ensures) (c .row-words .ensures .0)
 
 match-record-requires : tie.Need-match-record-requires
-match-record-requires c κs = let a = c .before .before .before .before .before .before .before in (a .pre .0 .begins, a .pre .1 .is, a .pre .1 .some, a .pre .0 .stored, a .pre .2)
+match-record-requires c κs = let a = c .before .before .before .before .before .before .before in (a .pre .0 .begins, a .pre .1 .is, a .pre .1 .some, a .pre .0 .stored, a .pre .2, a .pre .1 .blanks)
 
 cast-if1 : tie.Need-cast-if1
 cast-if1 c = search needs
@@ -111,7 +111,7 @@ returns-2 c =
     let h = inside (c .before .before .before .before .before .before .before .before .before .before) in
     did-share (a .pre .0) (a .pre .1) _ h (c .before .before .before .before .before .before .before .before .before .before .before .before .match-record .ensures .0) (c .before .before .before .before .before .before .before .before .before .word .result) (c .before .before .before .before .before .before .before .before .row-words .result) (c .before .before .before .before .before .before .before .before .before .word .ensures) (c .before .before .before .before .before .before .before .before .row-words .ensures .0) _ _
     (c .before .before .before .before .before .before .raise-row .ensures _ (count-at n ws _ t _ h) (row-part n ws _ t _ h (c .before .before .before .before .before .before .before .before .before .word .result) (c .before .before .before .before .before .before .before .before .row-words .result) (c .before .before .before .before .before .before .before .before .before .word .ensures) (c .before .before .before .before .before .before .before .before .row-words .ensures .0)))
-    (c .before .before .put-places .ensures _ (seg-room (a .pre .0) (now (a .args .image))) (a .pre .1 .is))
+    (c .before .before .put-places .ensures _ (seg-room (a .pre .0) (now (a .args .image))) (a .pre .1 .is) (a .pre .1 .blanks))
 
 pub place-blocks-spec : {M : Type 1} → statement M
 place-blocks-spec =

@@ -1,27 +1,34 @@
 use native.Mathlib.Omega.{arith}
 use denote.Ref.{now}
 use Rattle.model.specs.Image.{blocksFrom}
-use Rattle.place_one.proofs.Done.{did-null, seg-room}
+use Rattle.place_one.proofs.Done.{did-bare, seg-room}
 use borrow.Author.Needs.{needs}
 use Rattle.place_one.proofs.place_segment.Statement.{statement}
 use Rattle.place_one.proofs.place_segment.Tie as tie
 
-segment-mask-requires : tie.Need-segment-mask-requires
-segment-mask-requires c κs = let r = c .before .before .before .before .before .pre .0 in (r .begins, r .stored .measured .someBytes, r .stored .measured .mostBytes, r .stored .measured .pieces, r .stored .measured .mostBlocks)
+segment-masks-requires : tie.Need-segment-masks-requires
+segment-masks-requires c κs = let r = c .before .before .before .before .before .pre .0 in (r .begins, r .stored .measured .someBytes, r .stored .measured .mostBytes, r .stored .measured .pieces, r .stored .measured .mostBlocks)
 
-put-nulls-requires : tie.Need-put-nulls-requires
-put-nulls-requires c κs = search needs
+put-places-requires : tie.Need-put-places-requires
+put-places-requires c κs =
+    let r = c .before .before .before .before .before .before .before .before .before .pre .0 in
+    (omega (arith, r .room, r .stored .measured .mostBlocks), omega arith)
 
 same-length : tie.Need-same-length
 same-length c = search needs
 
 returns : tie.Need-returns
 returns c =
-    let a = c .before .before .before .before .before .before .before .before .before .before .before in
-    did-null (a .pre .0) (now (a .args .image)) _ (c .before .before .before .before .before .segment-mask .ensures .0) (c .before .before .before .before .if1 .taken) _ (c .before .before .put-nulls .ensures (blocksFrom (a .args .m .bytes) (now (a .args .image)) (a .args .from) (a .args .m .blocks)) (seg-room (a .pre .0) (now (a .args .image))))
+    let a = c .before .before .before .before .before .before .before .before .before .before .before .before in
+    let e = c .before .before .before .before .before .before .segment-masks .ensures in
+    let seg = blocksFrom (a .args .m .bytes) (now (a .args .image)) (a .args .from) (a .args .m .blocks) in
+    did-bare (a .pre .0) (now (a .args .image)) _ 0 (e .0) (c .before .before .before .before .if1 .taken) _ (c .before .before .put-places .ensures seg (seg-room (a .pre .0) (now (a .args .image))) (e .0) (e .1))
 
 place-blocks-requires : tie.Need-place-blocks-requires
-place-blocks-requires c κs = (c .before .before .before .before .before .before .before .before .before .before .before .pre .0, record { is = c .before .before .before .before .before .segment-mask .ensures .0; some = omega arith }, c .before .before .before .before .before .before .before .before .before .before .before .pre .1)
+place-blocks-requires c κs =
+    let a = c .before .before .before .before .before .before .before .before .before .before .before .before in
+    let e = c .before .before .before .before .before .before .segment-masks .ensures in
+    (a .pre .0, record { is = e .0; blanks = e .1; some = omega (arith, c .before .before .before .before .if1 .left) }, a .pre .1)
 
 same-length-2 : tie.Need-same-length-2
 same-length-2 c = search needs
@@ -42,8 +49,8 @@ pub place-segment-spec : {M : Type 1} → statement M
 place-segment-spec =
     tie.close
     (tie.spec
-    segment-mask-requires
-    put-nulls-requires
+    segment-masks-requires
+    put-places-requires
     same-length
     returns
     place-blocks-requires

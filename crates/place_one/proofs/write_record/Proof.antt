@@ -4,8 +4,8 @@ use mathlib.Core.Option.{none, some}
 use Prim.Native.Nat.{_+_, _-_, _≤_}
 use lib.ListN.{length}
 use denote.Ref.{now}
-use Rattle.model.specs.Image.{blocksFrom}
-use Rattle.model.specs.Place.{newPositions, nonNull}
+use Rattle.model.specs.Image.{blocksFrom, withBlanks}
+use Rattle.model.specs.Place.{newPositions, stored}
 use Rattle.model.specs.Runs as model
 use Rattle.model.specs.Table.{cellsIn}
 use Rattle.numbers.specs.Measures.{measuresOf}
@@ -21,11 +21,11 @@ use Rattle.place_one.proofs.write_record.Tie as tie
 abbrev theRun : tie.Start → model.Run
 theRun a = record { start = a .args .run .start .0; cells = a .args .run .size }
 
-found : (a : tie.Start) → model.scan (length (nonNull (blocksFrom (a .args .m .bytes) (now (a .args .image)) (a .args .from) (a .args .m .blocks)))) (now (a .args .free)) 0 0 none ≡ some (theRun a)
+found : (a : tie.Start) → model.scan (length (stored withBlanks (blocksFrom (a .args .m .bytes) (now (a .args .image)) (a .args .from) (a .args .m .blocks)))) (now (a .args .free)) 0 0 none ≡ some (theRun a)
 found a = sym (a .pre .1 .1 .1) ∙ run-some (a .args .run .start .0) (a .args .run .size) (λ z. omega (arith, a .pre .1 .1 .0))
 
 -- its cells are the pool's
-roomy : (a : tie.Start) → a .args .run .start .0 + length (nonNull (blocksFrom (a .args .m .bytes) (now (a .args .image)) (a .args .from) (a .args .m .blocks))) ≤ length (cellsIn (a .args .m .bytes) (now (a .args .pool)))
+roomy : (a : tie.Start) → a .args .run .start .0 + length (stored withBlanks (blocksFrom (a .args .m .bytes) (now (a .args .image)) (a .args .from) (a .args .m .blocks))) ≤ length (cellsIn (a .args .m .bytes) (now (a .args .pool)))
 roomy a = write-room (a .pre .0 .0) (a .pre .0 .1) (a .pre .0 .2) (a .args .k .0) (a .pre .1 .0 .0) (a .pre .1 .0 .1) (theRun a) (found a)
 
 rowed : (c : tie.After-row-words) → c .before .word .result + c .row-words .result ≤ length (now (c .before .before .before .before .before .before .before .args .records))
@@ -82,7 +82,7 @@ take-row-requires : tie.Need-take-row-requires
 take-row-requires c κs =
     let a = c .before .before .before .before .before .before .before .before .before .before .before .before .before .before .before .before .before .before .before in
     let st = a .pre .0 .0 .stored in
-    let w = write-row (a .pre .0 .0) (a .pre .0 .1) (a .pre .0 .2) (a .args .k .0) (a .pre .1 .0 .0) (a .pre .1 .0 .1) (theRun a) (found a) _ (c .before .before .before .before .before .new-row .ensures _ (seg-length (a .pre .0 .0) (now (a .args .image))) (a .pre .0 .1 .is)) in
+    let w = write-row (a .pre .0 .0) (a .pre .0 .1) (a .pre .0 .2) (a .args .k .0) (a .pre .1 .0 .0) (a .pre .1 .0 .1) (theRun a) (found a) _ (c .before .before .before .before .before .new-row .ensures _ (seg-length (a .pre .0 .0) (now (a .args .image))) (a .pre .0 .1 .is) (a .pre .0 .1 .blanks)) in
     let e = part-again (a .args .m .blocks) (now (a .args .records)) _ (stored-records (measuresOf (a .args .m)) st) (a .args .k .0) (a .pre .1 .0 .0) (c .before .before .before .before .before .before .before .before .before .before .before .before .before .word .result) (c .before .before .before .before .before .before .before .before .before .before .before .before .row-words .result) (c .before .before .before .before .before .before .before .before .before .before .before .before .before .word .ensures) (c .before .before .before .before .before .before .before .before .before .before .before .before .row-words .ensures .0) (c .before .before .before .before .before .new-row .last .0) (w .0) in
     (st .measured .mostBlocks, rw e (w .0), rw e (w .1))
 
@@ -108,14 +108,14 @@ returns c =
     let a = c .before .before .before .before .before .before .before .before .before .before .before .before .before .before .before .before .before .before .before .before .before .before .before .before .before .before in
     let st = a .pre .0 .0 .stored in
     let image = now (a .args .image) in
-    let new = c .before .before .before .before .before .before .before .before .before .before .before .before .new-row .ensures _ (seg-length (a .pre .0 .0) image) (a .pre .0 .1 .is) in
+    let new = c .before .before .before .before .before .before .before .before .before .before .before .before .new-row .ensures _ (seg-length (a .pre .0 .0) image) (a .pre .0 .1 .is) (a .pre .0 .1 .blanks) in
     let w = write-row (a .pre .0 .0) (a .pre .0 .1) (a .pre .0 .2) (a .args .k .0) (a .pre .1 .0 .0) (a .pre .1 .0 .1) (theRun a) (found a) _ new in
     let e = part-again (a .args .m .blocks) (now (a .args .records)) _ (stored-records (measuresOf (a .args .m)) st) (a .args .k .0) (a .pre .1 .0 .0) (c .before .before .before .before .before .before .before .before .before .before .before .before .before .before .before .before .before .before .before .before .word .result) (c .before .before .before .before .before .before .before .before .before .before .before .before .before .before .before .before .before .before .before .row-words .result) (c .before .before .before .before .before .before .before .before .before .before .before .before .before .before .before .before .before .before .before .before .word .ensures) (c .before .before .before .before .before .before .before .before .before .before .before .before .before .before .before .before .before .before .before .row-words .ensures .0) (c .before .before .before .before .before .before .before .before .before .before .before .before .new-row .last .0) (w .0) in
     did-write (a .pre .0 .0) (a .pre .0 .1) (a .pre .0 .2) (a .args .k .0) (a .pre .1 .0 .0) (a .pre .1 .0 .1) (theRun a) (found a)
     (c .before .before .before .before .before .before .before .before .before .before .before .before .before .before .before .before .before .before .before .before .word .result) (c .before .before .before .before .before .before .before .before .before .before .before .before .before .before .before .before .before .before .before .row-words .result) (c .before .before .before .before .before .before .before .before .before .before .before .before .before .before .before .before .before .before .before .before .word .ensures) (c .before .before .before .before .before .before .before .before .before .before .before .before .before .before .before .before .before .before .before .row-words .ensures .0) _ _ _ _
     (omega (arith, c .before .before .before .before .before .before .before .before .before .before .before .before .before .before .before .before .copy-blocks .kept)) (c .before .before .before .before .before .before .before .before .before .before .before .before .before .before .before .before .copy-blocks .ensures) new
-    (c .before .before .before .before .before .before .take-row .ensures (newPositions (a .args .run .start .0) (blocksFrom (a .args .m .bytes) image (a .args .from) (a .args .m .blocks))) (new-sized (a .pre .0 .0) (a .pre .0 .1) (a .pre .0 .2) (a .args .k .0) (a .pre .1 .0 .0) (a .pre .1 .0 .1) (theRun a) (found a)) (e ∙ new))
-    (c .before .before .put-places .ensures _ (seg-room (a .pre .0 .0) image) (a .pre .0 .1 .is))
+    (c .before .before .before .before .before .before .take-row .ensures (newPositions withBlanks (a .args .run .start .0) (blocksFrom (a .args .m .bytes) image (a .args .from) (a .args .m .blocks))) (new-sized (a .pre .0 .0) (a .pre .0 .1) (a .pre .0 .2) (a .args .k .0) (a .pre .1 .0 .0) (a .pre .1 .0 .1) (theRun a) (found a)) (e ∙ new))
+    (c .before .before .put-places .ensures _ (seg-room (a .pre .0 .0) image) (a .pre .0 .1 .is) (a .pre .0 .1 .blanks))
 
 pub write-record-spec : {M : Type 1} → statement M
 write-record-spec =

@@ -44,10 +44,10 @@ same-length : tie.Need-same-length
 same-length c = search needs
 
 returns : tie.Need-returns
-returns c = λ seg e s.
+returns c = λ seg e s t.
     let a = c .before .before .before .before .before .before .before .before .before .before .before .before .before .args in
     let z : 3 + a .n - 3 ≡ a .n = omega arith in
-    rw z (new-row-all (a .n) (now (a .row)) _ _ _ _ (a .mask) (a .start .0) (omega arith) (c .before .before .before .before .before .before .before .before .before .before .put-masks .ensures) (rw z at (c .before .before .before .before .before .before .number .ensures)) refl (rw z at (c .before .before .put-bits .ensures)) seg e s)
+    rw z (new-row-all (a .n) (now (a .row)) _ _ _ _ (a .mask) (a .blank) (a .start .0) (omega arith) (c .before .before .before .before .before .before .before .before .before .before .put-masks .ensures) (rw z at (c .before .before .before .before .before .before .number .ensures)) refl (rw z at (c .before .before .put-bits .ensures)) seg e s t)
 
 pub new-row-spec : {M : Type 1} → statement M
 new-row-spec =

@@ -4,24 +4,23 @@ use mathlib.Core.Path.{_∙_, refl}
 use Prim.Native.Nat.{_+_, _-_, _<_, _≤_}
 use lib.ListN.{length}
 use denote.Ref.{now}
-use Rattle.lists.specs.Walk.{nextOne, outPick}
 use Rattle.lists.proofs.Walks.{Walked, walk-end, walk-start, walk-step}
 use Rattle.laws.proofs.RoundTrip.{direct-word}
-use Rattle.place_words.proofs.Rowing.{placed-words}
+use Rattle.place_words.proofs.Rowing.{nextPointer, outPointer, placed-words}
 use Rattle.place_words.proofs.put_places.Statement.{statement}
 use Rattle.place_words.proofs.put_places.Tie as tie
 
 abbrev Inv-loop : tie.InvT-loop
-Inv-loop words₀ mask m₀ at₀ i₀ words m at i = (at ≤ at₀ + i) × Walked outPick nextOne mask at₀ words₀ m at i words
+Inv-loop words₀ mask blank m₀ b₀ at₀ i₀ words m b at i = (at ≤ at₀ + i) × Walked outPointer nextPointer mask (at₀, blank) words₀ m (at, b) i words
 
 abbrev μ-loop : tie.MeasureT-loop
-μ-loop words₀ mask m₀ at₀ i₀ words m at i = length words₀ - i
+μ-loop words₀ mask blank m₀ b₀ at₀ i₀ words m b at i = length words₀ - i
 
 direct-requires : tie.Need-direct-requires Inv-loop μ-loop
 direct-requires c κs = search needs
 
 loop-holds : tie.Need-loop-holds Inv-loop μ-loop
-loop-holds c = (omega arith, walk-start outPick nextOne (c .before .before .args .mask) (c .direct .result .0) (now (c .before .before .args .words)))
+loop-holds c = (omega arith, walk-start outPointer nextPointer (c .before .before .args .mask) (c .direct .result .0, c .before .before .args .blank) (now (c .before .before .args .words)))
 
 pointer-if-requires : tie.Need-pointer-if-requires Inv-loop μ-loop
 pointer-if-requires c κs = search needs
@@ -45,15 +44,15 @@ loop-again : tie.Need-loop-again Inv-loop μ-loop
 loop-again c =
     let l = c .before .before .loop in
     let h : l .i < length (now (c .before .before .before .before .before .args .words)) = omega (arith, l .inv .1 .same) in
-    (omega arith, walk-step outPick nextOne (l .inv .1) 0 h (c .pointer-if .ensures) refl refl)
+    (omega arith, walk-step outPointer nextPointer (l .inv .1) 0 h (c .pointer-if .ensures) refl refl)
 
 same-length : tie.Need-same-length Inv-loop μ-loop
 same-length c = c .before .loop .inv .1 .same
 
 returns : tie.Need-returns Inv-loop μ-loop
-returns c = λ seg e s.
+returns c = λ seg e s t.
     let l = c .before .loop in
-    walk-end outPick nextOne (l .inv .1) (omega (arith, l .inv .1 .same)) ∙ placed-words (c .before .before .before .before .args .k .0) (c .before .before .direct .result .0) (c .before .before .before .before .args .mask) (now (c .before .before .before .before .args .words)) (c .before .before .direct .ensures) seg e s
+    walk-end outPointer nextPointer (l .inv .1) (omega (arith, l .inv .1 .same)) ∙ placed-words (c .before .before .before .before .args .k .0) (c .before .before .direct .result .0) (c .before .before .before .before .args .mask) (c .before .before .before .before .args .blank) (now (c .before .before .before .before .args .words)) (c .before .before .direct .ensures) seg e s t
 
 pub put-places-spec : {M : Type 1} → statement M
 put-places-spec =

@@ -16,6 +16,10 @@ shared-slice-read-in-use c = omega (arith, row-long _ _ (c .before .before .pre 
 shared-slice-read-in-use-2 : tie.Need-shared-slice-read-in-use-2
 shared-slice-read-in-use-2 c = omega (arith, row-long _ _ (c .before .before .before .pre .1))
 
+-- src/lib.rt:54:42
+shared-slice-read-in-use-3 : tie.Need-shared-slice-read-in-use-3
+shared-slice-read-in-use-3 c = omega (arith, row-long _ _ (c .before .before .before .before .pre .1))
+
 -- src/lib.rt:50:9
 in-use-requires : tie.Need-in-use-requires
 in-use-requires c κs = search needs
@@ -30,11 +34,11 @@ mul-add-all c = search needs
 
 -- src/lib.rt:52:26
 sub-add-all : tie.Need-sub-add-all
-sub-add-all c = omega (arith, row-long _ _ (c .before .before .before .before .pre .1))
+sub-add-all c = omega (arith, row-long _ _ (c .before .before .before .before .before .pre .1))
 
 -- src/lib.rt:52:26
 part-add-all-start : tie.Need-part-add-all-start
-part-add-all-start c = omega (arith, row-long _ _ (c .before .before .before .before .pre .1))
+part-add-all-start c = omega (arith, row-long _ _ (c .before .before .before .before .before .pre .1))
 
 -- src/lib.rt:52:26
 part-add-all-end : tie.Need-part-add-all-end
@@ -42,15 +46,15 @@ part-add-all-end c = search needs
 
 -- src/lib.rt:52:9
 add-all-requires : tie.Need-add-all-requires
-add-all-requires c κs = counts-few _ _ (c .before .before .before .before .before .pre .1)
+add-all-requires c κs = counts-few _ _ (c .before .before .before .before .before .before .pre .1)
 
 -- src/lib.rt:55:32
 shared-slice-read-t7 : tie.Need-shared-slice-read-t7
-shared-slice-read-t7 c = omega (arith, row-long _ _ (c .before .before .before .before .before .before .before .pre .1))
+shared-slice-read-t7 c = omega (arith, row-long _ _ (c .before .before .before .before .before .before .before .before .pre .1))
 
 -- src/lib.rt:46:1
 returns : tie.Need-returns
-returns c = row-counted _ _ (c .before .before .before .before .before .before .before .pre .1) _ _ (c .before .before .before .in-use .ensures) (c .before .add-all .ensures)
+returns c = row-counted _ _ (c .before .before .before .before .before .before .before .before .pre .1) _ _ (c .before .before .before .in-use .ensures) (c .before .add-all .ensures)
 
 pub tally-row-spec : {M : Type 1} → statement M
 tally-row-spec =
@@ -58,6 +62,7 @@ tally-row-spec =
     (tie.spec
     shared-slice-read-in-use
     shared-slice-read-in-use-2
+    shared-slice-read-in-use-3
     in-use-requires
     add-from
     mul-add-all

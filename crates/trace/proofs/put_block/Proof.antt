@@ -4,16 +4,17 @@ use Prim.Native.Nat.{ℕ, _+_, _*_, _≤_}
 use lib.ListN.{length}
 use Rattle.shelf.proofs.Changes.{fits-direct}
 use Rattle.shelf.proofs.Read.{stored-records}
-use Rattle.trace.proofs.Images.{cell-room, put-cell, put-zero}
+use Rattle.trace.proofs.Images.{cell-room, put-cell, put-filled}
 use borrow.Author.Needs.{needs}
 use Rattle.trace.proofs.put_block.Statement.{statement}
 use Rattle.trace.proofs.put_block.Tie as tie
 use Rattle.trace.proofs.put_block.Reads as reads
 use Rattle.trace.proofs.put_block.Lts as lts
-use Rattle.blocks.proofs.clear.Reads as clear-reads
+use Rattle.blocks.proofs.fill_with.Reads as fill-with-reads
 use Rattle.blocks.proofs.copy_in.Reads as copy-in-reads
 use Rattle.numbers.proofs.Cell.byte.Reads as byte-reads
 use Rattle.trace.proofs.cell_of.Reads as cell-of-reads
+use Rattle.trace.proofs.fill_byte.Reads as fill-byte-reads
 
 room : (c : tie.After-cell-of) → c .cell-of .result .0 * c .before .before .before .before .before .args .m .bytes + c .before .before .before .before .before .args .m .bytes ≤ length (c .before .before .before .before .before .args .pool .now)
 room c =
@@ -60,9 +61,13 @@ returns : tie.Need-returns
 returns c = let a = c .before .before .before .before .before .before .before .before .before .before .before in
     put-cell _ _ _ (a .pre .0) (a .args .pointer) _ _ _ (a .args .part .now) _ (c .before .before .before .before .before .before .before .if1 .taken) (a .pre .1 .0) refl (a .pre .1 .1) (c .before .before .before .before .before .before .cell-of .ensures) (c .before .before .before .before .before .byte .ensures) (c .before .before .copy-in .ensures)
 
--- src/lib.rt:70:5
-clear-requires : tie.Need-clear-requires
-clear-requires c κs = search needs
+-- src/lib.rt:80:29
+fill-byte-requires : tie.Need-fill-byte-requires
+fill-byte-requires c κs = search needs
+
+-- src/lib.rt:80:5
+fill-with-requires : tie.Need-fill-with-requires
+fill-with-requires c κs = search needs
 
 -- src/lib.rt:57:1
 same-length-2 : tie.Need-same-length-2
@@ -70,7 +75,9 @@ same-length-2 c = search needs
 
 -- src/lib.rt:57:1
 returns-2 : tie.Need-returns-2
-returns-2 c = let a = c .before .before .before .before .before .before .before .before in put-zero _ _ _ (a .pre .0) (a .args .pointer) (a .args .part .now) _ (c .before .before .before .before .if1 .left) (a .pre .1 .1) (c .before .before .clear .ensures)
+returns-2 c =
+    let a = c .before .before .before .before .before .before .before .before .before in
+    put-filled _ _ _ (a .pre .0) (a .args .pointer) (c .before .before .before .fill-byte .result) (a .args .part .now) _ (c .before .before .before .before .before .if1 .left) (a .pre .1 .1) (c .before .before .before .fill-byte .ensures) (c .before .before .fill-with .ensures)
 
 pub put-block-spec : {M : Type 1} → statement M
 put-block-spec =
@@ -85,6 +92,7 @@ put-block-spec =
     copy-in-requires
     same-length
     returns
-    clear-requires
+    fill-byte-requires
+    fill-with-requires
     same-length-2
     returns-2)

@@ -1,6 +1,7 @@
 use native.Mathlib.Omega.{arith}
 use borrow.Author.Needs.{needs}
 use mathlib.Core.Path.{_≡_, _∙_, sym, refl, ap}
+use mathlib.Core.Option.{Option}
 use Prim.Native.Nat.{ℕ, _+_, _*_, _-_, _<_, _≤_}
 use native.Mathlib.Nat.{suc-mul}
 use denote.Ref.{now}
@@ -8,6 +9,7 @@ use lib.ListN.{length}
 use Rattle.lists.specs.Lists.{firstFrom, sameNumbers}
 use Rattle.model.specs.Image.{blocksFrom, imageBlocks}
 use Rattle.model.specs.Measures.{partsFor}
+use Rattle.model.specs.Turn.{indirectAt}
 use Rattle.turn.specs.Turn.{targetWord}
 use Rattle.turn.proofs.Turning.{begins-in, find-yes, find-no, find-end, find-start, next-at}
 use Rattle.turn.proofs.find_block.Statement.{statement}
@@ -16,6 +18,7 @@ use Rattle.turn.proofs.find_block.Reads as reads
 use Rattle.turn.proofs.find_block.Lts as lts
 use Rattle.turn.proofs.block_here.Reads as block-here-reads
 use Rattle.numbers.proofs.parts_for.Reads as parts-for-reads
+use Rattle.numbers.proofs.Pointer.indirect.Reads as indirect-reads
 
 abbrev Inv-loop : tie.InvT-loop
 Inv-loop image cell bytes count at₀ n₀ at n = (n ≤ count) × (count ≡ partsFor bytes (length image)) × (at ≡ n * bytes) × (firstFrom (sameNumbers cell) n (blocksFrom bytes image at (count - n)) ≡ firstFrom (sameNumbers cell) 0 (imageBlocks bytes image))
@@ -40,13 +43,27 @@ block-here-requires c κs =
     let b = begins-in (a .args .bytes) (l .n) (length (now (a .args .image))) (omega (arith, p .2)) (omega (arith, l .inv .1, c .loop-test .taken)) in
     (omega (arith, l .inv .2, b), omega (arith, p .0, l .inv .2, b), p .1, p .2, p .3, p .4)
 
--- src/lib.rt:31:20
-cast-result : tie.Need-cast-result Inv-loop μ-loop
-cast-result c = let p = c .before .before .before .before .before .before .before .pre in let l = c .before .before .before .loop in omega (arith, p .0, p .2, l .inv .2, next-at (c .before .before .before .before .before .before .before .args .bytes) (l .n) (omega (arith, p .2)), begins-in (c .before .before .before .before .before .before .before .args .bytes) (l .n) (length (now (c .before .before .before .before .before .before .before .args .image))) (omega (arith, p .2)) (omega (arith, l .inv .1, c .before .before .loop-test .taken)))
+-- the block's number is small
+few : (c : tie.Then1 Inv-loop μ-loop) → c .before .before .before .loop .n ≤ 65536
+few c =
+    let a = c .before .before .before .before .before .before .before in
+    let p = a .pre in
+    let l = c .before .before .before .loop in
+    omega (arith, p .0, p .2, l .inv .2, next-at (a .args .bytes) (l .n) (omega (arith, p .2)), begins-in (a .args .bytes) (l .n) (length (now (a .args .image))) (omega (arith, p .2)) (omega (arith, l .inv .1, c .before .before .loop-test .taken)))
 
--- src/lib.rt:31:13
+cast-t11 : tie.Need-cast-t11 Inv-loop μ-loop
+cast-t11 c = omega (arith, few c)
+
+indirect-requires : tie.Need-indirect-requires Inv-loop μ-loop
+indirect-requires c κs = few c
+
 returns : tie.Need-returns Inv-loop μ-loop
-returns c = let l = c .before .before .before .loop in let a = c .before .before .before .before .before .before .before .args in find-yes (a .bytes) (sameNumbers (now (a .cell))) (now (a .image)) _ (l .at) (l .n) (c .before .before .loop-test .taken) (sym (c .if1 .taken) ∙ c .before .block-here .ensures) ∙ ap targetWord (l .inv .3)
+returns c =
+    let l = c .before .before .before .before .loop in
+    let a = c .before .before .before .before .before .before .before .before .args in
+    c .indirect .ensures
+    ∙ find-yes (a .bytes) (sameNumbers (now (a .cell))) (now (a .image)) _ (l .at) (l .n) (c .before .before .before .loop-test .taken) (sym (c .before .if1 .taken) ∙ c .before .before .block-here .ensures)
+    ∙ ap (λ (o : Option ℕ). targetWord (indirectAt o)) (l .inv .3)
 
 -- src/lib.rt:33:14
 add-at : tie.Need-add-at Inv-loop μ-loop
@@ -66,7 +83,7 @@ loop-again c = let l = c .before .before .before .loop in let a = c .before .bef
 
 -- src/lib.rt:22:1
 returns-2 : tie.Need-returns-2 Inv-loop μ-loop
-returns-2 c = let l = c .before .loop in let a = c .before .before .before .before .before .args in find-end (a .bytes) (sameNumbers (now (a .cell))) (now (a .image)) (c .before .before .parts-for .result) (l .at) (l .n) (omega arith) ∙ ap targetWord (l .inv .3)
+returns-2 c = let l = c .before .loop in let a = c .before .before .before .before .before .args in find-end (a .bytes) (sameNumbers (now (a .cell))) (now (a .image)) (c .before .before .parts-for .result) (l .at) (l .n) (omega arith) ∙ ap (λ (o : Option ℕ). targetWord (indirectAt o)) (l .inv .3)
 
 pub find-block-spec : {M : Type 1} → statement M
 find-block-spec =
@@ -77,7 +94,8 @@ find-block-spec =
     parts-for-requires
     loop-holds
     block-here-requires
-    cast-result
+    cast-t11
+    indirect-requires
     returns
     add-at
     add-n

@@ -12,7 +12,7 @@ use Rattle.turn.proofs.target_of.Reads as reads
 use Rattle.turn.proofs.target_of.Lts as lts
 use Rattle.numbers.proofs.Cell.byte.Reads as byte-reads
 use Rattle.trace.proofs.cell_of.Reads as cell-of-reads
-use Rattle.turn.proofs.find_block.Reads as find-block-reads
+use Rattle.turn.proofs.turned_to.Reads as turned-to-reads
 
 -- src/lib.rt:45:9
 returns : tie.Need-returns
@@ -31,24 +31,24 @@ add-end : tie.Need-add-end
 add-end c = let a = c .before .before .before .before .before .before .before in omega (arith, a .pre .1 .measured .mostBytes, a .pre .1 .few, c .before .byte .ensures, cell-fits (measuresOf (a .args .m)) (now (a .args .image)) (now (a .args .pool)) (now (a .args .records)) (a .pre .1) (a .args .word) (omega (arith, c .before .before .before .if1 .left)) _ (c .before .before .cell-of .ensures))
 
 -- src/lib.rt:51:23
-sub-find-block : tie.Need-sub-find-block
-sub-find-block c = search needs
+sub-turned-to : tie.Need-sub-turned-to
+sub-turned-to c = search needs
 
 -- src/lib.rt:51:23
-part-find-block-start : tie.Need-part-find-block-start
-part-find-block-start c = search needs
+part-turned-to-start : tie.Need-part-turned-to-start
+part-turned-to-start c = search needs
 
 -- src/lib.rt:51:23
-part-find-block-end : tie.Need-part-find-block-end
-part-find-block-end c = let a = c .before .before .before .before .before .before .before in omega (arith, c .before .byte .ensures, cell-fits (measuresOf (a .args .m)) (now (a .args .image)) (now (a .args .pool)) (now (a .args .records)) (a .pre .1) (a .args .word) (omega (arith, c .before .before .before .if1 .left)) _ (c .before .before .cell-of .ensures))
+part-turned-to-end : tie.Need-part-turned-to-end
+part-turned-to-end c = let a = c .before .before .before .before .before .before .before in omega (arith, c .before .byte .ensures, cell-fits (measuresOf (a .args .m)) (now (a .args .image)) (now (a .args .pool)) (now (a .args .records)) (a .pre .1) (a .args .word) (omega (arith, c .before .before .before .if1 .left)) _ (c .before .before .cell-of .ensures))
 
 -- src/lib.rt:51:5
-find-block-requires : tie.Need-find-block-requires
-find-block-requires c κs = search needs
+turned-to-requires : tie.Need-turned-to-requires
+turned-to-requires c κs = search needs
 
 -- src/lib.rt:40:1
 returns-2 : tie.Need-returns-2
-returns-2 c = let a = c .before .before .before .before .before .before .before .before .before in target-is (measuresOf (a .args .m)) (now (a .args .image)) (now (a .args .pool)) (now (a .args .records)) (a .pre .1) (a .args .word) (omega (arith, c .before .before .before .before .before .if1 .left)) _ (c .before .before .before .before .cell-of .ensures) _ _ (c .before .before .before .byte .ensures) (c .find-block .ensures)
+returns-2 c = let a = c .before .before .before .before .before .before .before .before .before in target-is (measuresOf (a .args .m)) (now (a .args .image)) (now (a .args .pool)) (now (a .args .records)) (a .pre .1) (a .args .word) (omega (arith, c .before .before .before .before .before .if1 .left)) _ (c .before .before .before .before .cell-of .ensures) _ _ (c .before .before .before .byte .ensures) (c .turned-to .ensures)
 
 pub target-of-spec : {M : Type 1} → statement M
 target-of-spec =
@@ -58,8 +58,8 @@ target-of-spec =
     cell-of-requires
     byte-requires
     add-end
-    sub-find-block
-    part-find-block-start
-    part-find-block-end
-    find-block-requires
+    sub-turned-to
+    part-turned-to-start
+    part-turned-to-end
+    turned-to-requires
     returns-2)

@@ -7,7 +7,7 @@ use denote.Ref.{now}
 use Rattle.lists.specs.Over.{over}
 use Rattle.numbers.specs.Measures.{measuresOf}
 use Rattle.turn.specs.Turn.{releasedOf, targetOf, turnWord}
-use Rattle.turn.proofs.Turning.{released-all, target-ok, targets-ok, turned-all}
+use Rattle.turn.proofs.Turning.{released-all, turned-all}
 use Rattle.turn.proofs.turn_pointers.Statement.{statement}
 use Rattle.turn.proofs.turn_pointers.Tie as tie
 
@@ -18,14 +18,7 @@ list-released-requires : tie.Need-list-released-requires
 list-released-requires c κs = search needs
 
 turn-words-requires : tie.Need-turn-words-requires
-turn-words-requires c κs =
-    let a = c .before .before .before .before .before .before .before .before .before .before .before .before .before .before .before .before .before .before .before in
-    let m = measuresOf (a .args .m) in
-    let some : 0 < m .blockBytes = omega (arith, a .pre .1 .measured .someBytes) in
-    let image = now (a .args .image) in
-    let pool = now (a .args .pool) in
-    let ws = now (a .args .records) in
-    (omega arith, λ b h. targets-ok (targetOf m image pool ws) (target-ok m some image pool ws (a .pre .0)) (now (a .args .pointers)) _ (c .before .before .before .before .before .before .before .before .before .before .find-targets .ensures) b h)
+turn-words-requires c κs = search needs
 
 same-length : tie.Need-same-length
 same-length c = search needs

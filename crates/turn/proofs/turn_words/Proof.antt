@@ -34,7 +34,7 @@ shared-slice-read-turned-word : tie.Need-shared-slice-read-turned-word Inv-loop 
 shared-slice-read-turned-word c = search needs
 
 turned-word-requires : tie.Need-turned-word-requires Inv-loop μ-loop
-turned-word-requires c κs = c .before .before .before .before .before .before .pre .1 (c .before .before .before .loop .b) (omega arith)
+turned-word-requires c κs = search needs
 
 mul-pointers : tie.Need-mul-pointers Inv-loop μ-loop
 mul-pointers c = search needs

@@ -19,8 +19,8 @@ pub static COMMAND: Command = Command {
     help: "
 Of all tills, or of one. For each version, the oldest first: its number and bytes; the longest chain,
 which is the most versions that a restore goes through for a block; and how many of its blocks lie in
-the pool for it (direct), are borrowed from the next newer version held (indirect), or are all zero
-(null). Numbers of versions that were retired are left out; they are not given again.
+the pool for it (direct), are borrowed from the next newer version held (indirect), are all zero (null),
+or all 255 (blank). Numbers of versions that were retired are left out; they are not given again.
 ",
     run,
 };
@@ -70,15 +70,19 @@ fn text(tills: &[Till]) -> String {
             _ => text.push_str(&format!("till {number}: {held}; the last was {last}\n")),
         }
         if !versions.is_empty() {
-            text.push_str("  version   bytes  longest chain  direct  indirect  null\n");
+            text.push_str("  version   bytes  longest chain  direct  indirect  null  blank\n");
         }
         for version in versions {
-            let Version { number, bytes, direct, indirect, null, .. } = version;
-            let chain = version.chain();
-            text.push_str(&format!("  {number:>7}  {bytes:>6}  {chain:>13}  {direct:>6}  {indirect:>8}  {null:>4}\n"));
+            text.push_str(&line(version));
         }
     }
     text
+}
+
+fn line(version: &Version) -> String {
+    let Version { number, bytes, direct, indirect, null, blank, .. } = version;
+    let chain = version.chain();
+    format!("  {number:>7}  {bytes:>6}  {chain:>13}  {direct:>6}  {indirect:>8}  {null:>4}  {blank:>5}\n")
 }
 
 fn fields(till: &Till) -> Json {
@@ -100,5 +104,6 @@ fn version_fields(version: &Version) -> Json {
         ("direct", version.direct.into()),
         ("indirect", version.indirect.into()),
         ("null", version.null.into()),
+        ("blank", version.blank.into()),
     ])
 }

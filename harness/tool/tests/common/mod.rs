@@ -145,9 +145,14 @@ impl Run {
     }
 }
 
-/// An image of blocks, each filled with a letter; a dot is a block of zeros.
+/// An image of blocks, each filled with a letter; a dot is a block of zeros, a hash one of 255s.
 pub fn letters(text: &str) -> Vec<u8> {
-    text.bytes().flat_map(|letter| [if letter == b'.' { 0 } else { letter }; 64]).collect()
+    let byte = |letter| match letter {
+        b'.' => 0,
+        b'#' => 255,
+        letter => letter,
+    };
+    text.bytes().flat_map(|letter| [byte(letter); 64]).collect()
 }
 
 /// A store's file by docs/FORMAT.md, from its parts.

@@ -1,7 +1,8 @@
 //! Random lists of calls for as long as wanted: `play --seed N --calls M`, `--full` for stores of the largest
-//! capacities. It stops at the first difference between the proved store, the twin and the keeper.
+//! capacities. Some lists have backups from before blank blocks were known. It stops at the first difference between
+//! the proved store, the twin and the keeper.
 
-use keeper::calls::Style;
+use keeper::calls::{Before, Style};
 use keeper::events::Events;
 use keeper::Random;
 use std::collections::{BTreeMap, BTreeSet};
@@ -45,9 +46,10 @@ fn play(wish: Wish) {
         let (capacities, style) = history::small(&mut random);
         let full = (Capacities::largest(capacities.measures()), Style { kinds: random.between(20, 2_000), ..style });
         let (capacities, style) = if wish.full { full } else { (capacities, style) };
-        let seed = random.number();
-        println!("store {stores}: {:?}, {style:?}, seed {seed}", capacities.to_array());
-        let course = history::run(seed, capacities, style, (wish.calls - made).min(2_000), 100);
+        let before = *random.pick(&[Before::Never, Before::FirstThird, Before::Half, Before::Stretches]);
+        let (seed, calls) = (random.number(), (wish.calls - made).min(2_000));
+        println!("store {stores}: {:?}, {style:?}, before: {before:?}, seed {seed}", capacities.to_array());
+        let course = history::run_from_before(seed, capacities, style, (calls, 100), before);
         made += course.made;
         stores += 1;
         events += course.events;

@@ -6,7 +6,7 @@ use Rattle.records.proofs.Record.free.Tie as tie
 
 returns : tie.Need-returns
 unfolding fill
-returns c = free-record _ _ refl refl refl refl refl
+returns c = free-record _ _ refl refl refl refl refl refl
 
 pub free-spec : {M : Type 1} → statement M
 free-spec = tie.close (tie.spec returns)

@@ -14,6 +14,7 @@ Inv-loop self₀ left₀ at₀ self left at =
     × (at + ones left ≤ 65552)
     × (self .held ≡ self₀ .held)
     × (self .removed ≡ self₀ .removed)
+    × (self .blank ≡ self₀ .blank)
     × (self .used ≡ self₀ .used)
     × (renumbered left at (self .cells) ≡ renumbered left₀ at₀ (self₀ .cells))
     × (self .counts ≡ self₀ .counts)
@@ -31,7 +32,7 @@ power : (c : tie.In-loop Inv-loop μ-loop) → 1 * 2 ^ trailingZeros 32 (c .befo
 power c = one-shl _ 32 (omega (arith, small c))
 
 loop-holds : tie.Need-loop-holds Inv-loop μ-loop
-loop-holds c = (held-small _ (c .pre .0), omega (arith, ones-le 16 (c .args .t1 .held) (held-small _ (c .pre .0))), refl, refl, refl, refl, refl)
+loop-holds c = (held-small _ (c .pre .0), omega (arith, ones-le 16 (c .args .t1 .held) (held-small _ (c .pre .0))), refl, refl, refl, refl, refl, refl)
 
 cast-i : tie.Need-cast-i Inv-loop μ-loop
 cast-i c = omega (arith, small c)
@@ -58,14 +59,14 @@ loop-again : tie.Need-loop-again Inv-loop μ-loop
 loop-again c =
     let i = c .before .loop .inv in
     rw (power c)
-    (omega arith, omega (arith, first-ones (bit c)), i .2, i .3, i .4, sym (first-renumbered _ _ (bit c)) ∙ i .5, i .6)
+    (omega arith, omega (arith, first-ones (bit c)), i .2, i .3, i .4, i .5, sym (first-renumbered _ _ (bit c)) ∙ i .6, i .7)
 
 returns : tie.Need-returns Inv-loop μ-loop
 returns c =
     let i = c .before .loop .inv in
     let s = c .before .before in
     let e : c .before .loop .left ≡ 0 = c .loop-test .left in
-    moved-of _ _ (s .pre .0) (s .pre .1 .0) _ (i .2) (i .3) (i .4) (sym (renumbered-none (c .before .loop .at) _) ∙ (rw e at (i .5))) (i .6)
+    moved-of _ _ (s .pre .0) (s .pre .1 .0) _ (i .2) (i .3) (i .4) (i .5) (sym (renumbered-none (c .before .loop .at) _) ∙ (rw e at (i .6))) (i .7)
 
 pub renumber-spec : {M : Type 1} → statement M
 renumber-spec =

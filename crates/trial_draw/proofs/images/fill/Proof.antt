@@ -1,9 +1,10 @@
 use native.Mathlib.Omega.{arith}
 use borrow.Author.Needs.{needs}
 use Prim.Native.Nat.{ℕ, _≤_, _<_, _-_}
-use native.Mathlib.Nat.{not-suc-le-zero, le-trans}
+use native.Mathlib.Nat.{not-suc-le-zero}
 use Rattle.trial_draw.proofs.Written.{written-more}
 use mathlib.Core.Path.{_≡_}
+use mathlib.Core.Logic.{_⊎_}
 use lib.ListN.{length, getD, length-set}
 use Rattle.trial_draw.proofs.images.fill.Statement.{statement}
 use Rattle.trial_draw.proofs.images.fill.Tie as tie
@@ -13,7 +14,7 @@ use Rattle.trial_draw.proofs.images.byte_of.Reads as byte-of-reads
 use Rattle.trial_draw.proofs.images.letter_at.Reads as letter-at-reads
 
 abbrev Inv-loop : tie.InvT-loop
-Inv-loop image₀ p i₀ image i = (i ≤ length image) × (length image ≡ length image₀) × ((k : ℕ) → k < i → p .letter ≤ 8 → getD image k 0 ≤ 8)
+Inv-loop image₀ p i₀ image i = (i ≤ length image) × (length image ≡ length image₀) × ((k : ℕ) → k < i → p .letter ≤ 9 → (getD image k 0 ≤ 8) ⊎ (getD image k 0 ≡ 255))
 
 abbrev μ-loop : tie.MeasureT-loop
 μ-loop image₀ p i₀ image i = length image₀ - i
@@ -47,8 +48,8 @@ loop-again : tie.Need-loop-again Inv-loop μ-loop
 loop-again c = (
   simp length-set (omega arith),
   simp length-set (omega arith),
-  written-more (λ k b. c .before .before .before .before .before .args .p .letter ≤ 8 → b ≤ 8) (c .before .before .before .loop .image) (c .before .before .before .loop .i) (c .byte-of .result) (omega arith) (c .before .before .before .loop .inv .2)
-      (λ h. le-trans (c .byte-of .ensures) (c .before .letter-at .ensures h)),
+  written-more (λ k b. c .before .before .before .before .before .args .p .letter ≤ 9 → (b ≤ 8) ⊎ (b ≡ 255)) (c .before .before .before .loop .image) (c .before .before .before .loop .i) (c .byte-of .result) (omega arith) (c .before .before .before .loop .inv .2)
+      (λ h. c .byte-of .ensures (c .before .letter-at .ensures h)),
 )
 
 -- src/images.rt:49:1

@@ -7,20 +7,20 @@ use denote.Ref.{now}
 use lib.ListN.{length, getD, take, drop, replicate, length-set, length-append, length-replicate, length-drop}
 use borrow.Author.Fill.{fill-none, fill-more}
 use Rattle.lists.proofs.Copies.{clear-all}
-use Rattle.blocks.proofs.clear.Statement.{statement}
-use Rattle.blocks.proofs.clear.Tie as tie
-use Rattle.blocks.proofs.clear.Reads as reads
-use Rattle.blocks.proofs.clear.Lts as lts
+use Rattle.blocks.proofs.fill_with.Statement.{statement}
+use Rattle.blocks.proofs.fill_with.Tie as tie
+use Rattle.blocks.proofs.fill_with.Reads as reads
+use Rattle.blocks.proofs.fill_with.Lts as lts
 
 abbrev Inv-loop : tie.InvT-loop
-Inv-loop part₀ i₀ part i = (i ≤ length part₀) × (length part ≡ length part₀) × (part ≡ replicate i 0 ++ drop i part₀)
+Inv-loop part₀ byte i₀ part i = (i ≤ length part₀) × (length part ≡ length part₀) × (part ≡ replicate i byte ++ drop i part₀)
 
 abbrev μ-loop : tie.MeasureT-loop
-μ-loop part₀ i₀ part i = length part₀ - i
+μ-loop part₀ byte i₀ part i = length part₀ - i
 
 -- src/lib.rt:63:5
 loop-holds : tie.Need-loop-holds Inv-loop μ-loop
-loop-holds c = (search needs, refl, fill-none _ 0)
+loop-holds c = (search needs, refl, fill-none _ (c .args .byte))
 
 -- src/lib.rt:64:9
 slice-write-part : tie.Need-slice-write-part Inv-loop μ-loop
@@ -38,7 +38,7 @@ loop-less c = search needs
 loop-again : tie.Need-loop-again Inv-loop μ-loop
 loop-again c =
     let h = c .before in
-    (omega arith, simp length-set (h .loop .inv .1), rw (h .loop .inv .2) (fill-more (h .loop .i) 0 (now (h .before .args .part)) (omega arith)))
+    (omega arith, simp length-set (h .loop .inv .1), rw (h .loop .inv .2) (fill-more (h .loop .i) (h .before .args .byte) (now (h .before .args .part)) (omega arith)))
 
 -- src/lib.rt:59:1
 same-length : tie.Need-same-length Inv-loop μ-loop
@@ -48,10 +48,10 @@ same-length c = search needs
 returns : tie.Need-returns Inv-loop μ-loop
 returns c =
     let h = c .before in
-    h .loop .inv .2 ∙ clear-all 0 (now (h .before .args .part)) (h .loop .i) (omega arith)
+    h .loop .inv .2 ∙ clear-all (h .before .args .byte) (now (h .before .args .part)) (h .loop .i) (omega arith)
 
-pub clear-spec : {M : Type 1} → statement M
-clear-spec =
+pub fill-with-spec : {M : Type 1} → statement M
+fill-with-spec =
     tie.close
     (tie.spec
     Inv-loop

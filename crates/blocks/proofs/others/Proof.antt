@@ -6,22 +6,22 @@ use mathlib.Core.Logic.{⊎-elim}
 use borrow.Author.Tests.{eq-eqb, ne-eqb}
 use lib.Dec.{eqb}
 use lib.ListN.{length, getD, take, drop}
-use Rattle.lists.specs.Lists.{every, allZero}
-use Rattle.blocks.proofs.Pieces.{count-hit, count-miss, zero-more}
-use Rattle.blocks.proofs.nonzero.Statement.{statement}
-use Rattle.blocks.proofs.nonzero.Tie as tie
-use Rattle.blocks.proofs.nonzero.Reads as reads
-use Rattle.blocks.proofs.nonzero.Lts as lts
+use Rattle.lists.specs.Lists.{every}
+use Rattle.blocks.proofs.Pieces.{count-hit, count-miss, filled-more}
+use Rattle.blocks.proofs.others.Statement.{statement}
+use Rattle.blocks.proofs.others.Tie as tie
+use Rattle.blocks.proofs.others.Reads as reads
+use Rattle.blocks.proofs.others.Lts as lts
 
 abbrev Inv-loop : tie.InvT-loop
-Inv-loop part at n count₀ i₀ count i = (i ≤ n) × (count ≤ i) × (eqb count 0 ≡ allZero (take i (drop at part)))
+Inv-loop part at n byte count₀ i₀ count i = (i ≤ n) × (count ≤ i) × (eqb count 0 ≡ every (λ x. eqb x byte) (take i (drop at part)))
 
 abbrev μ-loop : tie.MeasureT-loop
-μ-loop part at n count₀ i₀ count i = n - i
+μ-loop part at n byte count₀ i₀ count i = n - i
 
 -- src/lib.rt:25:5
 loop-holds : tie.Need-loop-holds Inv-loop μ-loop
-unfolding allZero every
+unfolding every
 loop-holds c = (omega arith, omega arith, refl)
 
 -- src/lib.rt:26:17
@@ -49,7 +49,7 @@ loop-again : tie.Need-loop-again Inv-loop μ-loop
 loop-again c =
     let h = c .before .before .before in
     let a = h .before .args in
-    let more = sym (zero-more (a .part .now) (a .at) (h .loop .i) (omega arith)) in
+    let more = sym (filled-more (a .byte) (a .part .now) (a .at) (h .loop .i) (omega arith)) in
     ⊎-elim
     (λ w. (omega arith, omega arith, rw (w .1) (count-hit (h .loop .count) _ _ (h .loop .inv .2) (ne-eqb _ _ (w .0 .taken)) ∙ more)))
     (λ w. (omega arith, omega arith, rw (w .1) (count-miss (h .loop .count) _ _ (h .loop .inv .2) (eq-eqb _ _ (w .0 .left)) ∙ more)))
@@ -61,8 +61,8 @@ returns c =
     let t : c .before .loop .i ≡ c .before .before .args .n = omega arith in
     rw t at (c .before .loop .inv .2)
 
-pub nonzero-spec : {M : Type 1} → statement M
-nonzero-spec =
+pub others-spec : {M : Type 1} → statement M
+others-spec =
     tie.close
     (tie.spec
     Inv-loop
