@@ -4,10 +4,10 @@
  * A store lives in two buffers that the caller lends: the pool, bytes, and the
  * table, 32-bit words in the machine's order. Nothing else is kept between
  * calls, nothing is allocated, and no call reads or writes past the lengths
- * given. A buffer's length counts its elements: bytes of a pool, image or
- * output, words of a table. A buffer of length 0 needs a pointer that is not
- * null. The pool, the table, the image and the output of one call must not
- * overlap. A call needs less than 512 KiB of stack.
+ * given. A buffer's length counts its elements: bytes of a pool, image, stream
+ * or output, words of a table. A buffer of length 0 needs a pointer that is not
+ * null. The pool, the table, the image, the stream and the output of one call
+ * must not overlap. A call needs less than 512 KiB of stack.
  *
  * Every answer begins with a refusal. 0 is an accepted call. A refused call
  * answers 0 in every other field and alters no buffer; a refused turn record
@@ -17,13 +17,18 @@
  *    2  lay out: pool or table of another length than needed
  *    3  till number not below the tills
  *    4  image empty, or longer than block_bytes * blocks per image
- *    5  output shorter than the version
+ *    5  output shorter than the version; than the stream that a version is
+ *       written as, or the image that a stream is read as
  *   10  pool and table are not a sound store
  *   11  the till holds its full number of versions
  *   12  its last given number is 65,535
  *   14  a segment to be placed finds no free record
  *   15  that version is not held
  *   16  a segment to be placed finds no run
+ *   24  a stream too short or too long
+ *   25  a stream with a length of 0 or above 65,536
+ *   26  a stream with a bit on a null or missing block, or a byte other than
+ *       zero after the length
  *   27  a till count outside 1 to 16, a mark at or above it, or a last till at
  *       or above it
  *
@@ -55,7 +60,14 @@ extern "C" {
 #define LURDEMPOS_NO_FREE_RECORD 14
 #define LURDEMPOS_NOT_HELD 15
 #define LURDEMPOS_NO_RUN 16
+#define LURDEMPOS_STREAM_SIZE 24
+#define LURDEMPOS_STREAM_LENGTH 25
+#define LURDEMPOS_STREAM_BITS 26
 #define LURDEMPOS_NO_TURN 27
+
+/* The bytes that the longest stream has: that of an image of 65,536 bytes
+ * without a block of zeros. */
+#define LURDEMPOS_LONGEST_STREAM 65668
 
 /* The words that a table of these capacities has. */
 struct lurdempos_table_length_answer {
@@ -102,6 +114,18 @@ struct lurdempos_tally_answer {
     uint32_t cells;
     uint32_t records;
     uint32_t counts;
+};
+
+/* The stream's length in bytes. */
+struct lurdempos_write_stream_answer {
+    uint32_t refusal;
+    uint32_t length;
+};
+
+/* The image's length in bytes. */
+struct lurdempos_read_stream_answer {
+    uint32_t refusal;
+    uint32_t length;
 };
 
 /* A turn record: the tills present, 1 to 16; the mask of those waiting, bit t
@@ -184,6 +208,27 @@ struct lurdempos_listing_answer lurdempos_listing(
 struct lurdempos_tally_answer lurdempos_tally(
     const uint8_t *pool, size_t pool_bytes, const uint32_t *table,
     size_t table_words);
+
+/* Writes the version to the front of the output as a stream, for another box;
+ * later bytes stay. A stream is the image's length in four bytes, lowest first,
+ * then for each eight blocks of 64 bytes a bit map byte, bit 0 for the first of
+ * them, and only the blocks whose bit stands. Blocks of zeros have no bit,
+ * missing blocks of the last eight neither. It does not depend on the store's
+ * block_bytes and segment_blocks. It has at most LURDEMPOS_LONGEST_STREAM bytes.
+ * Refusals: 10, 3, 15, 5. */
+struct lurdempos_write_stream_answer lurdempos_write_stream(
+    const uint8_t *pool, size_t pool_bytes, const uint32_t *table,
+    size_t table_words, uint32_t till, uint32_t version, uint8_t *output,
+    size_t output_bytes);
+
+/* Reads a stream, whole and nothing else; its image goes to the front of the
+ * output, later bytes stay. It needs no store.
+ * Refusals: 24 for a stream without a length, 25, 5, then the first of 24 and
+ * 26 that is met in the stream's order, where a block cut short is 24 whatever
+ * its bytes, and last 24 for bytes behind the stream's end. */
+struct lurdempos_read_stream_answer lurdempos_read_stream(
+    const uint8_t *stream, size_t stream_bytes, uint8_t *output,
+    size_t output_bytes);
 
 /* A turn of tills that wait for one line; it has nothing to do with a store.
  * Serves the first waiting till after the last one, round the circle, if one

@@ -1,6 +1,6 @@
 /*
- * A first image kept and restored, and two turns on the line, from C (and,
- * since it compiles as both, from C++). Prints what the calls answer; ends with status 1 at the first
+ * A first image kept and restored, moved as a stream, and two turns on the
+ * line, from C (and, since it compiles as both, from C++). Prints what the calls answer; ends with status 1 at the first
  * answer that is not as expected.
  */
 #include "lurdempos.h"
@@ -55,6 +55,29 @@ static int turns(void)
         && result.turn.last == 2;
 }
 
+/* Till 1's version 1, 500 letters, as a stream: the length, a map of eight
+ * blocks of 64 bytes, whatever the store's, and these blocks. It is read back,
+ * and refused where it is cut. */
+static int moved(size_t words, const uint8_t *image, uint32_t length)
+{
+    static uint8_t stream[LURDEMPOS_LONGEST_STREAM], output[512];
+    struct lurdempos_write_stream_answer wrote = lurdempos_write_stream(
+        pool, sizeof pool, table, words, 1, 1, stream, sizeof stream);
+    struct lurdempos_read_stream_answer read;
+
+    if (!expect("write stream", wrote.refusal, LURDEMPOS_ACCEPTED)
+        || wrote.length != 4 + 1 + 8 * 64 || stream[0] != length % 256
+        || stream[1] != length / 256 || stream[4] != 255)
+        return 0;
+    read = lurdempos_read_stream(stream, wrote.length, output, sizeof output);
+    if (!expect("read stream", read.refusal, LURDEMPOS_ACCEPTED)
+        || read.length != length || memcmp(image, output, length) != 0)
+        return 0;
+    read = lurdempos_read_stream(stream, 100, output, sizeof output);
+    return expect("read stream, cut short", read.refusal, LURDEMPOS_STREAM_SIZE)
+        && read.length == 0;
+}
+
 int main(void)
 {
     uint8_t image[500], output[512];
@@ -92,6 +115,8 @@ int main(void)
     if (!expect("restore", restored.refusal, LURDEMPOS_ACCEPTED)
         || restored.length != sizeof image || restored.hops != 0
         || memcmp(image, output, sizeof image) != 0 || output[500] != 0xee)
+        return 1;
+    if (!moved(words, image, sizeof image))
         return 1;
     listing = lurdempos_listing(pool, sizeof pool, table, words, 1);
     if (!expect("listing", listing.refusal, LURDEMPOS_ACCEPTED)

@@ -8,7 +8,7 @@ use lib.Dec.{eqb}
 use borrow.Author.Tests.{eqb-true, eqb-false}
 use Rattle.model.specs.Measures.{Shape}
 use Rattle.model.specs.State.{State}
-use Rattle.history.specs.Calls.{Call, callLayout, callBackup, callRestore, callRetire, callListing, callTally, Buffers, refusalOf, answerOf, buffersAfter, refusedLayout, stateAfter, refusalIn, isAccepted}
+use Rattle.history.specs.Calls.{Call, callLayout, callBackup, callRestore, callRetire, callListing, callTally, callWriteStream, Buffers, refusalOf, answerOf, buffersAfter, refusedLayout, stateAfter, refusalIn, isAccepted}
 use Rattle.history.specs.View.{TillView, viewAt, isOnTill, tillNamed, answerShown, changed}
 use Rattle.history.proofs.Steps.{Left, left-one, accepted-same, refusal-in}
 use Rattle.history.proofs.Frame.{frame-own}
@@ -31,6 +31,7 @@ changed-none bytes (callRestore t v output) ok w e = refl
 changed-none bytes (callRetire t v) ok w e = absurd (false≢true (sym e))
 changed-none bytes (callListing t) ok w e = refl
 changed-none bytes callTally ok w e = refl
+changed-none bytes (callWriteStream t v output) ok w e = refl
 
 module _ (s : Shape) (u : ℕ) where
   -- the histories: calls of one are on till `u` and accepted; no backup of both is answered 14 or 16

@@ -15,7 +15,7 @@ use Rattle.model.specs.Image.{Era}
 use Rattle.model.specs.State.{State}
 use Rattle.model.specs.Trace.{longestChain}
 use Rattle.model.specs.Calls.{tillOf, heldFrom, backupBy, restoreOf, restoreRefusal, retireOf, listingOf, listingRefusal, RestoreAnswer, ListingAnswer, retire, backup}
-use Rattle.history.specs.Calls.{Call, callBackup, callRestore, callRetire, callListing, Buffers, Answer, laidOut, backedUp, restored, retired, listed, tallied, answerOf, refusalIn}
+use Rattle.history.specs.Calls.{Call, callBackup, callRestore, callRetire, callListing, Buffers, Answer, laidOut, backedUp, restored, retired, listed, tallied, streamed, answerOf, refusalIn}
 use Rattle.history.specs.Keeper.{Kept, KeptTill, Keeper, noTill, keptTill, filed, fed, keptFrom, oldestKept, newestKept}
 use Rattle.history.specs.View.{VersionView, TillView, viewOf, viewAt, isOnTill, tillNamed, chainShown, shownFrom, oldestShown, newestShown, restoreShown, retireShown, answerShown}
 use Rattle.history.specs.Demand.{Restores, Answers}
@@ -33,6 +33,7 @@ unrestored (restored a) = a
 unrestored (retired n l) = restoreRefusal n []
 unrestored (listed a) = restoreRefusal 0 []
 unrestored (tallied a) = restoreRefusal 0 []
+unrestored (streamed a) = restoreRefusal 0 []
 
 unlisted : Answer → ListingAnswer
 unlisted (laidOut n) = listingRefusal n
@@ -41,6 +42,7 @@ unlisted (restored a) = listingRefusal 0
 unlisted (retired n l) = listingRefusal n
 unlisted (listed a) = a
 unlisted (tallied a) = listingRefusal 0
+unlisted (streamed a) = listingRefusal 0
 
 -- a version's number, or a length
 numberIn : Answer → ℕ
@@ -50,6 +52,7 @@ numberIn (restored a) = 0
 numberIn (retired n l) = l
 numberIn (listed a) = 0
 numberIn (tallied a) = 0
+numberIn (streamed a) = 0
 
 -- The law: a call on a till answers what the till's view says, 14 and 16 apart.
 pub answer-shown : (s : Shape) (b : Buffers) (st : State) → Left s b st → (call : Call) → isOnTill call ≡ true → HasRoom call (answerOf b call)

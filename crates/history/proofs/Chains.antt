@@ -46,7 +46,7 @@ module _ (s : Shape) (a : Shelf) where
   unfolding longestChain
   longest-most v newer h = largest-most (length newer) (hops (v ∷ newer)) (hops-most v newer h) 0 (length (v .pointers))
 
-  from-traceable : (n : ℕ) (vs : List Version) → areTraceable (s .measures .blockBytes) (s .capacities .blocks) a vs ≡ true
+  pub from-traceable : (n : ℕ) (vs : List Version) → areTraceable (s .measures .blockBytes) (s .capacities .blocks) a vs ≡ true
       → areTraceable (s .measures .blockBytes) (s .capacities .blocks) a (heldFrom n vs) ≡ true
   unfolding areTraceable heldFrom
   from-traceable n [] h = refl
@@ -54,7 +54,7 @@ module _ (s : Shape) (a : Shelf) where
       by-test (λ (l : List Version). areTraceable (s .measures .blockBytes) (s .capacities .blocks) a l ≡ true) (eqb (w .number) n) (λ e. h) (λ e. from-traceable n vs (clause _ 3 h))
 
 module _ (s : Shape) (pr : Proper (s .measures)) (st : State) (h : isSound s st ≡ true) where
-  all-traceable : (t : ℕ) → areTraceable (s .measures .blockBytes) (s .capacities .blocks) (st .shelf) (tillOf st t .versions) ≡ true
+  pub all-traceable : (t : ℕ) → areTraceable (s .measures .blockBytes) (s .capacities .blocks) (st .shelf) (tillOf st t .versions) ≡ true
   all-traceable t = go (ltb t (length (st .tills))) refl
     where
       go : (b : Bool) → ltb t (length (st .tills)) ≡ b → areTraceable (s .measures .blockBytes) (s .capacities .blocks) (st .shelf) (tillOf st t .versions) ≡ true

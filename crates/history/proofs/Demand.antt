@@ -27,6 +27,7 @@ use Rattle.history.proofs.Fed.{Stands, stands-fresh, stands-all}
 use Rattle.history.proofs.Steps.{Left, left-all, left-laid, answers-same, left-store}
 use Rattle.history.proofs.Cells.{named-leads}
 use Rattle.history.proofs.Bullets.{restores, answers}
+use Rattle.history.proofs.Streams.{streams}
 
 -- ---- a block that a version shares with one taken while it was the newest
 
@@ -93,6 +94,7 @@ module _ (s : Shape) (b : Buffers) (st : State) (k : Keeper) (l : Left s b st) (
     table = l .table;
     numbers = numbers;
     restores = restores s b st k l z;
+    streams = streams s b st k l z;
     answers = answers s b st k l z;
     shares = shares;
     cells = cells;

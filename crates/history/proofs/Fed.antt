@@ -13,7 +13,7 @@ use Rattle.model.specs.State.{State}
 use Rattle.model.specs.Sound.{isSound}
 use Rattle.model.specs.Calls.{emptyTill, tillOf, emptyState, backup, retire}
 use Rattle.laws.proofs.Fits.{Proper}
-use Rattle.history.specs.Calls.{Call, callLayout, callBackup, callRestore, callRetire, callListing, callTally, Buffers, refusalOf, buffersAfter, refusedLayouts, stateAfter, stateAfterAll, outcomeRefusal, answerIn, refusalIn, isAccepted}
+use Rattle.history.specs.Calls.{Call, callLayout, callBackup, callRestore, callRetire, callListing, callTally, callWriteStream, Buffers, refusalOf, buffersAfter, refusedLayouts, stateAfter, stateAfterAll, outcomeRefusal, answerIn, refusalIn, isAccepted}
 use Rattle.history.specs.Keeper.{KeptTill, Keeper, noTill, freshKeeper, keptTill, filed, struckOut, fed, fedAll}
 use Rattle.history.specs.View.{TillView, viewVersions, viewOf, viewAt, tillNamed, changed}
 use Rattle.history.proofs.Kept.{AgreeTill, till-filed, till-struck}
@@ -33,6 +33,7 @@ change (callRetire t v) true y = struckOut y v
 change (callRetire t v) false y = y
 change (callListing t) ok y = y
 change callTally ok y = y
+change (callWriteStream t v output) ok y = y
 
 fed-is : (k : Keeper) (call : Call) (ok : Bool) → fed k call ok ≡ set k (tillNamed call) (change call ok (keptTill k (tillNamed call)))
 unfolding fed tillNamed change keptTill
@@ -44,6 +45,7 @@ fed-is k (callRetire t v) true = refl
 fed-is k (callRetire t v) false = sym (set-getD k t noTill)
 fed-is k (callListing t) ok = sym (set-getD k t noTill)
 fed-is k callTally ok = sym (set-getD k 0 noTill)
+fed-is k (callWriteStream t v output) ok = sym (set-getD k t noTill)
 
 -- ---- the keeper `k` beside the state `st`
 
@@ -84,6 +86,7 @@ module _ (s : Shape) (pr : Proper (s .measures)) (st : State) (h : isSound s st 
       go false = unfold change changed in a
   own-agrees (callListing t) y a = a
   own-agrees callTally y a = a
+  own-agrees (callWriteStream t v output) y a = a
 
   -- a call on a till that is not there is refused, and changes nothing
   change-none : (call : Call) → leb (s .capacities .tills) (tillNamed call) ≡ true → (y : KeptTill) → change call (isAccepted s st call) y ≡ y
@@ -94,6 +97,7 @@ module _ (s : Shape) (pr : Proper (s .measures)) (st : State) (h : isSound s st 
   change-none (callRetire t v) e y = unfold retire outcomeRefusal in rw e refl
   change-none (callListing t) e y = refl
   change-none callTally e y = refl
+  change-none (callWriteStream t v output) e y = refl
 
   module _ (k : Keeper) (z : Stands s k st) where
     fed-own : (call : Call) → keptTill (fed k call (isAccepted s st call)) (tillNamed call) ≡ change call (isAccepted s st call) (keptTill k (tillNamed call))

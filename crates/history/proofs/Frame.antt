@@ -15,7 +15,7 @@ use Rattle.model.specs.Calls.{backup, retire, After}
 use Rattle.laws.proofs.Fits.{Proper}
 use Rattle.laws.proofs.Backup.{backup-filed}
 use Rattle.laws.proofs.Retire.{retire-done}
-use Rattle.history.specs.Calls.{Call, callLayout, callBackup, callRestore, callRetire, callListing, callTally, stateOr, stateAfter, outcomeRefusal, answerIn, refusalIn, isAccepted}
+use Rattle.history.specs.Calls.{Call, callLayout, callBackup, callRestore, callRetire, callListing, callTally, callWriteStream, stateOr, stateAfter, outcomeRefusal, answerIn, refusalIn, isAccepted}
 use Rattle.history.specs.View.{viewAt, tillNamed, changed}
 use Rattle.history.proofs.Filing.{filed-own, filed-other, retired-own, retired-other}
 use Rattle.history.proofs.Numbered.{Numbered, backup-numbered, retire-numbered}
@@ -46,6 +46,7 @@ module _ (s : Shape) (pr : Proper (s .measures)) (st : State) (h : isSound s st 
   frame-own (callRetire t v) = retire-own t v (retire s st t v) (retire-numbered s st t v) refl
   frame-own (callListing t) = refl
   frame-own callTally = refl
+  frame-own (callWriteStream t v output) = refl
 
   backup-other : (era : Era) (t : ℕ) (image : List ℕ) (u : ℕ) → (u ≡ t → ⊥) → (o : Outcome After) → backup era s st t image ≡ o
       → viewAt (s .measures .blockBytes) (stateOr st o) u ≡ viewAt (s .measures .blockBytes) st u
@@ -69,3 +70,4 @@ module _ (s : Shape) (pr : Proper (s .measures)) (st : State) (h : isSound s st 
   frame-other (callRetire t v) u ne = retire-other t v u ne (retire s st t v) refl
   frame-other (callListing t) u ne = refl
   frame-other callTally u ne = refl
+  frame-other (callWriteStream t v output) u ne = refl

@@ -14,5 +14,6 @@ pub mod Fed
 pub mod Chains
 pub mod Cells
 pub mod Bullets
+pub mod Streams
 pub mod Apart
 pub mod Demand

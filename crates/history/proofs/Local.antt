@@ -17,7 +17,8 @@ use Rattle.model.specs.Runs.{Run, findRun}
 use Rattle.model.specs.Place.{Placed, stored, writeRun, writeRecord, shareOrWrite, placeSegment, afterSome, placeNext, placeAll}
 use Rattle.model.specs.Trace.{imageOf}
 use Rattle.model.specs.Calls.{tillOf, heldFrom, restoreFrom, restoreRefusal, restore, heldBefore, retireFrom, retire, fileIn, placeAndFile, backup, listTill, listingRefusal, listingIn, RestoreAnswer, After}
-use Rattle.history.specs.Calls.{Call, callLayout, callBackup, callRestore, callRetire, callListing, callTally, Answer, backedUp, restored, retired, listed, outcomeRefusal, outcomeNumber, answerIn}
+use Rattle.stream.specs.Version.{longestOutput, writeRestored, writeVersion}
+use Rattle.history.specs.Calls.{Call, callLayout, callBackup, callRestore, callRetire, callListing, callTally, callWriteStream, Answer, backedUp, restored, retired, listed, streamed, outcomeRefusal, outcomeNumber, answerIn}
 use Rattle.history.specs.View.{VersionView, viewVersions, viewOf, viewAt, isOnTill, tillNamed, shownFrom, restoreShown, retireShown, answerShown}
 use Rattle.history.proofs.Shown.{views-length, oldest-is, newest-is, from-same, chain-is}
 
@@ -108,11 +109,13 @@ backup-shown era s st t image =
     step true n o a h r = unfold outcomeRefusal outcomeNumber in refl
     step false n o a h r = h r
 
-restore-shown : (s : Shape) (st : State) (t v : ℕ) (output : List ℕ)
-    → restored (restore s st t v output) ≡ answerShown s (viewAt (s .measures .blockBytes) st t) (callRestore t v output)
-unfolding restore answerShown viewOf
-restore-shown s st t v output =
-    ap (λ (r : RestoreAnswer). restored (cond (leb (s .capacities .tills) t) (restoreRefusal 3 output) r))
+-- a restore, from what the till shows
+restore-view : (s : Shape) (st : State) (t v : ℕ) (output : List ℕ)
+    → restore s st t v output
+    ≡ cond (leb (s .capacities .tills) t) (restoreRefusal 3 output) (restoreShown (shownFrom v (viewAt (s .measures .blockBytes) st t .versions)) output)
+unfolding restore viewOf
+restore-view s st t v output =
+    ap (λ (r : RestoreAnswer). cond (leb (s .capacities .tills) t) (restoreRefusal 3 output) r)
     (first (heldFrom v (tillOf st t .versions)) ∙ ap (λ (l : List VersionView). restoreShown l output) (sym (from-same (s .measures .blockBytes) (st .shelf) v (tillOf st t .versions))))
   where
     first : (vs : List Version)
@@ -123,6 +126,16 @@ restore-shown s st t v output =
         ap (λ (c : ℕ). cond (ltb (length output) (w .length)) (restoreRefusal 5 output)
         (record { refusal = 0; length = w .length; hops = c; output = imageOf (s .measures .blockBytes) (st .shelf) (w ∷ ws) ++ drop (w .length) output }))
         (unfold viewVersions in chain-is (s .measures .blockBytes) (st .shelf) (w ∷ ws))
+
+restore-shown : (s : Shape) (st : State) (t v : ℕ) (output : List ℕ)
+    → restored (restore s st t v output) ≡ answerShown s (viewAt (s .measures .blockBytes) st t) (callRestore t v output)
+unfolding answerShown
+restore-shown s st t v output = ap restored (restore-view s st t v output)
+
+stream-shown : (s : Shape) (st : State) (t v : ℕ) (output : List ℕ)
+    → streamed (writeVersion s st t v output) ≡ answerShown s (viewAt (s .measures .blockBytes) st t) (callWriteStream t v output)
+unfolding writeVersion answerShown
+stream-shown s st t v output = ap (λ (r : RestoreAnswer). streamed (writeRestored r output)) (restore-view s st t v longestOutput)
 
 abbrev retiredFrom : Outcome After → Answer
 retiredFrom o = retired (outcomeRefusal o) (outcomeNumber o)
@@ -158,6 +171,7 @@ HasRoom (callRestore t v output) a = Unit {0}
 HasRoom (callRetire t v) a = Unit {0}
 HasRoom (callListing t) a = Unit {0}
 HasRoom callTally a = Unit {0}
+HasRoom (callWriteStream t v output) a = Unit {0}
 
 -- The law: a call on a till answers what the till's view says.
 pub answer-in : (s : Shape) (st : State) (call : Call) → isOnTill call ≡ true → HasRoom call (answerIn s st call)
@@ -169,3 +183,4 @@ answer-in s st (callRestore t v output) on room = restore-shown s st t v output
 answer-in s st (callRetire t v) on room = retire-shown s st t v
 answer-in s st (callListing t) on room = listing-shown s st t
 answer-in s st callTally on room = absurd (false≢true on)
+answer-in s st (callWriteStream t v output) on room = stream-shown s st t v output

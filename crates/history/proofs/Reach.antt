@@ -11,7 +11,7 @@ use Rattle.model.specs.Calls.{backup, retire, After}
 use Rattle.laws.proofs.Fits.{Proper}
 use Rattle.laws.proofs.Backup.{backup-sound}
 use Rattle.laws.proofs.Retire.{retire-sound}
-use Rattle.history.specs.Calls.{Call, callLayout, callBackup, callRestore, callRetire, callListing, callTally, stateOr, stateAfter}
+use Rattle.history.specs.Calls.{Call, callLayout, callBackup, callRestore, callRetire, callListing, callTally, callWriteStream, stateOr, stateAfter}
 
 module _ (s : Shape) (pr : Proper (s .measures)) (st : State) (h : isSound s st ≡ true) where
   backup-good : (era : Era) (t : ℕ) (image : List ℕ) (o : Outcome After) → backup era s st t image ≡ o → isSound s (stateOr st o) ≡ true
@@ -32,3 +32,4 @@ module _ (s : Shape) (pr : Proper (s .measures)) (st : State) (h : isSound s st 
   sound-after (callRetire t v) = retire-good t v (retire s st t v) refl
   sound-after (callListing t) = h
   sound-after callTally = h
+  sound-after (callWriteStream t v output) = h

@@ -1,5 +1,5 @@
 -- A refused call, of any buffers: it alters none of them, and every other field of its answer is 0.
-use mathlib.Core.Path.{_≡_, refl, ap}
+use mathlib.Core.Path.{_≡_, refl, ap, ap₂}
 use mathlib.Core.List.{List, [], _∷_}
 use mathlib.Core.Option.{Option, none, some}
 use Prim.Native.Nat.{ℕ}
@@ -11,7 +11,10 @@ use Rattle.model.specs.State.{Shelf, Version, Outcome, refused, done}
 use Rattle.model.specs.Sound.{Store, storeOf}
 use Rattle.model.specs.Calls.{layoutOf, backup, backupIn, backupBy, backupAnswer, restore, restoreFrom, restoreIn, restoreOf, restoreRefusal, RestoreAnswer, heldFrom, tillOf, retire, retireIn, retireOf, retireAnswer, listingIn, listingOf, listingRefusal, listTill, ListingAnswer, tallyIn, tallyOf, After}
 use Rattle.laws.proofs.Empty.{layout-refused}
-use Rattle.history.specs.Calls.{Call, callLayout, callBackup, callRestore, callRetire, callListing, callTally, Buffers, refusalOf, buffersAfter, Answer, laidOut, backedUp, restored, retired, listed, tallied, answerOf}
+use Rattle.stream.specs.Stream.{StreamAnswer}
+use Rattle.stream.specs.Version.{writeStreamOf}
+use Rattle.stream_laws.proofs.Theorems.{claims}
+use Rattle.history.specs.Calls.{Call, callLayout, callBackup, callRestore, callRetire, callListing, callTally, callWriteStream, Buffers, refusalOf, buffersAfter, Answer, laidOut, backedUp, restored, retired, listed, tallied, streamed, answerOf}
 
 same-buffers : (b : Buffers) (pool table : List ℕ) → pool ≡ b .pool → table ≡ b .table → record { pool = pool; table = table } ≡ b
 same-buffers b pool table p q = λ i. record { pool = p i; table = q i }
@@ -46,6 +49,7 @@ alters-nothing b (callRetire t v) h = unfold retireOf in go (storeOf (b .pool) (
     go (some x) h = unfold retireIn in one (x .shape) (retire (x .shape) (x .state) t v) h
 alters-nothing b (callListing t) h = refl
 alters-nothing b callTally h = refl
+alters-nothing b (callWriteStream t v output) h = refl
 
 -- the answer of a refusal
 unfoldable pub refusedWith : ℕ → Call → Answer
@@ -55,6 +59,7 @@ refusedWith n (callRestore t v output) = restored (record { refusal = n; length 
 refusedWith n (callRetire t v) = retired n 0
 refusedWith n (callListing t) = listed (record { refusal = n; oldest = 0; newest = 0; last = 0 })
 refusedWith n callTally = tallied (record { refusal = n; cells = 0; records = 0; counts = 0 })
+refusedWith n (callWriteStream t v output) = streamed (record { refusal = n; length = 0; output = output })
 
 abbrev ZeroRestore : List ℕ → RestoreAnswer → Type 0
 ZeroRestore output r = ¬ (r .refusal ≡ 0) → r ≡ record { refusal = r .refusal; length = 0; hops = 0; output = output }
@@ -111,3 +116,7 @@ answers-number-only b callTally h = unfold tallyOf in ap tallied (go (storeOf (b
     go : (o : Option Store) → ¬ (tallyIn o .refusal ≡ 0) → tallyIn o ≡ record { refusal = tallyIn o .refusal; cells = 0; records = 0; counts = 0 }
     go none h = unfold tallyIn in refl
     go (some x) h = unfold tallyIn in absurd (h refl)
+answers-number-only b (callWriteStream t v output) h =
+    let a : StreamAnswer = writeStreamOf (b .pool) (b .table) t v output in
+    let z = claims .writeCareful (b .pool) (b .table) t v output .refused h in
+    ap₂ (λ (n : ℕ) (l : List ℕ). streamed (record { refusal = a .refusal; length = n; output = l })) (z .0) (z .1)

@@ -13,7 +13,8 @@ use Rattle.model.specs.Calls.{emptyState, layoutOf, backup, backupIn, backupBy,
 use Rattle.laws.proofs.Fits.{Fit, range-fit}
 use Rattle.laws.proofs.RoundTrip.{round-trip}
 use Rattle.laws.proofs.Empty.{empty-sound, layout-refused, layout-accepted}
-use Rattle.history.specs.Calls.{Call, callLayout, callBackup, callRestore, callRetire, callListing, callTally, Buffers, refusalOf, buffersAfter, buffersAfterAll, laidOut, backedUp, restored, retired, listed, tallied, answerOf, answersOf, refusalIn, refusedLayout, refusedLayouts, stateOr, stateAfter, stateAfterAll, outcomeRefusal, outcomeNumber, answerIn, answersIn, isAccepted}
+use Rattle.stream.specs.Version.{longestOutput, writeRestored, writeVersion, writeStreamOf}
+use Rattle.history.specs.Calls.{Call, callLayout, callBackup, callRestore, callRetire, callListing, callTally, callWriteStream, Buffers, refusalOf, buffersAfter, buffersAfterAll, laidOut, backedUp, restored, retired, listed, tallied, streamed, answerOf, answersOf, refusalIn, refusedLayout, refusedLayouts, stateOr, stateAfter, stateAfterAll, outcomeRefusal, outcomeNumber, answerIn, answersIn, isAccepted}
 use Rattle.history.specs.Demand.{laidOutIn}
 use Rattle.history.proofs.Reach.{sound-after}
 
@@ -55,6 +56,7 @@ left-one s b st call e r = record { fit = e .fit; pool = words call r .0; table 
         unfold buffersAfter stateAfter retireOf retireIn in rw (left-store s b st e) (retire-words s b st (retire s st t v) (e .pool) (e .table))
     words (callListing t) r = unfold buffersAfter stateAfter in (e .pool, e .table)
     words callTally r = unfold buffersAfter stateAfter in (e .pool, e .table)
+    words (callWriteStream t v output) r = unfold buffersAfter stateAfter in (e .pool, e .table)
 
 pub left-all : (s : Shape) (calls : List Call) (b : Buffers) (st : State) → Left s b st → refusedLayouts b calls → Left s (buffersAfterAll b calls) (stateAfterAll s st calls)
 unfolding buffersAfterAll stateAfterAll
@@ -92,6 +94,8 @@ answer-same s b st (callRetire t v) e =
     go (done a) = unfold retireAnswer outcomeRefusal outcomeNumber in refl
 answer-same s b st (callListing t) e = unfold listingOf in ap (λ (o : Option Store). listed (listingIn o t)) (left-store s b st e)
 answer-same s b st callTally e = unfold tallyOf in ap (λ (o : Option Store). tallied (tallyIn o)) (left-store s b st e)
+answer-same s b st (callWriteStream t v output) e =
+    unfold writeStreamOf writeVersion restoreOf restoreIn in ap (λ (o : Option Store). streamed (writeRestored (restoreIn o t v longestOutput) output)) (left-store s b st e)
 
 pub answers-same : (s : Shape) (calls : List Call) (b : Buffers) (st : State) → Left s b st → refusedLayouts b calls → answersOf b calls ≡ answersIn s st calls
 unfolding answersOf answersIn
@@ -108,6 +112,7 @@ refusal-in b (callRestore t v output) = refl
 refusal-in b (callRetire t v) = refl
 refusal-in b (callListing t) = refl
 refusal-in b callTally = refl
+refusal-in b (callWriteStream t v output) = refl
 
 pub accepted-same : (s : Shape) (b : Buffers) (st : State) (call : Call) → Left s b st → eqb (refusalOf b call) 0 ≡ isAccepted s st call
 unfolding isAccepted

@@ -10,6 +10,8 @@ use Rattle.model.specs.Image.{Era}
 use Rattle.model.specs.State.{State, Outcome, refused, done}
 use Rattle.model.specs.Table.{stateToWords, stateToBytes}
 use Rattle.model.specs.Calls.{layoutOf, backupBy, restoreOf, retireOf, listingOf, tallyOf, backup, restore, retire, listingIn, tallyIn, RestoreAnswer, ListingAnswer, TallyAnswer, After}
+use Rattle.stream.specs.Stream.{StreamAnswer}
+use Rattle.stream.specs.Version.{writeVersion, writeStreamOf}
 
 -- A call with its arguments, any of them; a backup was made before blank blocks were known, or with them. Table length takes no buffer and is no call
 -- of the list.
@@ -20,6 +22,7 @@ pub data Call : Type 0 where
   callRetire : (till version : ℕ) → Call
   callListing : (till : ℕ) → Call
   callTally : Call
+  callWriteStream : (till version : ℕ) (output : List ℕ) → Call
 
 -- the two buffers
 pub record Buffers : Type 0 where
@@ -34,6 +37,7 @@ refusalOf b (callRestore t v output) = restoreOf (b .pool) (b .table) t v output
 refusalOf b (callRetire t v) = retireOf (b .pool) (b .table) t v .refusal
 refusalOf b (callListing t) = listingOf (b .pool) (b .table) t .refusal
 refusalOf b callTally = tallyOf (b .pool) (b .table) .refusal
+refusalOf b (callWriteStream t v output) = writeStreamOf (b .pool) (b .table) t v output .refusal
 
 -- the buffers after a call
 unfoldable pub buffersAfter : Buffers → Call → Buffers
@@ -43,12 +47,13 @@ buffersAfter b (callRestore t v output) = b
 buffersAfter b (callRetire t v) = record { pool = retireOf (b .pool) (b .table) t v .pool; table = retireOf (b .pool) (b .table) t v .table }
 buffersAfter b (callListing t) = b
 buffersAfter b callTally = b
+buffersAfter b (callWriteStream t v output) = b
 
 unfoldable pub buffersAfterAll : Buffers → List Call → Buffers
 buffersAfterAll b [] = b
 buffersAfterAll b (c ∷ cs) = buffersAfterAll (buffersAfter b c) cs
 
--- what a call answers; a restore's has the output too
+-- what a call answers; a restore's has the output too, and so has a stream's
 pub data Answer : Type 0 where
   laidOut : (refusal : ℕ) → Answer
   backedUp : (refusal version : ℕ) → Answer
@@ -56,6 +61,7 @@ pub data Answer : Type 0 where
   retired : (refusal length : ℕ) → Answer
   listed : (answer : ListingAnswer) → Answer
   tallied : (answer : TallyAnswer) → Answer
+  streamed : (answer : StreamAnswer) → Answer
 
 unfoldable pub answerOf : Buffers → Call → Answer
 answerOf b (callLayout c) = laidOut (layoutOf c (b .pool) (b .table) .refusal)
@@ -64,6 +70,7 @@ answerOf b (callRestore t v output) = restored (restoreOf (b .pool) (b .table) t
 answerOf b (callRetire t v) = retired (retireOf (b .pool) (b .table) t v .refusal) (retireOf (b .pool) (b .table) t v .length)
 answerOf b (callListing t) = listed (listingOf (b .pool) (b .table) t)
 answerOf b callTally = tallied (tallyOf (b .pool) (b .table))
+answerOf b (callWriteStream t v output) = streamed (writeStreamOf (b .pool) (b .table) t v output)
 
 -- the number of the refusal that an answer carries, or 0
 unfoldable pub refusalIn : Answer → ℕ
@@ -73,6 +80,7 @@ refusalIn (restored a) = a .refusal
 refusalIn (retired n l) = n
 refusalIn (listed a) = a .refusal
 refusalIn (tallied a) = a .refusal
+refusalIn (streamed a) = a .refusal
 
 -- the answers of a list of calls, each with the buffers as the last one left them
 unfoldable pub answersOf : Buffers → List Call → List Answer
@@ -87,6 +95,7 @@ refusedLayout b (callRestore t v output) = Unit {0}
 refusedLayout b (callRetire t v) = Unit {0}
 refusedLayout b (callListing t) = Unit {0}
 refusedLayout b callTally = Unit {0}
+refusedLayout b (callWriteStream t v output) = Unit {0}
 
 abbrev pub refusedLayouts : Buffers → List Call → Type 0
 refusedLayouts b [] = Unit {0}
@@ -105,6 +114,7 @@ stateAfter s st (callRestore t v output) = st
 stateAfter s st (callRetire t v) = stateOr st (retire s st t v)
 stateAfter s st (callListing t) = st
 stateAfter s st callTally = st
+stateAfter s st (callWriteStream t v output) = st
 
 unfoldable pub stateAfterAll : Shape → State → List Call → State
 stateAfterAll s st [] = st
@@ -126,6 +136,7 @@ answerIn s st (callRestore t v output) = restored (restore s st t v output)
 answerIn s st (callRetire t v) = retired (outcomeRefusal (retire s st t v)) (outcomeNumber (retire s st t v))
 answerIn s st (callListing t) = listed (listingIn (some (record { shape = s; state = st })) t)
 answerIn s st callTally = tallied (tallyIn (some (record { shape = s; state = st })))
+answerIn s st (callWriteStream t v output) = streamed (writeVersion s st t v output)
 
 unfoldable pub answersIn : Shape → State → List Call → List Answer
 answersIn s st [] = []

@@ -15,6 +15,8 @@ use Rattle.model.specs.Trace.{longestChain}
 use Rattle.model.specs.Table.{stateToWords, stateToBytes, cellsIn}
 use Rattle.model.specs.Sound.{storeOf, nextPointers}
 use Rattle.model.specs.Calls.{layoutOf, backupBy, restoreOf, RestoreAnswer, retireOf, listingOf, ListingAnswer, tallyOf, emptyState, tillOf, heldFrom}
+use Rattle.stream.specs.Stream.{StreamAnswer, streamOf, readStream}
+use Rattle.stream.specs.Version.{writeStreamOf}
 use Rattle.history.specs.Calls.{Call, callBackup, Buffers, buffersAfterAll, answersOf, refusedLayouts, stateAfterAll, answersIn}
 use Rattle.history.specs.Keeper.{Kept, Keeper, freshKeeper, keptTill, fed, fedAll, keptFrom, oldestKept, newestKept}
 
@@ -63,6 +65,25 @@ module _ (bytes : ℕ) (st : State) (k : Keeper) (b : Buffers) where
     -- "The longest chain that restore answers … is 0 for a till's newest version and for another at most the number of newer ones held": both in one
     pub chain : (t v : ℕ) (x : Kept) (newer : List Kept) (output : List ℕ) → IsKept t v x newer → restoring t v output .hops ≤ length newer
 
+  abbrev pub writing : ℕ → ℕ → List ℕ → StreamAnswer
+  writing t v output = writeStreamOf (b .pool) (b .table) t v output
+
+  pub record Streams : Type 0 where
+    -- "A version is written out as a stream": a held one, with an output long enough, as its image's. The call "answers the stream's length"; later bytes of
+    -- the output stay.
+    pub given : (t v : ℕ) (x : Kept) (newer : List Kept) (output : List ℕ) → IsKept t v x newer → length (streamOf (x .image)) ≤ length output
+        → (writing t v output .refusal ≡ 0)
+        × (writing t v output .length ≡ length (streamOf (x .image)))
+        × (writing t v output .output ≡ streamOf (x .image) ++ drop (length (streamOf (x .image))) output)
+    -- "with 5 for an output shorter than the stream"
+    pub short : (t v : ℕ) (x : Kept) (newer : List Kept) (output : List ℕ) → IsKept t v x newer → length output < length (streamOf (x .image))
+        → writing t v output .refusal ≡ 5
+    -- a version not held is refused, as a restore of it is
+    pub notHeld : (t v : ℕ) (output : List ℕ) → keptFrom v (keptTill k t .versions) ≡ [] → ¬ (writing t v output .refusal ≡ 0)
+    -- "reading it gives the image"
+    pub readAgain : (t v : ℕ) (x : Kept) (newer : List Kept) (output : List ℕ) → IsKept t v x newer → length (x .image) ≤ length output
+        → readStream (streamOf (x .image)) output ≡ record { refusal = 0; length = length (x .image); output = x .image ++ drop (length (x .image)) output }
+
   abbrev pub listingAt : ℕ → ListingAnswer
   listingAt t = listingOf (b .pool) (b .table) t
 
@@ -110,6 +131,7 @@ module _ (bytes : ℕ) (st : State) (k : Keeper) (b : Buffers) where
     -- the keeper's numbers rise, each at least 1 and at most the last given: newer in the list is newer by number
     pub numbers : (t : ℕ) → rises 0 (keptTill k t .last) (map (λ (x : Kept). x .number) (keptTill k t .versions)) ≡ true
     pub restores : Restores
+    pub streams : Streams
     pub answers : Answers
     pub shares : Shares
     pub cells : Cells s

@@ -6,7 +6,7 @@ use lib.ListN.{getD, set, replicate}
 use lib.Dec.{eqb}
 use Rattle.lists.specs.Lists.{keep}
 use Rattle.model.specs.Measures.{Capacities}
-use Rattle.history.specs.Calls.{Call, callLayout, callBackup, callRestore, callRetire, callListing, callTally, Buffers, buffersAfter, refusalOf}
+use Rattle.history.specs.Calls.{Call, callLayout, callBackup, callRestore, callRetire, callListing, callTally, callWriteStream, Buffers, buffersAfter, refusalOf}
 
 -- a held version: its number, its whole image, and the number of its till's newest version when it was taken, 0 if none was held
 pub record Kept : Type 0 where
@@ -59,6 +59,7 @@ fed k (callRetire t v) true = set k t (struckOut (keptTill k t) v)
 fed k (callRetire t v) false = k
 fed k (callListing t) ok = k
 fed k callTally ok = k
+fed k (callWriteStream t v output) ok = k
 
 unfoldable pub fedAll : Keeper → Buffers → List Call → Keeper
 fedAll k b [] = k

@@ -12,7 +12,8 @@ use Rattle.model.specs.Image.{Era, isBare, imageBlocks}
 use Rattle.model.specs.Turn.{turnsTo}
 use Rattle.model.specs.Trace.{imageOf}
 use Rattle.model.specs.Calls.{tillOf, RestoreAnswer, restoreRefusal, listingRefusal}
-use Rattle.history.specs.Calls.{Call, callLayout, callBackup, callRestore, callRetire, callListing, callTally, Answer, laidOut, backedUp, restored, retired, listed, tallied}
+use Rattle.stream.specs.Version.{longestOutput, writeRestored}
+use Rattle.history.specs.Calls.{Call, callLayout, callBackup, callRestore, callRetire, callListing, callTally, callWriteStream, Answer, laidOut, backedUp, restored, retired, listed, tallied, streamed}
 use Rattle.history.specs.Kinds.{Kind, zeroKind, blankKind, directKind, indirectKind, kindOf, kindAt, hopsOfKind}
 
 -- A version as its till shows it: number, length, image, what each pointer is and where an indirect one leads.
@@ -57,6 +58,7 @@ tillNamed (callRestore t v output) = t
 tillNamed (callRetire t v) = t
 tillNamed (callListing t) = t
 tillNamed callTally = 0
+tillNamed (callWriteStream t v output) = t
 
 -- a new version's pointer for a block
 unfoldable pub newKind : Era → Block → Kind
@@ -113,6 +115,7 @@ changed bytes (callRetire t v) true w = shownWithout w v
 changed bytes (callRetire t v) false w = w
 changed bytes (callListing t) ok w = w
 changed bytes callTally ok w = w
+changed bytes (callWriteStream t v output) ok w = w
 
 -- ---- what a call on a till answers, from what the till shows; 14 and 16, which depend on the shared shelf, apart
 
@@ -123,6 +126,7 @@ isOnTill (callRestore t v output) = true
 isOnTill (callRetire t v) = true
 isOnTill (callListing t) = true
 isOnTill callTally = false
+isOnTill (callWriteStream t v output) = true
 
 unfoldable pub shownFrom : ℕ → List VersionView → List VersionView
 shownFrom n [] = []
@@ -160,3 +164,5 @@ answerShown s w (callListing t) =
     listed (cond (leb (s .capacities .tills) t) (listingRefusal 3)
     (record { refusal = 0; oldest = oldestShown (w .versions); newest = newestShown (w .versions); last = w .last }))
 answerShown s w callTally = tallied (record { refusal = 0; cells = 0; records = 0; counts = 0 })
+answerShown s w (callWriteStream t v output) =
+    streamed (writeRestored (cond (leb (s .capacities .tills) t) (restoreRefusal 3 longestOutput) (restoreShown (shownFrom v (w .versions)) longestOutput)) output)

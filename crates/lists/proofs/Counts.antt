@@ -8,7 +8,7 @@ use native.Mathlib.Omega.{arith}
 use lib.ListN.{length, getD, drop}
 use lib.Dec.{eqb}
 use borrow.Author.Tests.{eqb-true, eqb-false, ne-eqb}
-use Rattle.lists.specs.Lists.{counted, count, total}
+use Rattle.lists.specs.Lists.{counted, keep, count, total}
 use Rattle.lists.proofs.Slices.{drop-next, drop-end}
 
 -- ---- count
@@ -26,6 +26,16 @@ count-most f (x ∷ xs) = one (f x) (count-most f xs)
     one : (b : Bool) → count f xs ≤ length xs → cond b 1 0 + count f xs ≤ suc (length xs)
     one true h = omega (arith, h)
     one false h = omega (arith, h)
+
+-- as many are kept as pass
+pub length-keep {ℓ} : {A : Type ℓ} (f : A → Bool) (xs : List A) → length (keep f xs) ≡ count f xs
+unfolding keep count
+length-keep f [] = refl
+length-keep f (x ∷ xs) = go (f x) (length-keep f xs)
+  where
+    go : (b : Bool) → length (keep f xs) ≡ count f xs → length (cond b (x ∷ keep f xs) (keep f xs)) ≡ cond b 1 0 + count f xs
+    go true e = omega (arith, e)
+    go false e = omega (arith, e)
 
 -- ---- total
 

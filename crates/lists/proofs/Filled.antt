@@ -6,14 +6,14 @@ use Prim.Native.Nat.{ℕ, zero, suc, _+_, _*_, _≤_, _<_, _-_}
 use native.Mathlib.Nat.{suc-inj, mul-le-mul-right, suc-mul}
 use native.Mathlib.Omega.{arith}
 use lib.ListN.{length, getD, take, drop, length-drop, length-map, replicate, length-append, replicate-append-replicate}
-use lib.Seq.{take-at, length-take-le, drop-at}
+use lib.Seq.{take-at, length-take-le, drop-at, drop-nil, drop-drop}
 use Rattle.lists.specs.Lists.{every, allZero}
 use Rattle.lists.specs.Rows.{rows, parts, fill}
 use Rattle.lists.specs.Each.{Each}
 use Rattle.lists.proofs.Each.{each-map}
-use Rattle.lists.proofs.Rows.{fill-split, fill-zeros, zeros-fill}
+use Rattle.lists.proofs.Rows.{fill-split, fill-zeros, zeros-fill, fill-add}
 use Rattle.lists.proofs.Slices.{drop-same}
-use Rattle.lists.proofs.Same.{zeros-eq}
+use Rattle.lists.proofs.Same.{zeros-eq, zeros-zero}
 use Rattle.lists.proofs.Cuts.{joined-parts, parts-joined, each-part}
 
 -- ---- fill
@@ -37,6 +37,27 @@ back-fill (suc n) (suc k) (x ∷ xs) e = back-fill n k xs (ap (drop 1) e)
 -- what was filled up stands in front
 pub fill-front : (n : ℕ) (ys xs : List ℕ) → length ys ≤ n → fill n ys ≡ xs → take (length ys) xs ≡ ys
 fill-front n ys xs h e = ap (take (length ys)) (sym e ∙ fill-split n ys h) ∙ take-at ys _ (length ys) refl
+
+-- zero after what was filled up
+pub fill-after : (n : ℕ) (xs : List ℕ) → allZero (drop (length xs) (fill n xs)) ≡ true
+unfolding fill
+fill-after zero xs = ap allZero (drop-nil (length xs)) ∙ zeros-zero 0
+fill-after (suc n) [] = zeros-fill (suc n)
+fill-after (suc n) (x ∷ xs) = fill-after n xs
+
+-- one part more, filled up
+pub fill-step : (w n at : ℕ) (xs : List ℕ) → fill w (drop at xs) ++ fill (n * w) (drop (at + w) xs) ≡ fill (suc n * w) (drop at xs)
+fill-step w n at xs =
+    let z : w + n * w ≡ suc n * w = omega (arith, suc-mul n w) in
+    ap (λ (l : List ℕ). fill w (drop at xs) ++ fill (n * w) l) (sym (drop-drop w at xs)) ∙ sym (fill-add w (n * w) (drop at xs)) ∙ ap (λ (k : ℕ). fill k (drop at xs)) z
+
+-- what stands behind n elements does not matter to a list of n
+pub fill-cut : (n k : ℕ) (b more : List ℕ) → length b ≡ n → fill n (take k (b ++ more)) ≡ fill n (take k b)
+unfolding fill
+fill-cut zero k b more e = refl
+fill-cut (suc n) k [] more e = absurd (omega arith)
+fill-cut (suc n) zero (x ∷ b) more e = refl
+fill-cut (suc n) (suc k) (x ∷ b) more e = ap (λ (l : List ℕ). x ∷ l) (fill-cut n k b more (omega arith))
 
 -- ---- rows that say what they are read as
 

@@ -26,6 +26,7 @@ pub mod Appends
 pub mod Joins
 pub mod Puts
 pub mod Written
+pub mod Pieces
 pub mod Maps
 pub mod Apart
 pub mod Search

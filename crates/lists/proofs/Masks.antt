@@ -7,7 +7,7 @@ use Prim.Native.Nat.{ℕ, zero, suc, _+_, _-_, _*_, _/_, _%_, _^_, _≤_, _<_}
 use native.Mathlib.Nat.{pow-suc, one-mul, mul-le-mul-right, add-zero}
 use native.Mathlib.Numerals.{one-add}
 use native.Mathlib.Omega.{arith}
-use lib.ListN.{length, getD, set}
+use lib.ListN.{length, getD, set, replicate}
 use lib.Pow.{pow-pos, shl-exact, shr-shr, split}
 use lib.Bits.{bitAnd, and-step, and-self}
 use lib.Count.{ones, ones-step, trailingZeros, under}
@@ -156,6 +156,12 @@ pub mask-map {ℓ κ} : {A : Type ℓ} {B : Type κ} (f : B → Bool) (g : A →
 unfolding maskOf
 mask-map f g [] = refl
 mask-map f g (x ∷ xs) = rw (mask-map f g xs)
+
+-- no bit for elements that do not pass
+pub mask-replicate {ℓ} : {A : Type ℓ} (f : A → Bool) (n : ℕ) (x : A) → f x ≡ false → maskOf f (replicate n x) ≡ 0
+unfolding maskOf
+mask-replicate f zero x e = refl
+mask-replicate f (suc n) x e = rw (e, mask-replicate f n x e)
 
 -- ---- First
 

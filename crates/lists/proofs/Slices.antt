@@ -6,7 +6,7 @@ use Prim.Native.Nat.{ℕ, zero, suc, zero-le, min, _+_, _-_, _≤_, _<_}
 use native.Mathlib.Nat.{sub-zero, suc-sub-suc}
 use native.Mathlib.Numerals.{add-one}
 use native.Mathlib.Omega.{arith}
-use lib.ListN.{length, getD, take, drop, replicate, length-drop, drop-of-length-le}
+use lib.ListN.{length, getD, take, drop, replicate, length-take, length-drop, length-replicate, drop-of-length-le}
 use lib.Seq.{drop-cons, drop-nil, drop-length, take-all, take-suc, take-nil, take-take, take-at, drop-at, drop-drop, getD-take, getD-drop, length-take-le}
 use lib.Dec.{leb, eqb}
 use borrow.Author.Tests.{leb-true, leb-false, eq-eqb, ne-eqb}
@@ -146,3 +146,35 @@ module _ (xs : List ℕ) (a k s e : ℕ) (hs : s ≡ min (length xs) a) (he : e 
 pub none-left {ℓ} : {A : Type ℓ} (xs : List A) → length xs ≡ 0 → xs ≡ []
 none-left [] z = refl
 none-left (x ∷ xs) z = absurd (omega (arith, z))
+
+-- ---- cuts of a list that is cut or put together
+
+-- the first elements of two lists
+module _ {ℓ} {A : Type ℓ} where
+  pub take-both : (n w : ℕ) (b c : List A) → length b ≡ w → take n (b ++ c) ≡ take n b ++ take (n - w) c
+  take-both zero w b c e = let z : 0 - w ≡ 0 = omega arith in rw z
+  take-both (suc n) w [] c e = let z : suc n - w ≡ suc n = omega arith in rw z
+  take-both (suc n) zero (x ∷ b) c e = absurd (omega arith)
+  take-both (suc n) (suc w) (x ∷ b) c e =
+      let z : suc n - suc w ≡ n - w = omega arith in
+      rw z (ap (λ (l : List A). x ∷ l) (take-both n w b c (omega arith)))
+
+-- the lesser of two cuts
+pub take-lesser {ℓ} : {A : Type ℓ} (r w : ℕ) (l : List A) → take r (take w l) ≡ take (min w r) l
+take-lesser r w l = go (leb r w) refl
+  where
+    go : (t : Bool) → leb r w ≡ t → take r (take w l) ≡ take (min w r) l
+    go true q =
+        let h : r ≤ w = leb-true r w q in
+        let z : min w r ≡ r = omega arith in
+        rw z (take-take r w l h)
+    go false q =
+        let h : w < r = leb-false r w q in
+        let z : min w r ≡ w = omega arith in
+        rw z (take-all r (take w l) (omega (arith, length-take w l)))
+
+-- the list's end cuts off zeros
+pub take-zeros : (r w : ℕ) → take r (replicate {A = ℕ} w 0) ≡ replicate (min w r) 0
+take-zeros r w =
+    let n : length (replicate {A = ℕ} w 0) ≡ w = length-replicate {A = ℕ} w 0 in
+    ap (take r) (sym (take-all w (replicate {A = ℕ} w 0) (omega (arith, n)))) ∙ take-lesser r w (replicate {A = ℕ} w 0) ∙ take-replicate (min w r) w 0 (omega arith)

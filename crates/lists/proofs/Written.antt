@@ -7,6 +7,7 @@ use native.Mathlib.Omega.{arith}
 use lib.ListN.{length, getD, set, take, drop, length-append, length-drop}
 use lib.Seq.{getD-drop, take-at, drop-at, drop-drop, length-take-le, take-all}
 use borrow.Rule.Slice.PartMut.{midOf, putMid}
+use Rattle.lists.specs.Written.{written}
 use Rattle.lists.proofs.Slices.{drop-end}
 use Rattle.lists.proofs.Copies.{copy-more}
 
@@ -30,10 +31,6 @@ copied-part a xs s ys h e =
     rw (e, whole, none, append-nil, drop-drop)
 
 -- ---- words written one after the other
-
--- the list with words written from a place on
-unfoldable pub written : List ℕ → ℕ → List ℕ → List ℕ
-written t at ws = take at t ++ (ws ++ drop (at + length ws) t)
 
 pub written-written : (t : List ℕ) (at : ℕ) (s s′ : List ℕ) → at + length s ≤ length t → written (written t at s) (at + length s) s′ ≡ written t at (s ++ s′)
 unfolding written

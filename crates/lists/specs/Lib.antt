@@ -5,6 +5,7 @@ pub mod Each
 pub mod Masks
 pub mod Over
 pub mod Upto
+pub mod Written
 pub mod Walk
 pub mod Marks
 pub mod Tells

@@ -7,6 +7,10 @@ ghost use Rattle.tills.specs.Answers.{listingAnswer};
 ghost use Rattle.restore.specs.Answers.{restoreAnswer};
 ghost use Rattle.retire.specs.Answers.{retireAnswer};
 ghost use Rattle.tally.specs.Answers.{tallyAnswer};
+ghost use Rattle.stream.specs.Stream.{readStream};
+ghost use Rattle.stream.specs.Version.{writeStreamOf};
+ghost use Rattle.stream_write.specs.Answers.{streamWritten};
+ghost use Rattle.stream_read.specs.Answers.{streamRead};
 ghost use Rattle.dispatcher.specs.Turns.{turnOf};
 ghost use Rattle.lurdempos.specs.Boundary.{theEight};
 use backup::BackedUp;
@@ -17,6 +21,8 @@ use layout::TableLength;
 use numbers::Measures;
 use restore::Restored;
 use retire::Retired;
+use stream_read::StreamRead;
+use stream_write::StreamWritten;
 use tally::Tally;
 use tills::Listing;
 
@@ -135,6 +141,26 @@ pub extern "C" fn lurdempos_tally(pool: &[u8], table: &[u32]) -> Tally
     ensures { λ r. ⌜ tallyAnswer r ≡ tallyOf (now (pool .entry)) (now (table .entry)) ⌝ }
 {
     store::tally(pool, table)
+}
+
+#[no_mangle]
+pub extern "C" fn lurdempos_write_stream(
+    pool: &[u8],
+    table: &[u32],
+    till: u32,
+    version: u32,
+    output: &mut [u8],
+) -> StreamWritten
+    ensures { λ r. ⌜ streamWritten r (now (output .exit)) ≡ writeStreamOf (now (pool .entry)) (now (table .entry)) till version (now (output .entry)) ⌝ }
+{
+    store::write_stream(pool, table, till, version, output)
+}
+
+#[no_mangle]
+pub extern "C" fn lurdempos_read_stream(stream: &[u8], output: &mut [u8]) -> StreamRead
+    ensures { λ r. ⌜ streamRead r (now (output .exit)) ≡ readStream (now (stream .entry)) (now (output .entry)) ⌝ }
+{
+    stream_read::read_stream(stream, output)
 }
 
 // The record comes and goes by value; between, it is kept here and lent to the dispatcher for the turn.

@@ -17,7 +17,8 @@ use Rattle.records.specs.Records.{recordOf, positions, recordIn, Formed}
 use Rattle.records.specs.declared.Record.{Record}
 use Rattle.lists.proofs.Filled.{over-zeros}
 use Rattle.lists.proofs.Slices.{drop-take}
-use Rattle.lists.proofs.Written.{written, written-written}
+use Rattle.lists.specs.Written.{written}
+use Rattle.lists.proofs.Written.{written-written}
 use Rattle.records.proofs.Records.{same-record, held-mask, removed-mask, blank-mask, cells-fill, counts-fill, front}
 
 -- ---- recordToWords

@@ -9,6 +9,8 @@ use Rattle.lists.specs.Lists.{isSome}
 use Rattle.model.specs.Sound.{storeOf}
 use Rattle.model.specs.Calls.{BackupAnswer, backupBy, backupIn, backupOf, ListingAnswer, RestoreAnswer, listingRefusal, listingIn, listingOf, restoreRefusal, restoreIn, restoreOf, RetireAnswer, retireIn, retireOf, TallyAnswer, tallyIn, tallyOf}
 use Rattle.laws.specs.Stores.{Sound}
+use Rattle.stream.specs.Stream.{streamRefusal}
+use Rattle.stream.specs.Version.{writeRestored, writeStreamOf}
 use Rattle.laws.proofs.Stores.{sound-if, none-if}
 
 module _ (pool table : List ℕ) (r : Bool) (e : r ≡ isSome (storeOf pool table)) where
@@ -25,6 +27,10 @@ module _ (pool table : List ℕ) (r : Bool) (e : r ≡ isSome (storeOf pool tabl
   pub restore-10 : not r ≡ true → (t v : ℕ) (output : List ℕ) → record { refusal = 10; length = 0; hops = 0; output = output } ≡ restoreOf pool table t v output
   unfolding restoreOf restoreIn restoreRefusal
   restore-10 n t v output = rw (no-store n)
+
+  pub stream-10 : not r ≡ true → (t v : ℕ) (output : List ℕ) → record { refusal = 10; length = 0; output = output } ≡ writeStreamOf pool table t v output
+  unfolding writeStreamOf writeRestored streamRefusal restoreOf restoreIn restoreRefusal
+  stream-10 n t v output = rw (no-store n)
 
   pub retire-10 : not r ≡ true → (t v : ℕ) → record { refusal = 10; length = 0; pool = pool; table = table } ≡ retireOf pool table t v
   unfolding retireOf retireIn

@@ -7,11 +7,14 @@ ghost use Rattle.tills.specs.Answers.{listingAnswer};
 ghost use Rattle.restore.specs.Answers.{restoreAnswer};
 ghost use Rattle.retire.specs.Answers.{retireAnswer};
 ghost use Rattle.tally.specs.Answers.{tallyAnswer};
+ghost use Rattle.stream.specs.Version.{writeStreamOf};
+ghost use Rattle.stream_write.specs.Answers.{streamWritten};
 use backup::BackedUp;
 use layout::Capacities;
 use layout::TableLength;
 use restore::Restored;
 use retire::Retired;
+use stream_write::StreamWritten;
 use tally::Tally;
 use tills::Listing;
 
@@ -90,4 +93,23 @@ pub fn tally(pool: &[u8], table: &[u32]) -> Tally
         };
     }
     tally::tally_store(pool, table)
+}
+
+// A version as a stream.
+pub fn write_stream(
+    pool: &[u8],
+    table: &[u32],
+    till: u32,
+    version: u32,
+    output: &mut [u8],
+) -> StreamWritten
+    ensures { λ r. ⌜ streamWritten r (now (output .exit)) ≡ writeStreamOf (now (pool .entry)) (now (table .entry)) till version (now (output .entry)) ⌝ }
+{
+    if !audit::sound(pool, table) {
+        return StreamWritten {
+            refusal: 10,
+            length: 0,
+        };
+    }
+    stream_version::write_version(pool, table, till, version, output)
 }

@@ -23,6 +23,7 @@ pub enum What {
     Listing,
     Tally,
     Restore { version: u32, room: usize },
+    WriteStream { version: u32 },
     Retire { till: u32, version: u32 },
     Backup { image: Vec<u8> },
 }
@@ -131,6 +132,8 @@ fn of_store(store: &Rc<Kept>, closing: &[u8], targets: bool) -> Vec<Case> {
         (What::Listing, Some(5.0)),
         (restore(2), Some(5.0)),
         (restore(64), Some(5.0)),
+        (What::WriteStream { version: 2 }, None),
+        (What::WriteStream { version: 64 }, None),
         (What::Retire { till: 0, version: 2 }, Some(5.0)),
         (What::Retire { till: 1, version: 32 }, Some(5.0)),
         (backup, Some(12.0)),
@@ -149,6 +152,8 @@ impl What {
             What::Tally => "tally".into(),
             What::Restore { version: 2, .. } => "restore of the oldest".into(),
             What::Restore { .. } => "restore of the newest".into(),
+            What::WriteStream { version: 2 } => "stream of the oldest".into(),
+            What::WriteStream { .. } => "stream of the newest".into(),
             What::Retire { till: 0, .. } => "retire of the oldest".into(),
             What::Retire { .. } => "retire of the middle of 64".into(),
             What::Backup { image } => format!("backup of {}", image.len()),
@@ -170,6 +175,7 @@ impl Case {
             What::Listing => store.listing(pool, table, 0)[0],
             What::Tally => store.tally(pool, table)[0],
             What::Restore { version, room } => store.restore(pool, table, 0, *version, &mut output[..*room])[0],
+            What::WriteStream { version } => store.write_stream(pool, table, 0, *version, output)[0],
             What::Retire { till, version } => store.retire(pool, table, *till, *version)[0],
             What::Backup { image } => store.backup(pool, table, 0, image)[0],
         }

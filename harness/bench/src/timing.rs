@@ -5,10 +5,10 @@ use lurdempos::Proved;
 use std::fmt;
 use std::hint::black_box;
 use std::time::{Duration, Instant};
-use terms::Calls;
+use terms::{Calls, LONGEST_IMAGE, LONGEST_STREAM};
 use twin::Twin;
 
-/// Most that the proved store may take of the twin's time.
+/// Most that the proved store may take of the twin's time, and a stream of a restore's and a pass over the image.
 const MOST: f64 = 1.25;
 
 /// The best times of one call.
@@ -19,6 +19,8 @@ pub struct Line {
     twin: f64,
     pass: f64,
     most_passes: Option<f64>,
+    /// Of a stream: a restore of the same version by the proved store and one pass over the image.
+    restored: Option<f64>,
 }
 
 /// The buffers that calls are made on.
@@ -37,8 +39,10 @@ pub fn time_all(cases: Vec<Case>, rounds: usize) -> Vec<Line> {
 }
 
 fn time(case: Case, rounds: usize) -> Line {
-    let mut work = Work { pool: case.store.pool.clone(), table: case.store.table.clone(), output: vec![0; 65_536] };
+    let mut work =
+        Work { pool: case.store.pool.clone(), table: case.store.table.clone(), output: vec![0; LONGEST_STREAM] };
     let mut best = [Duration::MAX; 3];
+    let mut restored = None;
     let mut refusals = [0; 2];
     for round in 0..rounds {
         for turn in 0..3 {
@@ -51,6 +55,10 @@ fn time(case: Case, rounds: usize) -> Line {
                     best[who] = best[who].min(taken);
                 }
             }
+            if let What::WriteStream { version } = case.what {
+                let taken = restore_and_pass(version, &mut work);
+                restored = Some(restored.map_or(taken, |best: Duration| best.min(taken)));
+            }
             if case.what.writes() {
                 work.pool.copy_from_slice(&case.store.pool);
                 work.table.copy_from_slice(&case.store.table);
@@ -58,10 +66,20 @@ fn time(case: Case, rounds: usize) -> Line {
         }
     }
     assert_eq!(refusals[0], refusals[1]);
+    let restored = restored.map(|time: Duration| time.as_nanos() as f64 / 1_000.0);
     let refused = if refusals[0] == 0 { String::new() } else { format!(", refused {}", refusals[0]) };
     let [proved, twin, pass] = best.map(|time| time.as_nanos() as f64 / 1_000.0);
     let call = case.what.name() + &refused;
-    Line { store: case.store.name, call, proved, twin, pass, most_passes: case.passes }
+    Line { store: case.store.name, call, proved, twin, pass, most_passes: case.passes, restored }
+}
+
+/// The least that writing a stream can cost: restoring the image and reading it once.
+fn restore_and_pass(version: u32, work: &mut Work) -> Duration {
+    let output = &mut work.output[..LONGEST_IMAGE as usize];
+    let start = Instant::now();
+    let [_, length, _] = Proved.restore(&work.pool, &work.table, 0, version, output);
+    black_box(black_box(&output[..length as usize]).iter().map(|&byte| byte as u64).sum::<u64>());
+    start.elapsed()
 }
 
 /// One call, or the mean of very many if it is a very short one.
@@ -102,6 +120,9 @@ impl Line {
         if let Some(most) = self.most_passes.filter(|&most| self.passes() > most) {
             misses.push(format!("- {call} on the {store} store: {:.1} read passes, at most {most}", self.passes()));
         }
+        if let Some(most) = self.restored.map(|time| time * MOST).filter(|&most| self.proved > most) {
+            misses.push(format!("- {call} on the {store} store: {:.1}, at most {most:.1}", self.proved));
+        }
         misses
     }
 }
@@ -111,7 +132,9 @@ impl fmt::Display for Line {
         let short = self.proved < 1.0;
         let time = |time: f64| if short { format!("{time:.4}") } else { format!("{time:.1}") };
         let passes = if short { String::new() } else { format!("{:.1}", self.passes()) };
-        let most = self.most_passes.map_or(String::new(), |most| format!("{most} passes, "));
+        let passes_most = self.most_passes.map(|most| format!("{most} passes, "));
+        let restored = self.restored.map(|time| format!("{MOST} × {time:.1} of restore and a pass over the image, "));
+        let most = passes_most.or(restored).unwrap_or_default();
         let mark = if self.misses().is_empty() { "met" } else { "**missed**" };
         let (store, call, ratio) = (self.store, &self.call, self.ratio());
         let (proved, twin) = (time(self.proved), time(self.twin));

@@ -4,7 +4,7 @@ use crate::images::Images;
 use crate::whole::Till;
 use crate::{Keeper, Random};
 use std::fmt;
-use terms::{Capacities, BLOCK_BYTES, LAST_NUMBER, SEGMENT_BLOCKS};
+use terms::{Capacities, BLOCK, BLOCK_BYTES, LAST_NUMBER, LONGEST_STREAM, SEGMENT, SEGMENT_BLOCKS};
 
 #[derive(Clone)]
 pub enum Call {
@@ -32,6 +32,7 @@ pub enum Call {
         till: u32,
     },
     Tally,
+    WriteStream { till: u32, version: u32, room: usize },
 }
 
 impl fmt::Debug for Call {
@@ -45,6 +46,9 @@ impl fmt::Debug for Call {
             Call::Retire { till, version } => write!(f, "retire till {till}, version {version}"),
             Call::Listing { till } => write!(f, "listing till {till}"),
             Call::Tally => write!(f, "tally"),
+            Call::WriteStream { till, version, room } => {
+                write!(f, "stream till {till}, version {version}, room {room}")
+            }
         }
     }
 }
@@ -128,7 +132,8 @@ impl List {
             4..=7 => Call::Listing { till: till_number },
             8 => Call::TableLength(self.capacities_near(random)),
             9 => self.refused_lay_out(random),
-            10..=29 => self.restore(random, till_number, till, wrong),
+            10..=26 => self.restore(random, till_number, till, wrong),
+            27..=29 => self.stream(random, till_number, till, wrong),
             _ if random.percent(retire) => {
                 let version = self.retired_version(random, till, wrong);
                 Call::Retire { till: till_number, version }
@@ -172,6 +177,18 @@ impl List {
         Call::Restore { till: number, version, room }
     }
 
+    fn stream(&self, random: &mut Random, number: u32, till: &Till, wrong: bool) -> Call {
+        let version = if wrong { any_version(random, till) } else { held_version(random, till) };
+        let length = till.image(version).map_or(0, stream_length);
+        let room = match random.below(6) {
+            0 => length.saturating_sub(1 + random.below(80)),
+            1 => length + random.below(200),
+            2 => LONGEST_STREAM,
+            _ => length,
+        };
+        Call::WriteStream { till: number, version, room }
+    }
+
     /// The store's capacities but for one of them.
     fn capacities_near(&self, random: &mut Random) -> Capacities {
         let mut eight = self.capacities.to_array();
@@ -199,6 +216,12 @@ impl List {
             Call::LayOut(capacities)
         }
     }
+}
+
+/// Bytes of an image's stream: its length, a byte for each eight blocks, and the blocks that are not null.
+pub fn stream_length(image: &[u8]) -> usize {
+    let full = image.chunks(BLOCK).filter(|block| block.iter().any(|&byte| byte != 0)).count();
+    4 + image.len().div_ceil(SEGMENT * BLOCK) + BLOCK * full
 }
 
 /// 0 if none is held.

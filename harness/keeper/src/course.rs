@@ -1,13 +1,14 @@
 //! One list of calls put to several stores and to the keeper: after each call all stores must have answered alike and
 //! have left the same pool, table and output, and both must be what the keeper knows.
 
+use crate::calls::stream_length;
 use crate::events::Events;
 use crate::words::Words;
 use crate::{Call, Keeper};
 use std::collections::BTreeSet;
 use terms::{Backup, Calls, Capacities, Refusal, LAST_NUMBER};
 
-/// What outputs are filled with before a restore.
+/// What outputs are filled with before they are lent.
 const UNTOUCHED: u8 = 0xa5;
 
 /// A store with its two buffers.
@@ -149,6 +150,7 @@ impl Course {
                 assert_eq!(answer[1] as usize, struck.len(), "{}", self.place(call));
             }
             Call::Restore { till, version, .. } => self.judge_restore(call, *till, *version, answer, output),
+            Call::WriteStream { till, version, .. } => self.judge_stream(call, *till, *version, answer, output),
             Call::Listing { till } => {
                 let listing = self.keeper.tills()[*till as usize].listing();
                 assert_eq!(answer[1..], [listing.oldest, listing.newest, listing.last], "{}", self.place(call));
@@ -173,6 +175,19 @@ impl Course {
         assert!(hops <= till.newer(version), "{}: chain of {hops}", self.place(call));
     }
 
+    /// Every store reads the stream that was written as the keeper's image.
+    fn judge_stream(&self, call: &Call, number: u32, version: u32, answer: [u32; 4], output: &[u8]) {
+        let image = self.keeper.tills()[number as usize].image(version).expect("the keeper holds it");
+        assert_eq!(answer[1] as usize, stream_length(image), "{}", self.place(call));
+        let (stream, later) = output.split_at(answer[1] as usize);
+        assert!(later.iter().all(|&byte| byte == UNTOUCHED), "{}: wrote too far", self.place(call));
+        for Lane { store, .. } in &self.lanes {
+            let mut read = vec![UNTOUCHED; image.len()];
+            assert_eq!(store.read_stream(stream, &mut read), [0, image.len() as u32], "{}", self.place(call));
+            assert!(read == image, "{}: another image", self.place(call));
+        }
+    }
+
     /// The refusal that the keeper expects. Of a backup's, 14 and 16 are beyond it.
     fn refusal(&self, call: &Call) -> Option<Refusal> {
         match call {
@@ -186,6 +201,11 @@ impl Course {
                 let Some(till) = self.keeper.till(*till) else { return Some(Refusal::NoSuchTill) };
                 let Some(image) = till.image(*version) else { return Some(Refusal::NotHeld) };
                 (*room < image.len()).then_some(Refusal::ShortOutput)
+            }
+            Call::WriteStream { till, version, room } => {
+                let Some(till) = self.keeper.till(*till) else { return Some(Refusal::NoSuchTill) };
+                let Some(image) = till.image(*version) else { return Some(Refusal::NotHeld) };
+                (*room < stream_length(image)).then_some(Refusal::ShortOutput)
             }
             Call::Retire { till, version } => {
                 let Some(till) = self.keeper.till(*till) else { return Some(Refusal::NoSuchTill) };
@@ -250,6 +270,10 @@ fn answer_by(earlier: Option<Backup>, lane: &mut Lane, call: &Call) -> Answer {
             output.resize(*room, UNTOUCHED);
             store.restore(pool, table, *till, *version, &mut output).to_vec()
         }
+        Call::WriteStream { till, version, room } => {
+            output.resize(*room, UNTOUCHED);
+            store.write_stream(pool, table, *till, *version, &mut output).to_vec()
+        }
         Call::Retire { till, version } => store.retire(pool, table, *till, *version).to_vec(),
         Call::Listing { till } => store.listing(pool, table, *till).to_vec(),
         Call::Tally => store.tally(pool, table).to_vec(),
@@ -268,5 +292,6 @@ fn letter(call: &Call) -> char {
         Call::Retire { .. } => 'q',
         Call::Listing { .. } => 'i',
         Call::Tally => 't',
+        Call::WriteStream { .. } => 's',
     }
 }

@@ -12,6 +12,9 @@ pub trait Calls {
     fn retire(&self, pool: &mut [u8], table: &mut [u32], till: u32, version: u32) -> [u32; 2];
     fn listing(&self, pool: &[u8], table: &[u32], till: u32) -> [u32; 4];
     fn tally(&self, pool: &[u8], table: &[u32]) -> [u32; 4];
+    fn write_stream(&self, pool: &[u8], table: &[u32], till: u32, version: u32, output: &mut [u8]) -> [u32; 2];
+    /// Reads a stream into an image. It needs no store.
+    fn read_stream(&self, stream: &[u8], output: &mut [u8]) -> [u32; 2];
     /// A turn of a record of tills, marks of those waiting and last till, which stands apart from any store. Answers the
     /// refusal, 1 if a till is served, that till, and the record after it.
     fn turn(&self, record: [u32; 3]) -> [u32; 6];

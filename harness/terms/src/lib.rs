@@ -15,6 +15,9 @@ pub const SEGMENT: usize = BASE[1] as usize;
 /// The last version number that a till can give.
 pub const LAST_NUMBER: u32 = 65_535;
 
+/// Bytes of the longest stream: an image of 65,536 bytes without a null block.
+pub const LONGEST_STREAM: usize = 4 + LONGEST_IMAGE as usize / (SEGMENT * BLOCK) * (1 + SEGMENT * BLOCK);
+
 /// What a listing of a till answers.
 #[derive(Clone, Copy, Debug, Default, PartialEq, Eq)]
 pub struct Listing {

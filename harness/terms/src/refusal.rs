@@ -17,11 +17,14 @@ pub enum Refusal {
     NoRecord = 14,
     NotHeld = 15,
     NoRun = 16,
+    StreamSize = 24,
+    StreamLength = 25,
+    StreamBits = 26,
     NoTurn = 27,
 }
 
 impl Refusal {
-    pub const ALL: [Refusal; 12] = [
+    pub const ALL: [Refusal; 15] = [
         Refusal::Capacity,
         Refusal::Lengths,
         Refusal::NoSuchTill,
@@ -33,6 +36,9 @@ impl Refusal {
         Refusal::NoRecord,
         Refusal::NotHeld,
         Refusal::NoRun,
+        Refusal::StreamSize,
+        Refusal::StreamLength,
+        Refusal::StreamBits,
         Refusal::NoTurn,
     ];
 
@@ -53,13 +59,18 @@ impl Refusal {
             Refusal::Lengths => "in laying out, pool or table of another length than needed",
             Refusal::NoSuchTill => "till number not below the tills",
             Refusal::ImageLength => "image empty, or longer than block size × blocks per image",
-            Refusal::ShortOutput => "output shorter than the version",
+            Refusal::ShortOutput => "output shorter than the version, its stream or a stream's image",
             Refusal::Unsound => "pool and table are not a sound store",
             Refusal::TillFull => "the till holds its full number of versions",
             Refusal::NumbersSpent => "its last given number is 65,535",
             Refusal::NoRecord => "a segment to be placed in step 1 finds no free record",
             Refusal::NotHeld => "that version is not held",
             Refusal::NoRun => "a segment to be placed finds no run",
+            Refusal::StreamSize => "a stream too short or too long",
+            Refusal::StreamLength => "a stream with a length of 0 or above 65,536",
+            Refusal::StreamBits => {
+                "a stream with a bit on a null or missing block, or a byte other than zero after the length"
+            }
             Refusal::NoTurn => "a till count outside 1 to 16, a mark at or above it, or a last till at or above it",
         }
     }
@@ -82,7 +93,7 @@ mod tests {
         for refusal in Refusal::ALL {
             assert_eq!(Refusal::from_number(refusal.number()), Some(refusal));
         }
-        for number in [0, 6, 7, 8, 9, 13, 17, 26, 28, u32::MAX] {
+        for number in [0, 6, 7, 8, 9, 13, 17, 23, 28, u32::MAX] {
             assert_eq!(Refusal::from_number(number), None);
         }
     }

@@ -51,6 +51,8 @@ impl<'a> Call<'a> {
             Refusal::NoRecord | Refusal::NoRun => self.no_room(refusal),
             Refusal::Unsound => return unsound(refusal, self.file),
             Refusal::Capacity | Refusal::Lengths | Refusal::ShortOutput | Refusal::NoTurn => unforeseen(),
+            // Streams are read before there is a call.
+            Refusal::StreamSize | Refusal::StreamLength | Refusal::StreamBits => unforeseen(),
         };
         Failure::refused(refusal, here, advice)
     }
@@ -169,6 +171,24 @@ fn filled_up(segment: &[u8], bytes: usize) -> Vec<u8> {
     let mut segment = segment.to_vec();
     segment.resize(bytes, 0);
     segment
+}
+
+/// What was read is no stream of an image. A bare image is what it most likely is otherwise.
+pub fn stream_refused(refusal: Refusal, name: &str, stream: &[u8]) -> Failure {
+    const AGAIN: &str = "write it once more with `lurdempos export`, and see that it comes over whole and alone.";
+    const BARE: &str = "take what `lurdempos export` wrote; a bare image is kept with `lurdempos backup`.";
+    let (here, advice) = match (refusal, stream.first_chunk()) {
+        (Refusal::StreamSize, _) if stream.is_empty() => {
+            (format!("nothing came from {name}"), "see what the command that should have written it says.")
+        }
+        (Refusal::StreamLength, Some(&length)) => {
+            let length = u32::from_le_bytes(length);
+            (format!("{name} begins with a length of {length}, an image has 1 to {LONGEST_IMAGE} bytes"), BARE)
+        }
+        (Refusal::StreamBits, _) => (format!("{name} has what no image's stream has, and was altered"), AGAIN),
+        _ => (format!("{name} ends before its last block, or goes on behind it"), AGAIN),
+    };
+    Failure::refused(refusal, here, advice.into())
 }
 
 /// The file has the form of a store's, but what is in it is no sound store.

@@ -12,15 +12,19 @@ use std::path::Path;
 
 /// The image in a file, or on standard input for `-`; or its beginning if it is longer than any store takes.
 pub fn read(path: &Path) -> Result<Vec<u8>, Failure> {
-    let most = u64::from(LONGEST_IMAGE) + 1;
-    let mut image = Vec::new();
+    read_beginning(path, LONGEST_IMAGE as usize + 1)
+}
+
+/// So many bytes of a file, or of standard input for `-`, or all if there are fewer.
+pub fn read_beginning(path: &Path, most: usize) -> Result<Vec<u8>, Failure> {
+    let mut bytes = Vec::new();
     let read = if is_input(path) {
-        io::stdin().lock().take(most).read_to_end(&mut image)
+        io::stdin().lock().take(most as u64).read_to_end(&mut bytes)
     } else {
-        File::open(path).and_then(|file| file.take(most).read_to_end(&mut image))
+        File::open(path).and_then(|file| file.take(most as u64).read_to_end(&mut bytes))
     };
     match read {
-        Ok(_) => Ok(image),
+        Ok(_) => Ok(bytes),
         Err(error) if is_input(path) => Err(Failure::file(format!("{}: cannot be read: {error}", name(path)))),
         Err(error) => Err(cannot_read(path, &error)),
     }

@@ -6,7 +6,7 @@ use lurdempos::{Capacities, Store};
 use std::fs;
 
 /// Every command on the file `s`.
-const LINES: [&str; 19] = [
+const LINES: [&str; 21] = [
     "backup s 0 image",
     "backup s 0 -",
     "restore s 0 1 out",
@@ -17,6 +17,8 @@ const LINES: [&str; 19] = [
     "verify s 0 1 image",
     "verify s 0 newest -",
     "diff s 0 1 2",
+    "export s 0 1 out",
+    "export s 0 1 -",
     "export-all s out",
     "grow s out",
     "list s",

@@ -5,13 +5,15 @@ use common::{letters, Bench, Run};
 use std::process::Command;
 
 /// Every command that answers, in an order in which all succeed.
-const LINES: [&str; 19] = [
+const LINES: [&str; 21] = [
     "init n --tills 1",
     "backup s 0 image",
     "backup s 0 image --unless-same",
     "backup s 0 image --dry-run",
     "backup s 0 other --rotate",
     "restore s 0 newest out",
+    "export s 0 newest stream",
+    "import s 1 stream",
     "verify s 0 newest other",
     "verify s 0 newest image",
     "diff s 0 1 2",

@@ -3,7 +3,7 @@
 mod common;
 use common::Bench;
 
-const COMMANDS: [&str; 14] = [
+const COMMANDS: [&str; 16] = [
     "init",
     "backup",
     "restore",
@@ -14,6 +14,8 @@ const COMMANDS: [&str; 14] = [
     "tally",
     "check",
     "map",
+    "export",
+    "import",
     "export-all",
     "grow",
     "salvage",
@@ -51,7 +53,7 @@ fn no_command() {
 }
 
 /// Wrong lines, and what is said about them.
-const WRONG: [(&str, &str); 46] = [
+const WRONG: [(&str, &str); 51] = [
     ("init", "FILE is missing"),
     ("init n m", "one argument too many: m"),
     ("init n --till 3", "unknown option --till"),
@@ -75,6 +77,11 @@ const WRONG: [(&str, &str); 46] = [
     ("restore s 0 1 - --json", "--json and an image cannot go to one output"),
     ("verify s 0 1", "IMAGE is missing"),
     ("diff s 0 1", "OTHER is missing"),
+    ("export s 0 1", "OUT is missing"),
+    ("export s 0 1 s", "is the store itself"),
+    ("export s 0 1 - --json", "--json and a stream cannot go to one output"),
+    ("import s 0", "IN is missing"),
+    ("import s 0 image --force", "unknown option --force"),
     ("export-all s", "FOLDER is missing"),
     ("salvage s", "FOLDER is missing"),
     ("grow s", "NEW is missing"),

@@ -6,7 +6,7 @@ use keeper::words::Words;
 use keeper::{Call, Random};
 use lurdempos::Proved;
 use std::collections::BTreeSet;
-use terms::Capacities;
+use terms::{Capacities, LONGEST_STREAM};
 use twin::Twin;
 
 /// What one round of calls was answered.
@@ -52,6 +52,7 @@ pub fn each_call(random: &mut Random, pool: &[u8], table: &[u32]) -> Vec<Call> {
         Call::Tally,
         Call::Listing { till },
         Call::Restore { till, version, room: capacities.image_bytes() },
+        Call::WriteStream { till, version, room: LONGEST_STREAM },
         Call::Retire { till, version },
         Call::Backup { till, image },
     ]

@@ -38,6 +38,7 @@ fn every_refusal() -> BTreeSet<(char, u32)> {
         ('q', &[0, 3, 15]),
         ('i', &[0, 3]),
         ('t', &[0]),
+        ('s', &[0, 3, 5, 15]),
     ];
     wanted.into_iter().flat_map(|(call, numbers)| numbers.iter().map(move |&number| (call, number))).collect()
 }

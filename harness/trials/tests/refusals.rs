@@ -149,6 +149,33 @@ fn others(store: &dyn Calls) -> Vec<(u32, u32)> {
     cases
 }
 
+/// Writing a stream 10, 3, 15, 5; reading one 24, 25, 5, then 24 and 26 in its order.
+fn streams(store: &dyn Calls) -> Vec<(u32, u32)> {
+    let mut one = Trial::of_page(store, 32);
+    store.backup(&mut one.pool, &mut one.table, 0, &letters("A"));
+    let mut stream = vec![0; 70];
+    let asked = [(1, 0, 0, 3), (u32::MAX, 1, 70, 3), (0, 0, 0, 15), (0, 2, 70, 15), (0, 1, 68, 5), (0, 1, 69, 0)];
+    let mut write = |(till, version, room, expected)| {
+        (store.write_stream(&one.pool, &one.table, till, version, &mut stream[..room])[0], expected)
+    };
+    let mut cases: Vec<(u32, u32)> = asked.into_iter().map(&mut write).collect();
+    cases.push((store.write_stream(&[], &[], 1, 0, &mut [])[0], 10));
+    let mut read = |stream: &[u8], room: usize, expected| {
+        cases.push((store.read_stream(stream, &mut vec![0; room])[0], expected));
+    };
+    read(&stream[..69], 64, 0);
+    read(&stream[..3], 0, 24);
+    read(&[0; 4], 0, 25);
+    read(&[1, 0, 1, 0], 0, 25);
+    read(&stream[..4], 63, 5);
+    read(&stream[..4], 64, 24);
+    read(&stream[..68], 64, 24);
+    read(&stream[..70], 64, 24);
+    read(&[&[64, 0, 0, 0, 1][..], &[0; 65]].concat(), 64, 26);
+    read(&[64, 0, 0, 0, 2], 64, 26);
+    cases
+}
+
 /// Turn 27: the till count, a mark, the last till.
 fn turns(store: &dyn Calls) -> Vec<(u32, u32)> {
     let refused = [[0, 0, 0], [17, 0, 0], [u32::MAX, 0, 0], [3, 8, 0], [3, 1 << 31, 0], [3, 0, 3], [3, 0, u32::MAX]];
@@ -162,6 +189,7 @@ fn every_number() {
     let mut met = numbers(capacities);
     met.extend(numbers(backups));
     met.extend(numbers(others));
+    met.extend(numbers(streams));
     met.extend(numbers(turns));
     let all: BTreeSet<u32> = Refusal::ALL.iter().map(|refusal| refusal.number()).chain([0]).collect();
     assert_eq!(met, all);

@@ -44,6 +44,14 @@ impl Calls for Twin {
         numbers(crate::tally(pool, table))
     }
 
+    fn write_stream(&self, pool: &[u8], table: &[u32], till: u32, version: u32, output: &mut [u8]) -> [u32; 2] {
+        numbers(crate::write_stream(pool, table, till, version, output))
+    }
+
+    fn read_stream(&self, stream: &[u8], output: &mut [u8]) -> [u32; 2] {
+        numbers(crate::read_stream(stream, output))
+    }
+
     fn turn(&self, mut record: [u32; 3]) -> [u32; 6] {
         let [tills, waiting, last] = &mut record;
         let [refusal, served, till] = match crate::take_turn(*tills, waiting, last) {

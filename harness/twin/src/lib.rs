@@ -9,6 +9,7 @@ mod place;
 mod rows;
 mod runs;
 mod sound;
+mod stream;
 mod sweep;
 mod take_over;
 mod trace;
@@ -19,6 +20,7 @@ pub use era::Era;
 use layout::{Layout, Place, Pointer, Record, HEADER, SLOT_HEAD, TILL_HEAD};
 pub use line::take_turn;
 use rows::Rows;
+pub use stream::{read_stream, stream_of, write_stream};
 use terms::{Capacities, Listing, Refusal, Restored, Tally, LAST_NUMBER};
 use trace::End;
 

@@ -73,6 +73,24 @@ impl Calls for Proved {
         [answer.refusal, answer.cells, answer.records, answer.counts]
     }
 
+    fn write_stream(&self, pool: &[u8], table: &[u32], till: u32, version: u32, output: &mut [u8]) -> [u32; 2] {
+        let room = output.len();
+        let output = output.as_mut_ptr();
+        // SAFETY: all three are slices, the output lent for writing to this call alone.
+        let answer = unsafe {
+            let (bytes, words) = (pool.len(), table.len());
+            raw::lurdempos_write_stream(pool.as_ptr(), bytes, table.as_ptr(), words, till, version, output, room)
+        };
+        [answer.refusal, answer.length]
+    }
+
+    fn read_stream(&self, stream: &[u8], output: &mut [u8]) -> [u32; 2] {
+        let (bytes, room) = (stream.len(), output.len());
+        // SAFETY: both are slices, the output lent for writing to this call alone.
+        let answer = unsafe { raw::lurdempos_read_stream(stream.as_ptr(), bytes, output.as_mut_ptr(), room) };
+        [answer.refusal, answer.length]
+    }
+
     fn turn(&self, [tills, waiting, last]: [u32; 3]) -> [u32; 6] {
         // SAFETY: no memory is lent.
         let raw::TurnResult { answer, turn } = unsafe { raw::lurdempos_turn(raw::TurnRecord { tills, waiting, last }) };

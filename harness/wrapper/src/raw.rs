@@ -60,6 +60,22 @@ pub struct TallyAnswer {
     pub counts: u32,
 }
 
+/// Of a writing of a stream.
+#[repr(C)]
+#[derive(Clone, Copy, Debug, PartialEq, Eq)]
+pub struct WriteStreamAnswer {
+    pub refusal: u32,
+    pub length: u32,
+}
+
+/// Of a reading of a stream.
+#[repr(C)]
+#[derive(Clone, Copy, Debug, PartialEq, Eq)]
+pub struct ReadStreamAnswer {
+    pub refusal: u32,
+    pub length: u32,
+}
+
 /// A turn record.
 #[repr(C)]
 #[derive(Clone, Copy, Debug, PartialEq, Eq)]
@@ -152,6 +168,24 @@ extern "C" {
     ) -> ListingAnswer;
 
     pub fn lurdempos_tally(pool: *const u8, pool_len: usize, table: *const u32, table_len: usize) -> TallyAnswer;
+
+    pub fn lurdempos_write_stream(
+        pool: *const u8,
+        pool_len: usize,
+        table: *const u32,
+        table_len: usize,
+        till: u32,
+        version: u32,
+        output: *mut u8,
+        output_len: usize,
+    ) -> WriteStreamAnswer;
+
+    pub fn lurdempos_read_stream(
+        stream: *const u8,
+        stream_len: usize,
+        output: *mut u8,
+        output_len: usize,
+    ) -> ReadStreamAnswer;
 
     pub fn lurdempos_turn(turn: TurnRecord) -> TurnResult;
 }

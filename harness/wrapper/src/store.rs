@@ -1,7 +1,7 @@
 //! A store that owns its two buffers.
 
 use crate::Proved;
-use terms::{Calls, Capacities, Listing, Refusal, Restored, Tally};
+use terms::{Calls, Capacities, Listing, Refusal, Restored, Tally, LONGEST_STREAM};
 
 /// Words of the table that these capacities need.
 pub fn table_length(capacities: Capacities) -> Result<usize, Refusal> {
@@ -67,6 +67,20 @@ impl Store {
         let restored = self.restore(till, version, &mut image)?;
         image.truncate(restored.length as usize);
         Ok(image)
+    }
+
+    /// Writes a version as a stream to the start of the output and answers the stream's length.
+    pub fn write_stream(&self, till: u32, version: u32, output: &mut [u8]) -> Result<u32, Refusal> {
+        let [refusal, length] = Proved.write_stream(&self.pool, &self.table, till, version, output);
+        accepted(refusal).map(|()| length)
+    }
+
+    /// A version's stream, which [`image_of_stream`](crate::image_of_stream) reads on another box.
+    pub fn stream(&self, till: u32, version: u32) -> Result<Vec<u8>, Refusal> {
+        let mut stream = vec![0; LONGEST_STREAM];
+        let length = self.write_stream(till, version, &mut stream)?;
+        stream.truncate(length as usize);
+        Ok(stream)
     }
 
     /// Takes a held version away and answers its length. Numbers go on; the others keep theirs.

@@ -17,13 +17,7 @@ use std::path::Path;
 pub static COMMAND: Command = Command {
     name: "backup",
     arguments: &[FILE, TILL, Argument::needed("IMAGE", Takes::File)],
-    options: &[
-        Opt::flag("--rotate", "retire the till's oldest version first if the till is full, in the same write"),
-        Opt::flag("--unless-same", "keep no new version if the till's newest has the same bytes"),
-        Opt::with("--bytes", "N", "keep the image only if it has exactly N bytes"),
-        DRY_RUN,
-        WAIT,
-    ],
+    options: &OPTIONS,
     about: "keep an image as the till's next version",
     help: "
 TILL is the till's number, from 0. IMAGE is a file with the till's memory, or - for standard input.
@@ -31,6 +25,15 @@ The reply tells the number of the new version.
 ",
     run,
 };
+
+/// The options of commands that keep an image.
+pub(super) static OPTIONS: [Opt; 5] = [
+    Opt::flag("--rotate", "retire the till's oldest version first if the till is full, in the same write"),
+    Opt::flag("--unless-same", "keep no new version if the till's newest has the same bytes"),
+    Opt::with("--bytes", "N", "keep the image only if it has exactly N bytes"),
+    DRY_RUN,
+    WAIT,
+];
 
 /// What became of an image.
 struct Outcome {
@@ -51,11 +54,19 @@ struct Asked<'a> {
 }
 
 fn run(arguments: &Arguments) -> Result<Reply, Failure> {
+    keep(arguments, image::read)
+}
+
+/// Keeps the image that is read from the third argument.
+pub(super) fn keep(
+    arguments: &Arguments,
+    read: impl FnOnce(&Path) -> Result<Vec<u8>, Failure>,
+) -> Result<Reply, Failure> {
     let (file, till) = (arguments.store()?, arguments.number(1)?);
     let patience = Patience::asked(arguments)?;
     let target = Target::existing(file)?;
     // Before the lock is taken: standard input may come slowly.
-    let image = image::read(arguments.path(2)?)?;
+    let image = read(arguments.path(2)?)?;
     refuse_length(arguments, &image)?;
     let (rotate, unless_same) = (arguments.has("--rotate"), arguments.has("--unless-same"));
     let asked = Asked { file, till, image: &image, rotate, unless_same };

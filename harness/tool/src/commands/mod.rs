@@ -6,8 +6,10 @@ mod check;
 mod demo;
 mod diff;
 mod dry_run;
+mod export;
 mod export_all;
 mod grow;
+mod import;
 mod init;
 mod list;
 mod map;
@@ -25,7 +27,7 @@ use crate::syntax::Command;
 use crate::{completions, help, manual, Failure};
 use std::ffi::{OsStr, OsString};
 
-pub static COMMANDS: [&Command; 14] = [
+pub static COMMANDS: [&Command; 16] = [
     &init::COMMAND,
     &backup::COMMAND,
     &restore::COMMAND,
@@ -36,6 +38,8 @@ pub static COMMANDS: [&Command; 14] = [
     &tally::COMMAND,
     &check::COMMAND,
     &map::COMMAND,
+    &export::COMMAND,
+    &import::COMMAND,
     &export_all::COMMAND,
     &grow::COMMAND,
     &salvage::COMMAND,

@@ -3,7 +3,7 @@ use mathlib.Core.Path.{_≡_, sym}
 use Prim.Native.Nat.{_≤_}
 use lib.ListN.{length, take}
 use lib.Seq.{length-take-le}
-use Rattle.lists.proofs.Written.{written}
+use Rattle.lists.specs.Written.{written}
 use Rattle.records.proofs.Words.{store-all}
 use borrow.Author.Needs.{needs}
 use Rattle.records.proofs.Record.store.Statement.{statement}

@@ -1,0 +1,2 @@
+-- Rows computed from the definitions.
+pub mod Rows

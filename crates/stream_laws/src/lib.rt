@@ -1,0 +1,1 @@
+// Laws of streams. Apart from the definitions, so that the rows alone refuse a wrong one.

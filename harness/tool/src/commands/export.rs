@@ -1,0 +1,65 @@
+//! `export`: a version as a stream, for another box.
+
+use crate::advice::Call;
+use crate::arguments::Arguments;
+use crate::json::Json;
+use crate::names::shown;
+use crate::output::{self, Output};
+use crate::patience::Patience;
+use crate::reply::Reply;
+use crate::storefile::{self, Opened};
+use crate::streams::Stream;
+use crate::syntax::{Argument, Command, Takes, FILE, FORCE, TILL, VERSION, WAIT};
+use crate::words::bytes;
+use crate::Failure;
+use std::os::unix::fs::MetadataExt;
+
+pub static COMMAND: Command = Command {
+    name: "export",
+    arguments: &[FILE, TILL, VERSION, Argument::needed("OUT", Takes::File)],
+    options: &[FORCE, WAIT],
+    about: "write a version as a stream, to move it to another box",
+    help: "
+VERSION is a number, or the word newest. OUT is a file, or - for standard output. A file that exists is
+replaced as a whole; nobody ever sees half of it. The stream has the image's length and its blocks that
+are not all zero; `lurdempos import` reads it into any store, whatever that store's measures:
+
+  lurdempos export a.lur 0 3 - | lurdempos import b.lur 5 -
+
+The bare image is what `restore` writes, and those of all versions `export-all`.
+",
+    run,
+};
+
+fn run(arguments: &Arguments) -> Result<Reply, Failure> {
+    let (file, till) = (arguments.store()?, arguments.number(1)?);
+    let (version, path) = (arguments.version(2)?, arguments.path(3)?);
+    let (patience, stream) = (Patience::asked(arguments)?, Stream::named(path));
+    if stream.is_some() && arguments.has("--json") {
+        return Err(arguments.wrong("--json and a stream cannot go to one output; name a file for the stream"));
+    }
+    output::apart(file, path)?;
+    let Opened { store, metadata, .. } = storefile::open(file)?;
+    let call = Call::of_till(file, &store, till);
+    let version = call.number(version)?;
+    let written = store.stream(till, version).map_err(|refusal| Call { version, ..call }.refused(refusal))?;
+    // It begins with the image's length.
+    let length = written.first_chunk().map_or(0, |&first| u32::from_le_bytes(first));
+    if let Some(stream) = stream {
+        return Ok(Reply::data(stream, written));
+    }
+    // A stream is not for more eyes than the store.
+    let mode = Some(metadata.mode());
+    Output { path, force: arguments.has("--force"), mode, patience }.put(&written)?;
+    let (shown, of, as_stream) = (shown(path), bytes(length as usize), bytes(written.len()));
+    let text = format!("till {till}: version {version} of {of} written to {shown}, a stream of {as_stream}\n");
+    let fields = Json::object([
+        ("file", file.into()),
+        ("till", till.into()),
+        ("version", version.into()),
+        ("output", path.into()),
+        ("bytes", length.into()),
+        ("stream_bytes", written.len().into()),
+    ]);
+    Ok(Reply::done(text, fields))
+}
