@@ -17,3 +17,5 @@ pub mod Bullets
 pub mod Streams
 pub mod Apart
 pub mod Demand
+pub mod Together
+pub mod Differ

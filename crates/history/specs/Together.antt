@@ -1,0 +1,71 @@
+-- §10, "Two tills closing together": "Lines arrive in either order." One claim, `EitherOrder`; proofs/Together.antt has its proof.
+use Prim.Native.Nat.{ℕ}
+use mathlib.Core.Path.{_≡_}
+use mathlib.Core.List.{List, [], _∷_}
+use mathlib.Core.Option.{some}
+use Rattle.model.specs.Measures.{Shape}
+use Rattle.model.specs.State.{Shelf, Version}
+use Rattle.model.specs.Trace.{imageOf, longestChain}
+use Rattle.model.specs.Sound.{Store, storeOf}
+use Rattle.model.specs.Calls.{layoutOf, tillOf}
+use Rattle.history.specs.Calls.{Call, callLayout, callBackup, callRestore, callRetire, callListing, callTally, callWriteStream, Buffers, refusalOf, buffersAfterAll, buffersAfter, answerOf, refusedLayouts}
+use Rattle.history.specs.View.{tillNamed}
+use Rattle.history.specs.Demand.{laidOutIn}
+
+-- "each a backup of a full image, restore or retire"; a backup was made before blank blocks were known, or with them
+abbrev pub IsBackupRestoreOrRetire : Call → Type 0
+IsBackupRestoreOrRetire (callLayout c) = ⊥
+IsBackupRestoreOrRetire (callBackup era t image) = Unit {0}
+IsBackupRestoreOrRetire (callRestore t v output) = Unit {0}
+IsBackupRestoreOrRetire (callRetire t v) = Unit {0}
+IsBackupRestoreOrRetire (callListing t) = ⊥
+IsBackupRestoreOrRetire callTally = ⊥
+IsBackupRestoreOrRetire (callWriteStream t v output) = ⊥
+
+-- the first is accepted, and then the second
+abbrev pub AcceptedInTurn : Buffers → Call → Call → Type 0
+AcceptedInTurn b first second = (refusalOf b first ≡ 0) × (refusalOf (buffersAfter b first) second ≡ 0)
+
+-- a version that a till holds: its number, its length, its image and its longest chain
+pub record HeldVersion : Type 0 where
+  pub number : ℕ
+  pub length : ℕ
+  pub image : List ℕ
+  pub chain : ℕ
+
+-- the versions of a till, the oldest first
+unfoldable pub heldVersions : ℕ → Shelf → List Version → List HeldVersion
+heldVersions bytes shelf [] = []
+heldVersions bytes shelf (v ∷ newer) =
+    record { number = v .number; length = v .length; image = imageOf bytes shelf (v ∷ newer); chain = longestChain (v ∷ newer) } ∷ heldVersions bytes shelf newer
+
+-- what till `t` of a store holds
+unfoldable pub heldBy : Store → ℕ → List HeldVersion
+heldBy store t = heldVersions (store .shape .measures .blockBytes) (store .state .shelf) (tillOf (store .state) t .versions)
+
+-- Both are stores, and their tills hold the same. Nothing is said of cells and records, which "may differ".
+pub record SameTills (b b′ : Buffers) : Type 0 where
+  pub one : Store
+  pub other : Store
+  pub isOne : storeOf (b .pool) (b .table) ≡ some one
+  pub isOther : storeOf (b′ .pool) (b′ .table) ≡ some other
+  -- "the tills then hold the same numbers, lengths and images and every version has the same longest chain"
+  pub held : (t : ℕ) → heldBy one t ≡ heldBy other t
+  -- so every restore answers the same and leaves the same output, and every listing answers the same
+  pub restores : (t v : ℕ) (output : List ℕ) → answerOf b (callRestore t v output) ≡ answerOf b′ (callRestore t v output)
+  pub listings : (t : ℕ) → answerOf b (callListing t) ≡ answerOf b′ (callListing t)
+
+-- "For two calls on different tills, … accepted in both orders"
+abbrev pub OrderFree : Buffers → Type 0
+OrderFree b =
+    (c d : Call) → IsBackupRestoreOrRetire c → IsBackupRestoreOrRetire d
+    → ¬ (tillNamed c ≡ tillNamed d)
+    → AcceptedInTurn b c d
+    → AcceptedInTurn b d c
+    → SameTills (buffersAfterAll b (c ∷ d ∷ [])) (buffersAfterAll b (d ∷ c ∷ []))
+
+-- The claim: on every store that a list of calls leaves, from any accepted lay out, as in demand 3.
+abbrev pub EitherOrder : Type 0
+EitherOrder =
+    (s : Shape) (pool table : List ℕ) (calls : List Call) → layoutOf s pool table .refusal ≡ 0 → refusedLayouts (laidOutIn s pool table) calls
+    → OrderFree (buffersAfterAll (laidOutIn s pool table) calls)
