@@ -23,8 +23,9 @@
  *   11  the till holds its full number of versions
  *   12  its last given number is 65,535
  *   14  a segment to be placed finds no free record
- *   15  that version is not held
  *   16  a segment to be placed finds no run
+ *   17  a version number never given: 0, or above the till's last given
+ *   18  a version number given before and no longer held: it was retired
  *   24  a stream too short or too long
  *   25  a stream with a length of 0 or above 65,536
  *   26  a stream with a bit on a null or missing block, or a byte other than
@@ -32,7 +33,8 @@
  *   27  a till count outside 1 to 16, a mark at or above it, or a last till at
  *       or above it
  *
- * 13 is no longer answered: any held version can be retired.
+ * 13 and 15 are no longer answered: any held version can be retired, and 17 and
+ * 18 tell apart why a version is not held.
  *
  * Link with target/staticlib/liblurdempos.a, which `rt staticlib lurdempos`
  * proves and builds.
@@ -58,8 +60,9 @@ extern "C" {
 #define LURDEMPOS_TILL_FULL 11
 #define LURDEMPOS_NUMBERS_USED_UP 12
 #define LURDEMPOS_NO_FREE_RECORD 14
-#define LURDEMPOS_NOT_HELD 15
 #define LURDEMPOS_NO_RUN 16
+#define LURDEMPOS_NEVER_GIVEN 17
+#define LURDEMPOS_NO_LONGER_HELD 18
 #define LURDEMPOS_STREAM_SIZE 24
 #define LURDEMPOS_STREAM_LENGTH 25
 #define LURDEMPOS_STREAM_BITS 26
@@ -186,7 +189,7 @@ struct lurdempos_backup_answer lurdempos_backup(
     uint32_t till, const uint8_t *image, size_t image_bytes);
 
 /* Writes the version to the front of the output; later bytes stay.
- * Refusals: 10, 3, 15, 5. */
+ * Refusals: 10, 3, 17 or 18, 5. */
 struct lurdempos_restore_answer lurdempos_restore(
     const uint8_t *pool, size_t pool_bytes, const uint32_t *table,
     size_t table_words, uint32_t till, uint32_t version, uint8_t *output,
@@ -194,7 +197,7 @@ struct lurdempos_restore_answer lurdempos_restore(
 
 /* Takes a held version away, whichever it is. The others keep their numbers,
  * so that those held may have gaps; numbers go on.
- * Refusals: 10, 3, 15. */
+ * Refusals: 10, 3, 17 or 18. */
 struct lurdempos_retire_answer lurdempos_retire(
     uint8_t *pool, size_t pool_bytes, uint32_t *table, size_t table_words,
     uint32_t till, uint32_t version);
@@ -215,7 +218,7 @@ struct lurdempos_tally_answer lurdempos_tally(
  * them, and only the blocks whose bit stands. Blocks of zeros have no bit,
  * missing blocks of the last eight neither. It does not depend on the store's
  * block_bytes and segment_blocks. It has at most LURDEMPOS_LONGEST_STREAM bytes.
- * Refusals: 10, 3, 15, 5. */
+ * Refusals: 10, 3, 17 or 18, 5. */
 struct lurdempos_write_stream_answer lurdempos_write_stream(
     const uint8_t *pool, size_t pool_bytes, const uint32_t *table,
     size_t table_words, uint32_t till, uint32_t version, uint8_t *output,

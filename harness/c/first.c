@@ -129,7 +129,8 @@ int main(void)
         || tally.records != 1 || tally.counts != 4)
         return 1;
     retired = lurdempos_retire(pool, sizeof pool, table, words, 1, 2);
-    if (!expect("retire of 2", retired.refusal, LURDEMPOS_NOT_HELD))
+    if (!expect("retire of 2, never given", retired.refusal,
+                LURDEMPOS_NEVER_GIVEN))
         return 1;
     backup = lurdempos_backup(pool, sizeof pool, table, words, 1, image, 400);
     if (!expect("backup", backup.refusal, LURDEMPOS_ACCEPTED) || backup.version != 2)
@@ -137,6 +138,12 @@ int main(void)
     retired = lurdempos_retire(pool, sizeof pool, table, words, 1, 2);
     if (!expect("retire of 2, the newest", retired.refusal, LURDEMPOS_ACCEPTED)
         || retired.length != 400)
+        return 1;
+    restored = lurdempos_restore(pool, sizeof pool, table, words, 1, 2, output,
+                                 sizeof output);
+    if (!expect("restore of 2, no longer held", restored.refusal,
+                LURDEMPOS_NO_LONGER_HELD)
+        || restored.length != 0)
         return 1;
     listing = lurdempos_listing(pool, sizeof pool, table, words, 1);
     if (!expect("listing", listing.refusal, LURDEMPOS_ACCEPTED)

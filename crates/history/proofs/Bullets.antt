@@ -8,13 +8,14 @@ use native.Mathlib.Omega.{arith}
 use lib.ListN.{length, drop, List·getD-eq-default}
 use lib.Seq.{getD-set-same}
 use lib.Dec.{eqb, leb, ltb}
-use borrow.Author.Tests.{le-ltb, lt-ltb, leb-true, leb-false}
+use borrow.Author.Tests.{le-leb, le-ltb, lt-leb, lt-ltb, leb-true, leb-false}
 use Rattle.lists.proofs.Tests.{by-test}
 use Rattle.model.specs.Measures.{Shape}
 use Rattle.model.specs.Image.{Era}
 use Rattle.model.specs.State.{State}
 use Rattle.model.specs.Trace.{longestChain}
-use Rattle.model.specs.Calls.{tillOf, heldFrom, backupBy, restoreOf, restoreRefusal, retireOf, listingOf, listingRefusal, RestoreAnswer, ListingAnswer, retire, backup}
+use Rattle.laws.proofs.Tills.{not-held-some}
+use Rattle.model.specs.Calls.{tillOf, heldFrom, backupBy, restoreOf, restoreRefusal, retireOf, listingOf, listingRefusal, RestoreAnswer, ListingAnswer, retire, backup, notHeld}
 use Rattle.history.specs.Calls.{Call, callBackup, callRestore, callRetire, callListing, Buffers, Answer, laidOut, backedUp, restored, retired, listed, tallied, streamed, answerOf, refusalIn}
 use Rattle.history.specs.Keeper.{Kept, KeptTill, Keeper, noTill, keptTill, filed, fed, keptFrom, oldestKept, newestKept}
 use Rattle.history.specs.View.{VersionView, TillView, viewOf, viewAt, isOnTill, tillNamed, chainShown, shownFrom, oldestShown, newestShown, restoreShown, retireShown, answerShown}
@@ -60,10 +61,10 @@ pub answer-shown : (s : Shape) (b : Buffers) (st : State) → Left s b st → (c
 answer-shown s b st l call on room = let same = answer-same s b st call l in same ∙ answer-in s st call on (subst (HasRoom call) same room)
 
 -- an accepted retire's length
-struck-length : (hs : List VersionView) → refusalIn (retireShown hs) ≡ 0 → (w : VersionView) × (newer : List VersionView) × (hs ≡ w ∷ newer) × (numberIn (retireShown hs) ≡ w .length)
+struck-length : (n : ℕ) → 0 < n → (hs : List VersionView) → refusalIn (retireShown n hs) ≡ 0 → (w : VersionView) × (newer : List VersionView) × (hs ≡ w ∷ newer) × (numberIn (retireShown n hs) ≡ w .length)
 unfolding retireShown refusalIn numberIn
-struck-length [] z = absurd (suc-ne-zero 14 z)
-struck-length (w ∷ ws) z = (w, ws, refl, refl)
+struck-length n h [] z = absurd (omega (arith, h, z))
+struck-length n h (w ∷ ws) z = (w, ws, refl, refl)
 
 -- of versions that agree with one that is shown, the first
 first-kept : (bytes : ℕ) (xs : List Kept) (w : VersionView) (ws : List VersionView) → Agree bytes xs (w ∷ ws)
@@ -84,7 +85,7 @@ module _ (s : Shape) (b : Buffers) (st : State) (k : Keeper) (l : Left s b st) (
   held t v = agree-from (s .measures .blockBytes) v (keptTill k t .versions) (viewAt (s .measures .blockBytes) st t .versions) (z .tills t .1)
 
   restore-is : (t v : ℕ) (output : List ℕ) → restoreOf (b .pool) (b .table) t v output
-      ≡ cond (leb (s .capacities .tills) t) (restoreRefusal 3 output) (restoreShown (shownFrom v (shown t .versions)) output)
+      ≡ cond (leb (s .capacities .tills) t) (restoreRefusal 3 output) (restoreShown (notHeld (shown t .last) v) (shownFrom v (shown t .versions)) output)
   unfolding unrestored answerOf answerShown tillNamed shown
   restore-is t v output = ap unrestored (answer-is (callRestore t v output) refl tt)
 
@@ -108,17 +109,29 @@ module _ (s : Shape) (b : Buffers) (st : State) (k : Keeper) (l : Left s b st) (
           absurd (suc-ne-zero (length newer) (ap length (sym e ∙ gone out)))
       go false q = q
 
+  last-is : (t : ℕ) → shown t .last ≡ keptTill k t .last
+  unfolding shown
+  last-is t = z .tills t .0
+
+  -- a till of the keeper is there
+  there : (t : ℕ) → t < length k → leb (s .capacities .tills) t ≡ false
+  there t q = lt-leb (s .capacities .tills) t (omega (arith, q, z .many))
+
+  -- what is not held is not shown
+  none-shown : (t v : ℕ) → keptFrom v (keptTill k t .versions) ≡ [] → Agree (s .measures .blockBytes) [] (shownFrom v (shown t .versions))
+  none-shown t v e = subst (λ (xs : List Kept). Agree (s .measures .blockBytes) xs (shownFrom v (shown t .versions))) e (held t v)
+
   -- a restore of a held version, which is shown as `w` with the newer ones `ws`
   held-is : (t v : ℕ) (x : Kept) (newer : List Kept) (output : List ℕ) (Q : RestoreAnswer → Type 0) → keptFrom v (keptTill k t .versions) ≡ x ∷ newer
-      → ((w : VersionView) (ws : List VersionView) → Agree (s .measures .blockBytes) (x ∷ newer) (w ∷ ws) → shownFrom v (shown t .versions) ≡ w ∷ ws → Q (restoreShown (w ∷ ws) output))
+      → ((w : VersionView) (ws : List VersionView) → Agree (s .measures .blockBytes) (x ∷ newer) (w ∷ ws) → shownFrom v (shown t .versions) ≡ w ∷ ws → Q (restoreShown (notHeld (shown t .last) v) (w ∷ ws) output))
       → Q (restoreOf (b .pool) (b .table) t v output)
   held-is t v x newer output Q e f =
       subst Q
       (sym (restore-is t v output
-      ∙ ap (λ (q : Bool). cond q (restoreRefusal 3 output) (restoreShown (shownFrom v (shown t .versions)) output)) (held-there t v x newer e)))
+      ∙ ap (λ (q : Bool). cond q (restoreRefusal 3 output) (restoreShown (notHeld (shown t .last) v) (shownFrom v (shown t .versions)) output)) (held-there t v x newer e)))
       (go (shownFrom v (shown t .versions)) refl (subst (λ (xs : List Kept). Agree (s .measures .blockBytes) xs (shownFrom v (shown t .versions))) e (held t v)))
     where
-      go : (hs : List VersionView) → shownFrom v (shown t .versions) ≡ hs → Agree (s .measures .blockBytes) (x ∷ newer) hs → Q (restoreShown hs output)
+      go : (hs : List VersionView) → shownFrom v (shown t .versions) ≡ hs → Agree (s .measures .blockBytes) (x ∷ newer) hs → Q (restoreShown (notHeld (shown t .last) v) hs output)
       go [] q a = absurd a
       go (w ∷ ws) q a = f w ws a q
 
@@ -142,19 +155,24 @@ module _ (s : Shape) (b : Buffers) (st : State) (k : Keeper) (l : Left s b st) (
         ));
     short = λ t v x newer output e q.
         held-is t v x newer output (λ (r : RestoreAnswer). r .refusal ≡ 5) e (λ w ws a y. rw (lt-ltb (length output) (w .length) (omega (arith, q, a .0 .size))) refl);
-    notHeld = λ t v output e.
-        subst (λ (r : RestoreAnswer). ¬ (r .refusal ≡ 0)) (sym (restore-is t v output))
-        (by-test (λ (r : RestoreAnswer). ¬ (r .refusal ≡ 0)) (leb (s .capacities .tills) t) (λ q z. suc-ne-zero 2 z)
-        (λ q. none output (shownFrom v (shown t .versions)) (subst (λ (xs : List Kept). Agree (s .measures .blockBytes) xs (shownFrom v (shown t .versions))) e (held t v))));
+    notHeld = λ t v output e q.
+        ap (λ (r : RestoreAnswer). r .refusal) (restore-is t v output)
+        ∙ ap (λ (b : Bool). cond b (restoreRefusal 3 output) (restoreShown (notHeld (shown t .last) v) (shownFrom v (shown t .versions)) output) .refusal) (there t q)
+        ∙ none (notHeld (shown t .last) v) output (shownFrom v (shown t .versions)) (none-shown t v e)
+        ∙ ap (λ (n : ℕ). notHeld n v) (last-is t);
+    noTill = λ t v output q.
+        ap (λ (r : RestoreAnswer). r .refusal) (restore-is t v output)
+        ∙ ap (λ (b : Bool). cond b (restoreRefusal 3 output) (restoreShown (notHeld (shown t .last) v) (shownFrom v (shown t .versions)) output) .refusal)
+        (le-leb (s .capacities .tills) t (omega (arith, q, z .many)));
     chain = λ t v x newer output e.
         held-is t v x newer output (λ (r : RestoreAnswer). r .hops ≤ length newer) e (λ w ws a y.
         by-test (λ (r : RestoreAnswer). r .hops ≤ length newer) (ltb (length output) (w .length)) (λ q. zero-le)
         (λ q. subst (λ (n : ℕ). chainShown (w ∷ ws) ≤ n) (agree-length (s .measures .blockBytes) newer ws (a .1)) (chain-most s (l .fit .proper) st (l .sound) t v w ws (unfold shown in y))));
   }
     where
-      none : (output : List ℕ) (hs : List VersionView) → Agree (s .measures .blockBytes) [] hs → ¬ (restoreShown hs output .refusal ≡ 0)
-      none output [] a = unfold restoreShown restoreRefusal in (λ z. suc-ne-zero 14 z)
-      none output (w ∷ ws) a = absurd a
+      none : (n : ℕ) (output : List ℕ) (hs : List VersionView) → Agree (s .measures .blockBytes) [] hs → restoreShown n hs output .refusal ≡ n
+      none n output [] a = unfold restoreShown restoreRefusal in refl
+      none n output (w ∷ ws) a = absurd a
 
   -- an accepted backup
   room : (era : Era) (t : ℕ) (image : List ℕ) → backupBy era (b .pool) (b .table) t image .refusal ≡ 0 → Roomy (answerOf b (callBackup era t image))
@@ -199,17 +217,13 @@ module _ (s : Shape) (b : Buffers) (st : State) (k : Keeper) (l : Left s b st) (
   unfolding fed keptTill filed
   fed-last era t image h = ap (λ (y : KeptTill). y .last) (getD-set-same k t (filed (keptTill k t) image) noTill h)
 
-  last-is : (t : ℕ) → shown t .last ≡ keptTill k t .last
-  unfolding shown
-  last-is t = z .tills t .0
-
   retire-given : (t v : ℕ) → retireOf (b .pool) (b .table) t v .refusal ≡ 0
       → (x : Kept) × (newer : List Kept) × (keptFrom v (keptTill k t .versions) ≡ x ∷ newer) × (retireOf (b .pool) (b .table) t v .length ≡ length (x .image))
   unfolding answerOf answerShown tillNamed refusalIn numberIn shown
   retire-given t v =
       subst (λ (a : Answer). refusalIn a ≡ 0 → Struck (numberIn a)) (sym (answer-is (callRetire t v) refl tt))
       (by-test (λ (a : Answer). refusalIn a ≡ 0 → Struck (numberIn a)) (leb (s .capacities .tills) t) (λ q z. absurd (suc-ne-zero 2 z))
-      (λ q z. go (struck-length (shownFrom v (shown t .versions)) z)))
+      (λ q z. go (struck-length (notHeld (shown t .last) v) (not-held-some (shown t .last) v) (shownFrom v (shown t .versions)) z)))
     where
       Struck : ℕ → Type 0
       Struck n = (x : Kept) × (newer : List Kept) × (keptFrom v (keptTill k t .versions) ≡ x ∷ newer) × (n ≡ length (x .image))
@@ -224,12 +238,24 @@ module _ (s : Shape) (b : Buffers) (st : State) (k : Keeper) (l : Left s b st) (
   unfolding answerOf answerShown tillNamed refusalIn shown
   retire-goes t v x newer e =
       ap refusalIn (answer-is (callRetire t v) refl tt)
-      ∙ ap (λ (q : Bool). refusalIn (cond q (retired 3 0) (retireShown (shownFrom v (shown t .versions))))) (held-there t v x newer e)
+      ∙ ap (λ (q : Bool). refusalIn (cond q (retired 3 0) (retireShown (notHeld (shown t .last) v) (shownFrom v (shown t .versions))))) (held-there t v x newer e)
       ∙ go (shownFrom v (shown t .versions)) (subst (λ (xs : List Kept). Agree (s .measures .blockBytes) xs (shownFrom v (shown t .versions))) e (held t v))
     where
-      go : (hs : List VersionView) → Agree (s .measures .blockBytes) (x ∷ newer) hs → refusalIn (retireShown hs) ≡ 0
+      go : (hs : List VersionView) → Agree (s .measures .blockBytes) (x ∷ newer) hs → refusalIn (retireShown (notHeld (shown t .last) v) hs) ≡ 0
       go [] a = absurd a
       go (w ∷ ws) a = unfold retireShown refusalIn in refl
+
+  retire-not : (t v : ℕ) → keptFrom v (keptTill k t .versions) ≡ [] → t < length k → retireOf (b .pool) (b .table) t v .refusal ≡ notHeld (keptTill k t .last) v
+  unfolding answerOf answerShown tillNamed refusalIn shown
+  retire-not t v e h =
+      ap refusalIn (answer-is (callRetire t v) refl tt)
+      ∙ ap (λ (q : Bool). refusalIn (cond q (retired 3 0) (retireShown (notHeld (shown t .last) v) (shownFrom v (shown t .versions))))) (there t h)
+      ∙ go (notHeld (shown t .last) v) (shownFrom v (shown t .versions)) (none-shown t v e)
+      ∙ ap (λ (n : ℕ). notHeld n v) (last-is t)
+    where
+      go : (n : ℕ) (hs : List VersionView) → Agree (s .measures .blockBytes) [] hs → refusalIn (retireShown n hs) ≡ n
+      go n [] a = unfold retireShown refusalIn in refl
+      go n (w ∷ ws) a = absurd a
 
   pub answers : Answers (s .measures .blockBytes) st k b
   unfolding listingRefusal
@@ -249,5 +275,6 @@ module _ (s : Shape) (b : Buffers) (st : State) (k : Keeper) (l : Left s b st) (
         let g = backup-given era t image e in
         g .0 ∙ ap suc (last-is t) ∙ sym (fed-last era t image (omega (arith, leb-false (s .capacities .tills) t (g .1), z .many)));
     goes = retire-goes;
+    notHeld = retire-not;
     retire = retire-given;
   }

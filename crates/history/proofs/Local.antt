@@ -16,7 +16,7 @@ use Rattle.model.specs.Records.{isFree, equals}
 use Rattle.model.specs.Runs.{Run, findRun}
 use Rattle.model.specs.Place.{Placed, stored, writeRun, writeRecord, shareOrWrite, placeSegment, afterSome, placeNext, placeAll}
 use Rattle.model.specs.Trace.{imageOf}
-use Rattle.model.specs.Calls.{tillOf, heldFrom, restoreFrom, restoreRefusal, restore, heldBefore, retireFrom, retire, fileIn, placeAndFile, backup, listTill, listingRefusal, listingIn, RestoreAnswer, After}
+use Rattle.model.specs.Calls.{tillOf, heldFrom, restoreFrom, restoreRefusal, restore, heldBefore, retireFrom, retire, fileIn, placeAndFile, backup, listTill, listingRefusal, listingIn, RestoreAnswer, After, firstOf, notHeld, lookUp}
 use Rattle.stream.specs.Version.{longestOutput, writeRestored, writeVersion}
 use Rattle.history.specs.Calls.{Call, callLayout, callBackup, callRestore, callRetire, callListing, callTally, callWriteStream, Answer, backedUp, restored, retired, listed, streamed, outcomeRefusal, outcomeNumber, answerIn}
 use Rattle.history.specs.View.{VersionView, viewVersions, viewOf, viewAt, isOnTill, tillNamed, shownFrom, restoreShown, retireShown, answerShown}
@@ -112,17 +112,18 @@ backup-shown era s st t image =
 -- a restore, from what the till shows
 restore-view : (s : Shape) (st : State) (t v : ℕ) (output : List ℕ)
     → restore s st t v output
-    ≡ cond (leb (s .capacities .tills) t) (restoreRefusal 3 output) (restoreShown (shownFrom v (viewAt (s .measures .blockBytes) st t .versions)) output)
-unfolding restore viewOf
+    ≡ cond (leb (s .capacities .tills) t) (restoreRefusal 3 output) (restoreShown (notHeld (viewAt (s .measures .blockBytes) st t .last) v) (shownFrom v (viewAt (s .measures .blockBytes) st t .versions)) output)
+unfolding restore lookUp viewOf
 restore-view s st t v output =
     ap (λ (r : RestoreAnswer). cond (leb (s .capacities .tills) t) (restoreRefusal 3 output) r)
-    (first (heldFrom v (tillOf st t .versions)) ∙ ap (λ (l : List VersionView). restoreShown l output) (sym (from-same (s .measures .blockBytes) (st .shelf) v (tillOf st t .versions))))
+    (first (heldFrom v (tillOf st t .versions)) ∙ ap (λ (l : List VersionView). restoreShown (notHeld (tillOf st t .last) v) l output) (sym (from-same (s .measures .blockBytes) (st .shelf) v (tillOf st t .versions))))
   where
     first : (vs : List Version)
-        → restoreFrom (s .measures .blockBytes) (st .shelf) vs output ≡ restoreShown (viewVersions (s .measures .blockBytes) (st .shelf) vs) output
-    first [] = unfold restoreFrom restoreShown viewVersions in refl
+        → restoreFrom (s .measures .blockBytes) (st .shelf) (firstOf (notHeld (tillOf st t .last) v) (heldBefore v (tillOf st t .versions)) vs) output
+        ≡ restoreShown (notHeld (tillOf st t .last) v) (viewVersions (s .measures .blockBytes) (st .shelf) vs) output
+    first [] = unfold restoreFrom firstOf restoreShown viewVersions in refl
     first (w ∷ ws) =
-        unfold restoreFrom restoreShown viewVersions in
+        unfold restoreFrom firstOf restoreShown viewVersions in
         ap (λ (c : ℕ). cond (ltb (length output) (w .length)) (restoreRefusal 5 output)
         (record { refusal = 0; length = w .length; hops = c; output = imageOf (s .measures .blockBytes) (st .shelf) (w ∷ ws) ++ drop (w .length) output }))
         (unfold viewVersions in chain-is (s .measures .blockBytes) (st .shelf) (w ∷ ws))
@@ -141,20 +142,20 @@ abbrev retiredFrom : Outcome After → Answer
 retiredFrom o = retired (outcomeRefusal o) (outcomeNumber o)
 
 retire-shown : (s : Shape) (st : State) (t v : ℕ) → retiredFrom (retire s st t v) ≡ answerShown s (viewAt (s .measures .blockBytes) st t) (callRetire t v)
-unfolding retire answerShown viewOf
+unfolding retire lookUp answerShown viewOf
 retire-shown s st t v = either (leb (s .capacities .tills) t)
   where
-    one : (older hs : List Version) → retiredFrom (retireFrom s st t (tillOf st t) older hs) ≡ retireShown (viewVersions (s .measures .blockBytes) (st .shelf) hs)
-    one older [] = unfold retireFrom retireShown viewVersions outcomeRefusal outcomeNumber in refl
-    one older (w ∷ ws) = unfold retireFrom retireShown viewVersions outcomeRefusal outcomeNumber in refl
+    one : (n : ℕ) (older hs : List Version) → retiredFrom (retireFrom s st t (tillOf st t) (firstOf n older hs)) ≡ retireShown n (viewVersions (s .measures .blockBytes) (st .shelf) hs)
+    one n older [] = unfold retireFrom firstOf retireShown viewVersions outcomeRefusal outcomeNumber in refl
+    one n older (w ∷ ws) = unfold retireFrom firstOf retireShown viewVersions outcomeRefusal outcomeNumber in refl
 
     either : (b : Bool)
-        → retiredFrom (cond b (refused 3) (retireFrom s st t (tillOf st t) (heldBefore v (tillOf st t .versions)) (heldFrom v (tillOf st t .versions))))
-        ≡ cond b (retired 3 0) (retireShown (shownFrom v (viewVersions (s .measures .blockBytes) (st .shelf) (tillOf st t .versions))))
+        → retiredFrom (cond b (refused 3) (retireFrom s st t (tillOf st t) (firstOf (notHeld (tillOf st t .last) v) (heldBefore v (tillOf st t .versions)) (heldFrom v (tillOf st t .versions)))))
+        ≡ cond b (retired 3 0) (retireShown (notHeld (tillOf st t .last) v) (shownFrom v (viewVersions (s .measures .blockBytes) (st .shelf) (tillOf st t .versions))))
     either true = unfold outcomeRefusal outcomeNumber in refl
     either false =
-        one (heldBefore v (tillOf st t .versions)) (heldFrom v (tillOf st t .versions))
-        ∙ ap retireShown (sym (from-same (s .measures .blockBytes) (st .shelf) v (tillOf st t .versions)))
+        one (notHeld (tillOf st t .last) v) (heldBefore v (tillOf st t .versions)) (heldFrom v (tillOf st t .versions))
+        ∙ ap (retireShown (notHeld (tillOf st t .last) v)) (sym (from-same (s .measures .blockBytes) (st .shelf) v (tillOf st t .versions)))
 
 listing-shown : (s : Shape) (st : State) (t : ℕ)
     → listed (listingIn (some (record { shape = s; state = st })) t) ≡ answerShown s (viewAt (s .measures .blockBytes) st t) (callListing t)

@@ -13,7 +13,8 @@ use Rattle.model.specs.Image.{Era, isBare, imageBlocks, imageSegments}
 use Rattle.model.specs.Records.{isFree, equals}
 use Rattle.model.specs.Runs.{Run, findRun}
 use Rattle.model.specs.Place.{Placed, stored, writeRun, writeRecord, shareOrWrite, placeSegment, afterSome, placeNext, placeAll}
-use Rattle.model.specs.Calls.{tillOf, heldFrom, heldBefore, retireFrom, fileIn, placeAndFile, backup, retire}
+use Rattle.laws.proofs.Tills.{not-held-some}
+use Rattle.model.specs.Calls.{tillOf, heldFrom, heldBefore, retireFrom, fileIn, placeAndFile, backup, retire, firstOf, notHeld, lookUp}
 
 abbrev pub Numbered : {A : Type 0} → Outcome A → Type 0
 Numbered (refused n) = 0 < n
@@ -67,9 +68,9 @@ backup-numbered era s st t image =
     go (done p) h = unfold fileIn in tt
 
 pub retire-numbered : (s : Shape) (st : State) (t v : ℕ) → Numbered (retire s st t v)
-unfolding retire
+unfolding retire lookUp
 retire-numbered s st t v = by-test Numbered (leb (s .capacities .tills) t) (λ e. lit< tt) (λ e. go (heldFrom v (tillOf st t .versions)))
   where
-    go : (hs : List Version) → Numbered (retireFrom s st t (tillOf st t) (heldBefore v (tillOf st t .versions)) hs)
-    go [] = unfold retireFrom in lit< tt
-    go (w ∷ ws) = unfold retireFrom in tt
+    go : (hs : List Version) → Numbered (retireFrom s st t (tillOf st t) (firstOf (notHeld (tillOf st t .last) v) (heldBefore v (tillOf st t .versions)) hs))
+    go [] = unfold retireFrom firstOf in not-held-some (tillOf st t .last) v
+    go (w ∷ ws) = unfold retireFrom firstOf in tt

@@ -9,7 +9,7 @@ use Rattle.lists.proofs.Tests.{by-test}
 use Rattle.model.specs.Measures.{Shape}
 use Rattle.model.specs.State.{Shelf, Version, Outcome, refused, done}
 use Rattle.model.specs.Sound.{Store, storeOf}
-use Rattle.model.specs.Calls.{layoutOf, backup, backupIn, backupBy, backupAnswer, restore, restoreFrom, restoreIn, restoreOf, restoreRefusal, RestoreAnswer, heldFrom, tillOf, retire, retireIn, retireOf, retireAnswer, listingIn, listingOf, listingRefusal, listTill, ListingAnswer, tallyIn, tallyOf, After}
+use Rattle.model.specs.Calls.{layoutOf, backup, backupIn, backupBy, backupAnswer, restore, restoreFrom, restoreIn, restoreOf, restoreRefusal, RestoreAnswer, heldFrom, tillOf, retire, retireIn, retireOf, retireAnswer, listingIn, listingOf, listingRefusal, listTill, ListingAnswer, tallyIn, tallyOf, After, Lookup, found, missing, lookUp}
 use Rattle.laws.proofs.Empty.{layout-refused}
 use Rattle.stream.specs.Stream.{StreamAnswer}
 use Rattle.stream.specs.Version.{writeStreamOf}
@@ -64,17 +64,17 @@ refusedWith n (callWriteStream t v output) = streamed (record { refusal = n; len
 abbrev ZeroRestore : List ℕ → RestoreAnswer → Type 0
 ZeroRestore output r = ¬ (r .refusal ≡ 0) → r ≡ record { refusal = r .refusal; length = 0; hops = 0; output = output }
 
-from-zero : (bytes : ℕ) (a : Shelf) (output : List ℕ) (vs : List Version) → ZeroRestore output (restoreFrom bytes a vs output)
+from-zero : (bytes : ℕ) (a : Shelf) (output : List ℕ) (l : Lookup) → ZeroRestore output (restoreFrom bytes a l output)
 unfolding restoreFrom restoreRefusal
-from-zero bytes a output [] = λ h. refl
-from-zero bytes a output (v ∷ newer) = by-test (ZeroRestore output) (ltb (length output) (v .length)) (λ e h. refl) (λ e h. absurd (h refl))
+from-zero bytes a output (missing n) = λ h. refl
+from-zero bytes a output (found older v newer) = by-test (ZeroRestore output) (ltb (length output) (v .length)) (λ e h. refl) (λ e h. absurd (h refl))
 
 restore-zero : (t v : ℕ) (output : List ℕ) (o : Option Store) → ZeroRestore output (restoreIn o t v output)
 unfolding restoreIn restore restoreRefusal
 restore-zero t v output none = λ h. refl
 restore-zero t v output (some x) =
     by-test (ZeroRestore output) (leb (x .shape .capacities .tills) t) (λ e h. refl)
-    (λ e. from-zero (x .shape .measures .blockBytes) (x .state .shelf) output (heldFrom v (tillOf (x .state) t .versions)))
+    (λ e. from-zero (x .shape .measures .blockBytes) (x .state .shelf) output (lookUp (tillOf (x .state) t) v))
 
 abbrev ZeroListing : ListingAnswer → Type 0
 ZeroListing r = ¬ (r .refusal ≡ 0) → r ≡ record { refusal = r .refusal; oldest = 0; newest = 0; last = 0 }

@@ -14,7 +14,8 @@ use Rattle.model.specs.Measures.{Shape, isWithin}
 use Rattle.model.specs.State.{Version, State}
 use Rattle.model.specs.Table.{shapeOf}
 use Rattle.model.specs.Sound.{hasLength, areTraceable}
-use Rattle.model.specs.Calls.{tillOf, heldFrom, RestoreAnswer, restoreOf}
+use Rattle.laws.proofs.Tills.{not-held-some}
+use Rattle.model.specs.Calls.{tillOf, heldFrom, RestoreAnswer, restoreOf, notHeld}
 use Rattle.laws.specs.Stores.{Header}
 use Rattle.laws.proofs.Stores.{sound-if, header}
 use Rattle.stream.specs.Stream.{StreamAnswer, streamRefusal, streamOf, writeStream}
@@ -42,9 +43,9 @@ given-write r image rest output z l o =
     let e : take (r .length) (r .output) ≡ image = ap (take (r .length)) o ∙ take-at image rest (r .length) (sym l) in
     rw (eq-eqb (r .refusal) 0 z, e)
 
-refused-write : (r : RestoreAnswer) (output : List ℕ) → ¬ (r .refusal ≡ 0) → ¬ (writeRestored r output .refusal ≡ 0)
+refused-write : (r : RestoreAnswer) (output : List ℕ) (n : ℕ) → 0 < n → r .refusal ≡ n → writeRestored r output .refusal ≡ n
 unfolding writeRestored streamRefusal
-refused-write r output n = rw (ne-eqb (r .refusal) 0 n) n
+refused-write r output n h e = rw (ne-eqb (r .refusal) 0 (λ z. omega (arith, h, e, z))) e
 
 -- an output long enough, and one that is shorter than the stream
 long-write : (image output : List ℕ) → length (streamOf image) ≤ length output
@@ -110,7 +111,9 @@ module _ (s : Shape) (b : Buffers) (st : State) (k : Keeper) (l : Left s b st) (
         let w = written-is t v x newer output e ∙ long-write (x .image) output h in
         (ap (λ (a : StreamAnswer). a .refusal) w, ap (λ (a : StreamAnswer). a .length) w, ap (λ (a : StreamAnswer). a .output) w);
     short = λ t v x newer output e h. ap (λ (a : StreamAnswer). a .refusal) (written-is t v x newer output e) ∙ short-write (x .image) output h;
-    notHeld = λ t v output e. refused-write (restoreOf (b .pool) (b .table) t v longestOutput) output (restores s b st k l z .notHeld t v longestOutput e);
+    notHeld = λ t v output e h.
+        refused-write (restoreOf (b .pool) (b .table) t v longestOutput) output (notHeld (keptTill k t .last) v) (not-held-some (keptTill k t .last) v) (restores s b st k l z .notHeld t v longestOutput e h);
+    noTill = λ t v output h. refused-write (restoreOf (b .pool) (b .table) t v longestOutput) output 3 (omega arith) (restores s b st k l z .noTill t v longestOutput h);
     readAgain = λ t v x newer output e h.
         let n = kept-length t v x newer e in
         claims .readBack (x .image) output (has-yes (length (x .image)) (λ q. omega (arith, n .0, q)) (n .1)) h;

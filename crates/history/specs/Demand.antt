@@ -14,7 +14,7 @@ use Rattle.model.specs.Records.{namedCells, cellAt, positionAt, cellOf, isHeld}
 use Rattle.model.specs.Trace.{longestChain}
 use Rattle.model.specs.Table.{stateToWords, stateToBytes, cellsIn}
 use Rattle.model.specs.Sound.{storeOf, nextPointers}
-use Rattle.model.specs.Calls.{layoutOf, backupBy, restoreOf, RestoreAnswer, retireOf, listingOf, ListingAnswer, tallyOf, emptyState, tillOf, heldFrom}
+use Rattle.model.specs.Calls.{layoutOf, backupBy, restoreOf, RestoreAnswer, retireOf, listingOf, ListingAnswer, tallyOf, emptyState, tillOf, heldFrom, notHeld}
 use Rattle.stream.specs.Stream.{StreamAnswer, streamOf, readStream}
 use Rattle.stream.specs.Version.{writeStreamOf}
 use Rattle.history.specs.Calls.{Call, callBackup, Buffers, buffersAfterAll, answersOf, refusedLayouts, stateAfterAll, answersIn}
@@ -51,7 +51,7 @@ module _ (bytes : ℕ) (st : State) (k : Keeper) (b : Buffers) where
   restoring t v output = restoreOf (b .pool) (b .table) t v output
 
   pub record Restores : Type 0 where
-    -- "A restore of a held version, with an output long enough, gets none of 10, 3, 15 and 5": it is accepted, "answers the image's length and writes the
+    -- "A restore of a held version, with an output long enough, gets none of 10, 3, 17, 18 and 5": it is accepted, "answers the image's length and writes the
     -- image; later bytes of the output stay"; and its longest chain is "the most so followed for any one block"
     pub given : (t v : ℕ) (x : Kept) (newer : List Kept) (output : List ℕ) → IsKept t v x newer → length (x .image) ≤ length output
         → (restoring t v output .refusal ≡ 0)
@@ -60,8 +60,9 @@ module _ (bytes : ℕ) (st : State) (k : Keeper) (b : Buffers) where
         × (restoring t v output .hops ≡ longestChain (heldFrom v (tillOf st t .versions)))
     pub short : (t v : ℕ) (x : Kept) (newer : List Kept) (output : List ℕ) → IsKept t v x newer → length output < length (x .image)
         → restoring t v output .refusal ≡ 5
-    -- "A restore of a version not held is refused"
-    pub notHeld : (t v : ℕ) (output : List ℕ) → keptFrom v (keptTill k t .versions) ≡ [] → ¬ (restoring t v output .refusal ≡ 0)
+    -- "A restore of a version not held is refused": of a till that is there, with 17 or 18 as the keeper's last number says
+    pub notHeld : (t v : ℕ) (output : List ℕ) → keptFrom v (keptTill k t .versions) ≡ [] → t < length k → restoring t v output .refusal ≡ notHeld (keptTill k t .last) v
+    pub noTill : (t v : ℕ) (output : List ℕ) → length k ≤ t → restoring t v output .refusal ≡ 3
     -- "The longest chain that restore answers … is 0 for a till's newest version and for another at most the number of newer ones held": both in one
     pub chain : (t v : ℕ) (x : Kept) (newer : List Kept) (output : List ℕ) → IsKept t v x newer → restoring t v output .hops ≤ length newer
 
@@ -79,7 +80,8 @@ module _ (bytes : ℕ) (st : State) (k : Keeper) (b : Buffers) where
     pub short : (t v : ℕ) (x : Kept) (newer : List Kept) (output : List ℕ) → IsKept t v x newer → length output < length (streamOf (x .image))
         → writing t v output .refusal ≡ 5
     -- a version not held is refused, as a restore of it is
-    pub notHeld : (t v : ℕ) (output : List ℕ) → keptFrom v (keptTill k t .versions) ≡ [] → ¬ (writing t v output .refusal ≡ 0)
+    pub notHeld : (t v : ℕ) (output : List ℕ) → keptFrom v (keptTill k t .versions) ≡ [] → t < length k → writing t v output .refusal ≡ notHeld (keptTill k t .last) v
+    pub noTill : (t v : ℕ) (output : List ℕ) → length k ≤ t → writing t v output .refusal ≡ 3
     -- "reading it gives the image"
     pub readAgain : (t v : ℕ) (x : Kept) (newer : List Kept) (output : List ℕ) → IsKept t v x newer → length (x .image) ≤ length output
         → readStream (streamOf (x .image)) output ≡ record { refusal = 0; length = length (x .image); output = x .image ++ drop (length (x .image)) output }
@@ -98,6 +100,8 @@ module _ (bytes : ℕ) (st : State) (k : Keeper) (b : Buffers) where
         → backupBy era (b .pool) (b .table) t image .version ≡ keptTill (fed k (callBackup era t image) true) t .last
     -- a held version "now goes", whichever it is
     pub goes : (t v : ℕ) (x : Kept) (newer : List Kept) → IsKept t v x newer → retireOf (b .pool) (b .table) t v .refusal ≡ 0
+    -- and one not held is refused, of a till that is there with 17 or 18 as the keeper's last number says
+    pub notHeld : (t v : ℕ) → keptFrom v (keptTill k t .versions) ≡ [] → t < length k → retireOf (b .pool) (b .table) t v .refusal ≡ notHeld (keptTill k t .last) v
     -- "an accepted retire the struck image's length"
     pub retire : (t v : ℕ) → retireOf (b .pool) (b .table) t v .refusal ≡ 0
         → (x : Kept) × (newer : List Kept) × (IsKept t v x newer) × (retireOf (b .pool) (b .table) t v .length ≡ length (x .image))

@@ -11,7 +11,7 @@ use Rattle.model.specs.State.{Block, Shelf, Version, Till, State}
 use Rattle.model.specs.Image.{Era, isBare, imageBlocks}
 use Rattle.model.specs.Turn.{turnsTo}
 use Rattle.model.specs.Trace.{imageOf}
-use Rattle.model.specs.Calls.{tillOf, RestoreAnswer, restoreRefusal, listingRefusal}
+use Rattle.model.specs.Calls.{tillOf, notHeld, RestoreAnswer, restoreRefusal, listingRefusal}
 use Rattle.stream.specs.Version.{longestOutput, writeRestored}
 use Rattle.history.specs.Calls.{Call, callLayout, callBackup, callRestore, callRetire, callListing, callTally, callWriteStream, Answer, laidOut, backedUp, restored, retired, listed, tallied, streamed}
 use Rattle.history.specs.Kinds.{Kind, zeroKind, blankKind, directKind, indirectKind, kindOf, kindAt, hopsOfKind}
@@ -141,15 +141,16 @@ newestShown [] = 0
 newestShown (w ∷ []) = w .number
 newestShown (w ∷ x ∷ ws) = newestShown (x ∷ ws)
 
-unfoldable pub restoreShown : List VersionView → List ℕ → RestoreAnswer
-restoreShown [] output = restoreRefusal 15 output
-restoreShown (w ∷ newer) output =
+-- `n` is the refusal where none is shown
+unfoldable pub restoreShown : ℕ → List VersionView → List ℕ → RestoreAnswer
+restoreShown n [] output = restoreRefusal n output
+restoreShown n (w ∷ newer) output =
     cond (ltb (length output) (w .length)) (restoreRefusal 5 output)
     (record { refusal = 0; length = w .length; hops = chainShown (w ∷ newer); output = w .image ++ drop (w .length) output })
 
-unfoldable pub retireShown : List VersionView → Answer
-retireShown [] = retired 15 0
-retireShown (w ∷ newer) = retired 0 (w .length)
+unfoldable pub retireShown : ℕ → List VersionView → Answer
+retireShown n [] = retired n 0
+retireShown n (w ∷ newer) = retired 0 (w .length)
 
 unfoldable pub answerShown : Shape → TillView → Call → Answer
 answerShown s w (callLayout c) = laidOut 0
@@ -158,11 +159,11 @@ answerShown s w (callBackup era t image) =
     (cond (eqb (length image) 0 || ltb (s .measures .blockBytes * s .capacities .blocks) (length image)) (backedUp 4 0)
     (cond (leb (s .capacities .versions) (length (w .versions))) (backedUp 11 0)
     (cond (eqb (w .last) 65535) (backedUp 12 0) (backedUp 0 (suc (w .last))))))
-answerShown s w (callRestore t v output) = restored (cond (leb (s .capacities .tills) t) (restoreRefusal 3 output) (restoreShown (shownFrom v (w .versions)) output))
-answerShown s w (callRetire t v) = cond (leb (s .capacities .tills) t) (retired 3 0) (retireShown (shownFrom v (w .versions)))
+answerShown s w (callRestore t v output) = restored (cond (leb (s .capacities .tills) t) (restoreRefusal 3 output) (restoreShown (notHeld (w .last) v) (shownFrom v (w .versions)) output))
+answerShown s w (callRetire t v) = cond (leb (s .capacities .tills) t) (retired 3 0) (retireShown (notHeld (w .last) v) (shownFrom v (w .versions)))
 answerShown s w (callListing t) =
     listed (cond (leb (s .capacities .tills) t) (listingRefusal 3)
     (record { refusal = 0; oldest = oldestShown (w .versions); newest = newestShown (w .versions); last = w .last }))
 answerShown s w callTally = tallied (record { refusal = 0; cells = 0; records = 0; counts = 0 })
 answerShown s w (callWriteStream t v output) =
-    streamed (writeRestored (cond (leb (s .capacities .tills) t) (restoreRefusal 3 longestOutput) (restoreShown (shownFrom v (w .versions)) longestOutput)) output)
+    streamed (writeRestored (cond (leb (s .capacities .tills) t) (restoreRefusal 3 longestOutput) (restoreShown (notHeld (w .last) v) (shownFrom v (w .versions)) longestOutput)) output)

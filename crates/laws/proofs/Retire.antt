@@ -20,7 +20,7 @@ use Rattle.model.specs.Records.{isHeld}
 use Rattle.model.specs.Place.{oneMore}
 use Rattle.model.specs.Sweep.{oneLess, release, claim, sweep}
 use Rattle.model.specs.Sound.{isSound, isNumbered, isTill, leadsTo, allPointers}
-use Rattle.model.specs.Calls.{emptyTill, tillOf, heldFrom, heldBefore, withTill, newestPointers, takeOver, taken, closeUp, retireFrom, retire, After}
+use Rattle.model.specs.Calls.{emptyTill, tillOf, heldFrom, heldBefore, withTill, newestPointers, takeOver, taken, closeUp, retireFrom, retire, After, firstOf, notHeld, lookUp}
 use Rattle.laws.proofs.Sweep.{Exact, Keeps, countIn, blockIn, sweep-keeps}
 use Rattle.laws.proofs.Clean.{ShelfFits, Cleared, sweep-clears, clean-held}
 use Rattle.laws.proofs.Counts.{at, Counted, falls, grows, lower-count, raise-count, change-cell, change-all-named, change-all-fits, change-all-length}
@@ -310,15 +310,15 @@ module _ (s : Shape) (st : State) (t v : ℕ) (ht : t < length (st .tills)) (h :
   }
 
 pub retire-done : (s : Shape) (t v : ℕ) (st : State) (a : After) → isSound s st ≡ true → retire s st t v ≡ done a → Retired s st t v a
-unfolding retire
+unfolding retire lookUp
 retire-done s t v st a h e =
     let (e₁, r₁) = passed (leb (s .capacities .tills) t) 3 _ a e in
     go (heldFrom v (tillOf st t .versions)) refl (omega (arith, leb-false (s .capacities .tills) t e₁, sound-valid s st h .tillCount)) r₁
   where
     go : (hs : List Version) → heldFrom v (tillOf st t .versions) ≡ hs → t < length (st .tills)
-        → retireFrom s st t (tillOf st t) (heldBefore v (tillOf st t .versions)) hs ≡ done a → Retired s st t v a
-    go [] q ht r = unfold retireFrom in absurd (no-refusal 15 a r)
-    go (w ∷ newer) q ht r = unfold retireFrom theAfter in subst (Retired s st t v) (ap (theAfter a) r) (closed s st t v ht h w newer q)
+        → retireFrom s st t (tillOf st t) (firstOf (notHeld (tillOf st t .last) v) (heldBefore v (tillOf st t .versions)) hs) ≡ done a → Retired s st t v a
+    go [] q ht r = unfold retireFrom firstOf in absurd (no-refusal (notHeld (tillOf st t .last) v) a r)
+    go (w ∷ newer) q ht r = unfold retireFrom firstOf theAfter in subst (Retired s st t v) (ap (theAfter a) r) (closed s st t v ht h w newer q)
 
 pub retire-sound : (s : Shape) (t v : ℕ) (st : State) (a : After) → isSound s st ≡ true → retire s st t v ≡ done a → isSound s (a .state) ≡ true
 retire-sound s t v st a h e = retire-done s t v st a h e .sound

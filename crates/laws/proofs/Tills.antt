@@ -6,7 +6,8 @@ use Prim.Native.Nat.{ℕ, zero, suc, _+_, _*_, _-_, _≤_, _<_, zero-le}
 use native.Mathlib.Nat.{add-zero, mul-le-mul-right, suc-mul}
 use native.Mathlib.Omega.{arith}
 use lib.ListN.{length, getD, take, drop, length-map, List·getD-map}
-use lib.Dec.{eqb}
+use lib.Dec.{eqb, ltb, lit<}
+use Rattle.lists.proofs.Tests.{by-test}
 use lib.Seq.{getD-take, getD-drop}
 use borrow.Author.Tests.{eqb-false, eq-eqb, ne-eqb, leb-true}
 use Rattle.lists.specs.Lists.{rises, isIn}
@@ -18,13 +19,18 @@ use Rattle.model.specs.Measures.{Shape, tillWords, tableWords}
 use Rattle.model.specs.State.{Version, Till, State}
 use Rattle.model.specs.Table.{versionToWords, tillToWords, stateToWords, shapeOf, stateIn}
 use Rattle.model.specs.Sound.{isNumbered, areTraceable, isTill}
-use Rattle.model.specs.Calls.{emptyTill, tillOf, heldFrom, heldBefore, oldestNumber, newestNumber}
+use Rattle.model.specs.Calls.{emptyTill, tillOf, heldFrom, heldBefore, oldestNumber, newestNumber, notHeld}
 use Rattle.laws.proofs.Fits.{StateFits}
 use Rattle.laws.proofs.RoundTrip.{length-version, length-till}
 use Rattle.laws.specs.Stores.{tillAt, Sound}
 use Rattle.laws.proofs.Stores.{till-is, found, fits, valid, long}
 
 -- ---- the version of a number, by its place
+
+-- a refusal has a number
+pub not-held-some : (last n : ℕ) → 0 < notHeld last n
+unfolding notHeld
+not-held-some last n = by-test (λ (r : ℕ). 0 < r) (eqb n 0) (λ e. lit< tt) (λ e. by-test (λ (r : ℕ). 0 < r) (ltb last n) (λ q. lit< tt) (λ q. lit< tt))
 
 pub held-here : (n : ℕ) (v : Version) (vs : List Version) → v .number ≡ n → heldFrom n (v ∷ vs) ≡ v ∷ vs
 unfolding heldFrom

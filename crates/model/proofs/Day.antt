@@ -18,7 +18,7 @@ use Rattle.model.specs.Sweep.{changeAt, changeAll, release, claim, moved
 use Rattle.model.specs.Trace.{hopsVia, endVia, hops, endOf, blockAt, tracedBlock, tracedBlocks, imageOf, longestChain}
 use Rattle.model.specs.Table.{pointerWord, recordToWords, versionToWords, tillToWords, measureWord, headerToWords, stateToWords, stateToBytes, measuresIn, shapeOf, pointerOf, wordToPointer, positionOf, positionsIn, segmentIn, recordsIn, cellsIn, shelfIn, versionIn, versionsIn, tillIn, tillsIn, stateIn}
 use Rattle.model.specs.Sound.{isShaped, hasLength, isNumbered, isUsed, hasCells, nextPointers, endsZero, areTraceable, isTill, allPointers, areCounted, allCounted, areFilled, isSound, ifSound, hasLengths, storeAs, storeOf}
-use Rattle.model.specs.Calls.{tableLengthOf, emptyTill, emptyState, layoutIf, layoutOf, tillOf, heldFrom, withTill, newestPointers, withNewestPointers, tillWith, fileIn, placeAndFile, backupAnswer, backupIn, backupBy, backupOf, restoreRefusal, restoreFrom, restoreIn, restoreOf, heldBefore, closeUp, retireFrom, retireAnswer, retireIn, retireOf, oldestNumber, newestNumber, listingRefusal, listTill, listingIn, listingOf, tallyIn, tallyOf}
+use Rattle.model.specs.Calls.{tableLengthOf, emptyTill, emptyState, layoutIf, layoutOf, tillOf, heldFrom, withTill, newestPointers, withNewestPointers, tillWith, fileIn, placeAndFile, backupAnswer, backupIn, backupBy, backupOf, restoreRefusal, restoreFrom, restoreIn, restoreOf, heldBefore, firstOf, notHeld, lookUp, closeUp, retireFrom, retireAnswer, retireIn, retireOf, oldestNumber, newestNumber, listingRefusal, listTill, listingIn, listingOf, tallyIn, tallyOf}
 use Rattle.model.specs.State.{nullPointer, direct, indirect, nullPosition, held, removed}
 use Rattle.model.specs.Calls as Calls
 use Rattle.model.proofs.Steps.{Step, tableLength, layout, backup, restore, retire, listing, tally, slotIs, recordIs, poolIs, settingsAre, overwrite, Row, slotAt, recordAt, isAt, holdsFrom, holds, atBase, box, blocks, zeros, letters, ABCDEFGH, ABCDEFGZ, AIJKLMNO, ABIJKLMN, IJKLMNOP, QRSTUVWX, run8, to8, v512}
@@ -271,9 +271,9 @@ beside =
           ∷ recordIs 1 (held 2 1 ∷ removed ∷ removed ∷ replicate 5 nullPosition)
           ∷ poolIs (blocks (66 ∷ 68 ∷ 65 ∷ []) ++ zeros (64 * 13))
           ∷ restore 0 1 (zeros 128) 0 128 1 (blocks (65 ∷ 66 ∷ []))
-          ∷ restore 0 2 (zeros 192) 15 0 0 (zeros 192)
+          ∷ restore 0 2 (zeros 192) 18 0 0 (zeros 192)
           ∷ restore 0 3 (zeros 128) 0 128 0 (blocks (66 ∷ 68 ∷ []))
-          ∷ retire 0 2 15 0
+          ∷ retire 0 2 18 0
           ∷ listing 0 0 1 3 3
           ∷ tally 0 3 2 3
           ∷ backup 0 (blocks (65 ∷ 66 ∷ [])) 0 4
@@ -370,20 +370,48 @@ beside =
           ∷ tally 0 1 1 1
           ∷ [];
     }
-    -- restore 3, 15, 5; retire 3, 15; listing 3
+    -- restore 3, 17, 5; retire 3, 17; listing 3
     ∷ record {
       capacities = box 32;
       steps =
           backup 0 (blocks ABCDEFGH) 0 1
           ∷ backup 0 (blocks ABCDEFGH) 0 2
           ∷ restore 1 1 [] 3 0 0 []
-          ∷ restore 0 3 [] 15 0 0 []
-          ∷ restore 0 0 [] 15 0 0 []
+          ∷ restore 0 3 [] 17 0 0 []
+          ∷ restore 0 0 [] 17 0 0 []
           ∷ restore 0 1 (replicate 511 7) 5 0 0 (replicate 511 7)
           ∷ retire 1 1 3 0
-          ∷ retire 0 3 15 0
+          ∷ retire 0 3 17 0
           ∷ listing 1 3 0 0 0
           ∷ listing 0 0 1 2 2
+          ∷ [];
+    }
+    -- a number never given, or given before and no longer held: of a till that never held one; 0; just below the oldest; in a gap; the last given, held and
+    -- retired; one above it; before an output too short, after the till
+    ∷ record {
+      capacities = box 16;
+      steps =
+          restore 0 1 [] 17 0 0 []
+          ∷ retire 0 0 17 0
+          ∷ backup 0 (blocks (65 ∷ [])) 0 1
+          ∷ backup 0 (blocks (66 ∷ [])) 0 2
+          ∷ backup 0 (blocks (67 ∷ [])) 0 3
+          ∷ backup 0 (blocks (68 ∷ [])) 0 4
+          ∷ restore 0 4 (zeros 64) 0 64 0 (blocks (68 ∷ []))
+          ∷ restore 0 5 (zeros 64) 17 0 0 (zeros 64)
+          ∷ retire 0 1 0 64
+          ∷ retire 0 3 0 64
+          ∷ restore 0 0 (zeros 64) 17 0 0 (zeros 64)
+          ∷ restore 0 1 [] 18 0 0 []
+          ∷ restore 0 3 (zeros 64) 18 0 0 (zeros 64)
+          ∷ retire 0 1 18 0
+          ∷ retire 0 4 0 64
+          ∷ restore 0 4 (zeros 64) 18 0 0 (zeros 64)
+          ∷ retire 0 4 18 0
+          ∷ retire 0 5 17 0
+          ∷ retire 0 65536 17 0
+          ∷ restore 1 5 [] 3 0 0 []
+          ∷ listing 0 0 2 2 4
           ∷ [];
     }
     -- the last number given is 65,535: 12, and 11 before it; word 8 is till 0's last number
@@ -545,6 +573,6 @@ unfolding theDay blanks beside otherMeasures boxOf version case1 case2 case3 cas
     versionsIn tillIn tillsIn stateIn isShaped hasLength isNumbered isUsed hasCells nextPointers endsZero areTraceable isTill allPointers areCounted
     allCounted areFilled isSound ifSound hasLengths storeAs storeOf emptyTill emptyState layoutIf layoutOf tillOf heldFrom withTill
     newestPointers withNewestPointers tillWith fileIn placeAndFile Calls.backup backupAnswer backupIn backupBy backupOf restoreRefusal restoreFrom
-    Calls.restore restoreIn restoreOf heldBefore closeUp retireFrom Calls.retire retireAnswer retireIn retireOf oldestNumber newestNumber listingRefusal
+    Calls.restore restoreIn restoreOf heldBefore firstOf notHeld lookUp closeUp retireFrom Calls.retire retireAnswer retireIn retireOf oldestNumber newestNumber listingRefusal
     listTill listingIn listingOf tallyIn tallyOf tableLengthOf
 day-holds = refl

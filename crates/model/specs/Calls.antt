@@ -140,7 +140,31 @@ backupBy era pool table t image = backupIn era (storeOf pool table) pool table t
 unfoldable pub backupOf : List ℕ → List ℕ → ℕ → List ℕ → BackupAnswer
 backupOf pool table t image = backupBy withBlanks pool table t image
 
--- ---- restore: 10, 3, 15, 5. Answers the length and the longest chain.
+-- ---- the version lookup of restore and retire: 17, 18
+
+-- the versions before that of the number
+unfoldable pub heldBefore : ℕ → List Version → List Version
+heldBefore n [] = []
+heldBefore n (v ∷ vs) = let r = heldBefore n vs in cond (eqb (v .number) n) [] (v ∷ r)
+
+-- the version of a number, between the older and the newer ones held; or the refusal
+pub data Lookup : Type 0 where
+  found : (older : List Version) (version : Version) (newer : List Version) → Lookup
+  missing : (refusal : ℕ) → Lookup
+
+-- the first of some versions, behind the older ones; the refusal where there is none
+unfoldable pub firstOf : ℕ → List Version → List Version → Lookup
+firstOf n older [] = missing n
+firstOf n older (v ∷ newer) = found older v newer
+
+-- a number that is not held: 17 if it was never given, being 0 or above the till's last, and 18 if it was given before
+unfoldable pub notHeld : ℕ → ℕ → ℕ
+notHeld last n = cond (eqb n 0) 17 (cond (ltb last n) 17 18)
+
+unfoldable pub lookUp : Till → ℕ → Lookup
+lookUp till n = firstOf (notHeld (till .last) n) (heldBefore n (till .versions)) (heldFrom n (till .versions))
+
+-- ---- restore: 10, 3, 17 or 18, 5. Answers the length and the longest chain.
 
 pub record RestoreAnswer : Type 0 where
   pub refusal : ℕ
@@ -151,10 +175,10 @@ pub record RestoreAnswer : Type 0 where
 unfoldable pub restoreRefusal : ℕ → List ℕ → RestoreAnswer
 restoreRefusal n output = record { refusal = n; length = 0; hops = 0; output = output }
 
--- The first version of the list, whose newer ones are the others. Later bytes of the output stay.
-unfoldable pub restoreFrom : ℕ → Shelf → List Version → List ℕ → RestoreAnswer
-restoreFrom bytes shelf [] output = restoreRefusal 15 output
-restoreFrom bytes shelf (v ∷ newer) output =
+-- Later bytes of the output stay.
+unfoldable pub restoreFrom : ℕ → Shelf → Lookup → List ℕ → RestoreAnswer
+restoreFrom bytes shelf (missing n) output = restoreRefusal n output
+restoreFrom bytes shelf (found older v newer) output =
     cond (ltb (length output) (v .length)) (restoreRefusal 5 output)
     (record {
       refusal = 0;
@@ -166,7 +190,7 @@ restoreFrom bytes shelf (v ∷ newer) output =
 unfoldable pub restore : Shape → State → ℕ → ℕ → List ℕ → RestoreAnswer
 restore s st t version output =
     cond (leb (s .capacities .tills) t) (restoreRefusal 3 output)
-    (restoreFrom (s .measures .blockBytes) (st .shelf) (heldFrom version (tillOf st t .versions)) output)
+    (restoreFrom (s .measures .blockBytes) (st .shelf) (lookUp (tillOf st t) version) output)
 
 unfoldable pub restoreIn : Option Store → ℕ → ℕ → List ℕ → RestoreAnswer
 restoreIn none t version output = restoreRefusal 10 output
@@ -175,18 +199,13 @@ restoreIn (some store) t version output = restore (store .shape) (store .state) 
 unfoldable pub restoreOf : List ℕ → List ℕ → ℕ → ℕ → List ℕ → RestoreAnswer
 restoreOf pool table t version output = restoreIn (storeOf pool table) t version output
 
--- ---- retire: 10, 3, 15. Answers the retired length.
+-- ---- retire: 10, 3, 17 or 18. Answers the retired length.
 
 pub record RetireAnswer : Type 0 where
   pub refusal : ℕ
   pub length : ℕ
   pub pool : List ℕ
   pub table : List ℕ
-
--- the versions before that of the number
-unfoldable pub heldBefore : ℕ → List Version → List Version
-heldBefore n [] = []
-heldBefore n (v ∷ vs) = let r = heldBefore n vs in cond (eqb (v .number) n) [] (v ∷ r)
 
 -- A pointer of the older neighbour of a version with the pointers `gone`, once that version is retired: an indirect one takes over the pointer it named.
 abbrev pub takeOver : List Pointer → Pointer → Pointer
@@ -207,9 +226,9 @@ unfoldable pub closeUp : List Version → Version → List Version → List Vers
 closeUp older v newer = withNewestPointers older (map (takeOver (v .pointers)) (newestPointers older)) ++ newer
 
 -- The direct pointers taken over add 1 to their counts, then the retired version's lower theirs, and step 3 is done.
-unfoldable pub retireFrom : Shape → State → ℕ → Till → List Version → List Version → Outcome After
-retireFrom s st t till older [] = refused 15
-retireFrom s st t till older (v ∷ newer) = done (record {
+unfoldable pub retireFrom : Shape → State → ℕ → Till → Lookup → Outcome After
+retireFrom s st t till (missing n) = refused n
+retireFrom s st t till (found older v newer) = done (record {
   state =
       withTill st t (record { last = till .last; versions = closeUp older v newer })
       (sweep (s .measures) (release (claim (st .shelf) (map (taken (v .pointers)) (newestPointers older))) (v .pointers)));
@@ -219,7 +238,7 @@ retireFrom s st t till older (v ∷ newer) = done (record {
 unfoldable pub retire : Shape → State → ℕ → ℕ → Outcome After
 retire s st t version =
     cond (leb (s .capacities .tills) t) (refused 3)
-    (retireFrom s st t (tillOf st t) (heldBefore version (tillOf st t .versions)) (heldFrom version (tillOf st t .versions)))
+    (retireFrom s st t (tillOf st t) (lookUp (tillOf st t) version))
 
 unfoldable pub retireAnswer : List ℕ → List ℕ → Shape → Outcome After → RetireAnswer
 retireAnswer pool table s (refused n) = record { refusal = n; length = 0; pool = pool; table = table }

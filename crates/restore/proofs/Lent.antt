@@ -16,7 +16,7 @@ use Rattle.model.specs.State.{Shelf, Version, Till, State}
 use Rattle.model.specs.Table.{shapeOf, stateIn, shelfIn, versionIn, versionsIn, versionToWords, tillToWords, recordsPart, stateToWords, stateToBytes}
 use Rattle.model.specs.Sound.{isSound}
 use Rattle.model.specs.Trace.{imageOf, longestChain}
-use Rattle.model.specs.Calls.{RestoreAnswer, emptyTill, tillOf, restoreRefusal, restoreFrom}
+use Rattle.model.specs.Calls.{RestoreAnswer, emptyTill, tillOf, restoreRefusal, restoreFrom, firstOf}
 use Rattle.laws.proofs.Measures.{parts-enough, sizes}
 use Rattle.laws.specs.Stores.{tillAt, recordsFrom, Sound}
 use Rattle.laws.proofs.Stores.{found, header, long}
@@ -43,18 +43,18 @@ module _ (bytes b h : ℕ) (shelf : Shelf) (slots output : List ℕ) where
 
   module _ (some : 0 < h) where
     answer : (fits : Bool) → ltb (length output) (getD slots 1 0) ≡ fits
-        → restoreFrom bytes shelf (versionsIn bytes b h slots) output
+        → restoreFrom bytes shelf (firstOf 0 [] (versionsIn bytes b h slots)) output
         ≡ cond fits (restoreRefusal 5 output) (record { refusal = 0; length = getD slots 1 0; hops = longestChain (versionsIn bytes b h slots); output = imageOf bytes shelf (versionsIn bytes b h slots) ++ drop (getD slots 1 0) output })
-    unfolding restoreFrom
+    unfolding restoreFrom firstOf
     answer fits e = rw (first h some, first-length, e)
 
-    pub too-short : length output < getD slots 1 0 → record { refusal = 5; length = 0; hops = 0; output = output } ≡ restoreFrom bytes shelf (versionsIn bytes b h slots) output
+    pub too-short : length output < getD slots 1 0 → record { refusal = 5; length = 0; hops = 0; output = output } ≡ restoreFrom bytes shelf (firstOf 0 [] (versionsIn bytes b h slots)) output
     unfolding restoreRefusal
     too-short l = sym (answer true (lt-ltb _ _ l))
 
     pub restored : (hops : ℕ) (out : List ℕ) → getD slots 1 0 ≤ length output → hops ≡ longestChain (versionsIn bytes b h slots)
         → out ≡ imageOf bytes shelf (versionsIn bytes b h slots) ++ drop (getD slots 1 0) output
-        → record { refusal = 0; length = getD slots 1 0; hops = hops; output = out } ≡ restoreFrom bytes shelf (versionsIn bytes b h slots) output
+        → record { refusal = 0; length = getD slots 1 0; hops = hops; output = out } ≡ restoreFrom bytes shelf (firstOf 0 [] (versionsIn bytes b h slots)) output
     restored hops out l eh eo = (λ i. record { refusal = 0; length = getD slots 1 0; hops = eh i; output = eo i }) ∙ sym (answer false (le-ltb _ _ l))
 
 -- a length whose blocks are few
@@ -167,8 +167,8 @@ module _ {pool table : List ℕ} (h : Sound pool table) (t : ℕ) (in-table : t 
   pub lent : Lent m (getD table 2 0) (r .held - j) pool words-lent slots-part
   lent = rw em (all-lent h t in-table j held-j words-lent slots-part (r .held - j) words-are slots-are-lent count-is)
 
-  pub from-there : (output : List ℕ) → restoreFrom (m .blockBytes) (shelfIn m pool words-lent) (versionsIn (m .blockBytes) (getD table 2 0) (r .held - j) slots-part) output
-      ≡ restoreFrom (shapeOf table .measures .blockBytes) (stateIn (shapeOf table) pool table .shelf) (drop j (tillOf (stateIn (shapeOf table) pool table) t .versions)) output
+  pub from-there : (output : List ℕ) → restoreFrom (m .blockBytes) (shelfIn m pool words-lent) (firstOf 0 [] (versionsIn (m .blockBytes) (getD table 2 0) (r .held - j) slots-part)) output
+      ≡ restoreFrom (shapeOf table .measures .blockBytes) (stateIn (shapeOf table) pool table .shelf) (firstOf 0 [] (drop j (tillOf (stateIn (shapeOf table) pool table) t .versions))) output
   from-there output =
-      rw em (ap₂ (λ (x : Shelf) (us : List Version). restoreFrom (shapeOf table .measures .blockBytes) x us output) (shelf-lent h t in-table j held-j words-lent slots-part (r .held - j) words-are slots-are-lent count-is)
+      rw em (ap₂ (λ (x : Shelf) (us : List Version). restoreFrom (shapeOf table .measures .blockBytes) x (firstOf 0 [] us) output) (shelf-lent h t in-table j held-j words-lent slots-part (r .held - j) words-are slots-are-lent count-is)
       (versions-lent h t in-table j held-j words-lent slots-part (r .held - j) words-are slots-are-lent count-is))

@@ -1,9 +1,10 @@
 // A version is restored from a sound store.
 ghost use mathlib.Core.Path.{_≡_};
+ghost use mathlib.Core.List.{[]};
 ghost use Prim.Native.Nat.{ℕ, _+_, _-_, _<_};
 ghost use lib.ListN.{length, getD, drop};
 ghost use Rattle.model.specs.Table.{shapeOf, stateIn, shelfIn, versionsIn};
-ghost use Rattle.model.specs.Calls.{tillOf, restoreFrom, restoreOf};
+ghost use Rattle.model.specs.Calls.{tillOf, firstOf, restoreFrom, restoreOf};
 ghost use Rattle.laws.specs.Stores.{Sound};
 ghost use Rattle.numbers.specs.Measures.{measuresOf};
 ghost use Rattle.tills.specs.Answers.{HeadOf};
@@ -40,7 +41,7 @@ fn restore_slots(
     m: Measures,
 ) -> Restored
     requires { ⌜ Lent (measuresOf m) b h (now pool) (now words) (now slots) ⌝ }
-    ensures { λ r. ⌜ restoreAnswer r (now (output .exit)) ≡ restoreFrom (m .bytes) (shelfIn (measuresOf m) (now (pool .entry)) (now (words .entry))) (versionsIn (m .bytes) b h (now (slots .entry))) (now (output .entry)) ⌝ }
+    ensures { λ r. ⌜ restoreAnswer r (now (output .exit)) ≡ restoreFrom (m .bytes) (shelfIn (measuresOf m) (now (pool .entry)) (now (words .entry))) (firstOf 0 [] (versionsIn (m .bytes) b h (now (slots .entry)))) (now (output .entry)) ⌝ }
 {
     let length = slots[1];
     if output.len() < length as usize {
@@ -65,7 +66,7 @@ fn restore_held(
     m: Measures,
 ) -> Restored
     requires { ⌜ Sound (now pool) (now table) × (till < getD (now table) 0 0) × HeadOf (now pool) (now table) till head × (j < head .held) × (measuresOf m ≡ shapeOf (now table) .measures) ⌝ }
-    ensures { λ r. ⌜ restoreAnswer r (now (output .exit)) ≡ restoreFrom (shapeOf (now (table .entry)) .measures .blockBytes) (stateIn (shapeOf (now (table .entry))) (now (pool .entry)) (now (table .entry)) .shelf) (drop j (tillOf (stateIn (shapeOf (now (table .entry))) (now (pool .entry)) (now (table .entry))) till .versions)) (now (output .entry)) ⌝ }
+    ensures { λ r. ⌜ restoreAnswer r (now (output .exit)) ≡ restoreFrom (shapeOf (now (table .entry)) .measures .blockBytes) (stateIn (shapeOf (now (table .entry))) (now (pool .entry)) (now (table .entry)) .shelf) (firstOf 0 [] (drop j (tillOf (stateIn (shapeOf (now (table .entry))) (now (pool .entry)) (now (table .entry))) till .versions))) (now (output .entry)) ⌝ }
 {
     let records = tills::records_at(table);
     let blocks = table[2] as usize;
@@ -99,10 +100,11 @@ pub fn restore_version(
         return refused(3);
     }
     let head = tills::till_head(pool, table, till);
-    let j = tills::place_of(pool, table, till, head, version);
-    if head.held as usize <= j {
-        return refused(15);
+    let found = tills::look_up(pool, table, till, head, version);
+    let refusal = found.refusal;
+    if refusal != 0 {
+        return refused(refusal);
     }
     let m = layout::measures_in(table);
-    restore_held(pool, table, till, head, j, output, m)
+    restore_held(pool, table, till, head, found.place, output, m)
 }

@@ -16,7 +16,7 @@ use Rattle.model.specs.State.{Pointer, Version, Till, Shelf, State, Outcome, re
 use Rattle.model.specs.Records.{countOf}
 use Rattle.model.specs.Sweep.{release, claim, sweep}
 use Rattle.model.specs.Table.{pointerWord, wordToPointer, versionToWords, tillToWords, recordToWords, recordsPart, recordsIn, shapeOf, stateIn, shelfIn, stateToWords, stateToBytes}
-use Rattle.model.specs.Calls.{After, emptyTill, tillOf, newestPointers, withNewestPointers, taken, takeOver, closeUp, withTill, retireFrom, retire, retireIn, retireOf}
+use Rattle.model.specs.Calls.{After, emptyTill, tillOf, Lookup, missing, firstOf, lookUp, newestPointers, withNewestPointers, taken, takeOver, closeUp, withTill, retireFrom, retire, retireIn, retireOf}
 use Rattle.model.specs.Calls as calls
 use Rattle.laws.proofs.Bounds.{count-bound}
 use Rattle.laws.proofs.Fits.{VersionFits, PointerFits}
@@ -33,8 +33,9 @@ use Rattle.shelf.specs.Fits.{Fits, NamesHeld}
 use Rattle.slots.specs.Slots.{HasSlot}
 use Rattle.meets.proofs.Slots as slots
 use Rattle.meets.proofs.Pointers.{null-word, slot-row, version-words, version-pointers, version-fit, version-held}
+use Rattle.tills.specs.declared.Found.{Found}
 use Rattle.tills.specs.declared.Head.{Head}
-use Rattle.tills.specs.Answers.{tillSize, HeadOf, versionsHeld, PlaceOf}
+use Rattle.tills.specs.Answers.{tillSize, HeadOf, versionsHeld, LookedUp}
 use Rattle.retire.specs.Answers.{versionAt, Holds, Copied, takenWord, takeOverWord, exchanged, stateWithout, Are, Placed, retiredAt}
 use Rattle.retire.proofs.Words.{taken-pointers, taken-each, over-words}
 
@@ -447,10 +448,10 @@ module _ {pool table : List ℕ} {t at j : ℕ} (h : Holds pool table t at j) wh
 
   pub answered : (n : ℕ) (p w : List ℕ) → n ≡ versionAt pool table t j .length → Are (shapeOf table) (stateWithout pool table t j) p w
       → record { refusal = 0; length = n; pool = p; table = w } ≡ retiredAt pool table t j
-  unfolding calls.retireAnswer retireFrom
+  unfolding calls.retireAnswer retireFrom firstOf
   answered n p w en a =
       (λ i. record { refusal = 0; length = en i; pool = a .bytes i; table = a .words i })
-      ∙ ap (λ (l : List Version). calls.retireAnswer pool table (shapeOf table) (retireFrom (shapeOf table) (stateIn (shapeOf table) pool table) t (tillOf (stateIn (shapeOf table) pool table) t) (take j (versionsHeld pool table t)) l)) (sym from-here)
+      ∙ ap (λ (l : List Version). calls.retireAnswer pool table (shapeOf table) (retireFrom (shapeOf table) (stateIn (shapeOf table) pool table) t (tillOf (stateIn (shapeOf table) pool table) t) (firstOf 0 (take j (versionsHeld pool table t)) l))) (sym from-here)
 
 -- ---- the refusals
 
@@ -459,16 +460,18 @@ module _ {pool table : List ℕ} (h : Sound pool table) (t n : ℕ) where
   unfolding retireOf retireIn retire calls.retireAnswer shapeOf
   no-till l = rw (h .is, le-leb _ _ l)
 
-  module _ (in-table : t < getD table 0 0) (r : Head) (o : HeadOf pool table t r) (j : ℕ) (p : PlaceOf pool table t n j) where
-    pub held-at : retiredAt pool table t j ≡ retireOf pool table t n
+  module _ (in-table : t < getD table 0 0) (r : Head) (o : HeadOf pool table t r) (f : Found) (p : LookedUp pool table t n f) where
+    answer : (l : Lookup) → lookUp (tillOf (stateIn (shapeOf table) pool table) t) n ≡ l
+        → retireOf pool table t n ≡ calls.retireAnswer pool table (shapeOf table) (retireFrom (shapeOf table) (stateIn (shapeOf table) pool table) t (tillOf (stateIn (shapeOf table) pool table) t) l)
     unfolding retireOf retireIn retire shapeOf
-    held-at = sym (rw (h .is, lt-leb _ _ in-table, p .from, p .before))
+    answer l e = rw (h .is, lt-leb _ _ in-table, e)
 
-    pub not-held : r .held ≤ j → record { refusal = 15; length = 0; pool = pool; table = table } ≡ retireOf pool table t n
+    pub held-at : f .refusal ≡ 0 → retiredAt pool table t (f .place) ≡ retireOf pool table t n
+    held-at z = sym (answer _ (p .held z))
+
+    pub not-held : (k : ℕ) → k ≡ f .refusal → (k ≡ 0 → ⊥) → record { refusal = k; length = 0; pool = pool; table = table } ≡ retireOf pool table t n
     unfolding calls.retireAnswer retireFrom
-    not-held l =
-        ap (λ (vs : List Version). calls.retireAnswer pool table (shapeOf table) (retireFrom (shapeOf table) (stateIn (shapeOf table) pool table) t (tillOf (stateIn (shapeOf table) pool table) t) (take j (versionsHeld pool table t)) vs))
-        (sym (drop-end (versionsHeld pool table t) j (omega (arith, l, o .held)))) ∙ held-at
+    not-held k e z = sym (answer (missing k) (rw e (p .missing (λ q. z (e ∙ q)))))
 
-    pub holds : j < r .held → Holds pool table t (r .at) j
-    holds l = record { sound = h; inside = in-table; begins = o .at; held = omega (arith, l, o .held) }
+    pub holds : f .refusal ≡ 0 → Holds pool table t (r .at) (f .place)
+    holds z = record { sound = h; inside = in-table; begins = o .at; held = p .inside z }

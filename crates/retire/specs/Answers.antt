@@ -74,4 +74,4 @@ retireAnswer r pool table = record { refusal = r .refusal; length = r .length; p
 abbrev pub retiredAt : List ℕ → List ℕ → ℕ → ℕ → calls.RetireAnswer
 retiredAt pool table t j =
     calls.retireAnswer pool table (shapeOf table)
-    (calls.retireFrom (shapeOf table) (stateIn (shapeOf table) pool table) t (calls.tillOf (stateIn (shapeOf table) pool table) t) (take j (versionsHeld pool table t)) (drop j (versionsHeld pool table t)))
+    (calls.retireFrom (shapeOf table) (stateIn (shapeOf table) pool table) t (calls.tillOf (stateIn (shapeOf table) pool table) t) (calls.firstOf 0 (take j (versionsHeld pool table t)) (drop j (versionsHeld pool table t))))

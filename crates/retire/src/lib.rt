@@ -211,15 +211,16 @@ pub fn retire_version(pool: &mut [u8], table: &mut [u32], till: u32, version: u3
         };
     }
     let head = tills::till_head(pool, table, till);
-    let j = tills::place_of(pool, table, till, head, version);
-    if head.held as usize <= j {
+    let found = tills::look_up(pool, table, till, head, version);
+    let refusal = found.refusal;
+    if refusal != 0 {
         return Retired {
-            refusal: 15,
+            refusal: refusal,
             length: 0,
         };
     }
     let m = layout::measures_in(table);
-    let length = retire_held(pool, table, till, head.at, j, m);
+    let length = retire_held(pool, table, till, head.at, found.place, m);
     Retired {
         refusal: 0,
         length: length,

@@ -16,7 +16,7 @@ use Rattle.model.specs.Image.{zeroBlock, blockFrom, blocksFrom, segmentsFrom, i
 use Rattle.model.specs.Records.{cellAt, positionAt}
 use Rattle.model.specs.Trace.{hopsVia, endVia, hops, endOf, blockAt, tracedBlock, tracedBlocks, imageOf, longestChain}
 use Rattle.model.specs.Sound.{Store}
-use Rattle.model.specs.Calls.{tillOf, heldFrom, restoreRefusal, restoreFrom, restore, restoreIn}
+use Rattle.model.specs.Calls.{tillOf, heldFrom, restoreRefusal, restoreFrom, restore, restoreIn, heldBefore, firstOf, notHeld, lookUp}
 use Rattle.stream.specs.Stream.{StreamAnswer, streamRefusal, hasStream, fourBytes, groupBytes, streamOf, writeStream, passed, stopped, andThen, mayStand, readBlock, readBlocks, readGroup, readGroups, readEnd, readBody, lengthIn, delivered, readStream}
 use Rattle.stream.specs.Version.{longestOutput, writeRestored}
 
@@ -117,9 +117,10 @@ rows =
     ∷ stream (replicate 64 0 ++ replicate 64 255) (128 ∷ 0 ∷ 0 ∷ 0 ∷ 2 ∷ replicate 64 255)
     -- the ninth block begins a second group
     ∷ stream (replicate 512 0 ++ (7 ∷ [])) (1 ∷ 2 ∷ 0 ∷ 0 ∷ 0 ∷ 1 ∷ 7 ∷ replicate 63 0)
-    -- the writer: 3, 15, 5, and the same stream from both stores
+    -- the writer: 3, 17, 18, 5, and the same stream from both stores
     ∷ write small 1 3 133 3 []
-    ∷ write small 0 2 132 15 []
+    ∷ write small 0 4 132 17 []
+    ∷ write small 0 2 132 18 []
     ∷ write small 0 3 132 5 []
     ∷ write small 0 3 135 0 sound
     ∷ write large 0 3 133 0 sound
@@ -129,6 +130,6 @@ rows-hold : every holds rows ≡ true
 unfolding rows holds gives image two sound storeWith small large
     readStream delivered streamRefusal hasStream isWithin allOf lengthIn readBody readGroups readGroup readBlocks readBlock andThen passed stopped mayStand readEnd partsFor
     streamOf writeStream fourBytes groupBytes joined maskOf keep imageSegments segmentsFrom blocksFrom blockFrom fill zeroBlock allZero every sameNumbers
-    writeRestored longestOutput restoreIn restore restoreFrom restoreRefusal tillOf heldFrom imageOf tracedBlocks tracedBlock blockAt endOf endVia hops hopsVia longestChain
+    writeRestored longestOutput restoreIn restore restoreFrom restoreRefusal tillOf heldFrom heldBefore firstOf notHeld lookUp imageOf tracedBlocks tracedBlock blockAt endOf endVia hops hopsVia longestChain
     cellAt positionAt counted largest
 rows-hold = refl

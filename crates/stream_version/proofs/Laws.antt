@@ -10,17 +10,17 @@ use borrow.Author.Tests.{eq-eqb, ne-eqb, ltb-false}
 use Rattle.lists.proofs.Tests.{by-test}
 use Rattle.model.specs.State.{Shelf, Version}
 use Rattle.model.specs.Sound.{Store, storeOf}
-use Rattle.model.specs.Calls.{RestoreAnswer, restoreRefusal, restoreFrom, restore, restoreIn, restoreOf, heldFrom, tillOf}
+use Rattle.model.specs.Calls.{RestoreAnswer, restoreRefusal, restoreFrom, restore, restoreIn, restoreOf, heldFrom, tillOf, Lookup, found, missing, lookUp}
 use Rattle.stream.specs.Stream.{StreamAnswer, streamRefusal, writeStream}
 use Rattle.stream.specs.Version.{longestOutput, writeRestored, writeStreamOf}
 
 abbrev Fits : List ℕ → RestoreAnswer → Type 0
 Fits output r = r .length ≤ length output
 
-from-fits : (bytes : ℕ) (a : Shelf) (output : List ℕ) (vs : List Version) → Fits output (restoreFrom bytes a vs output)
+from-fits : (bytes : ℕ) (a : Shelf) (output : List ℕ) (l : Lookup) → Fits output (restoreFrom bytes a l output)
 unfolding restoreFrom restoreRefusal
-from-fits bytes a output [] = omega arith
-from-fits bytes a output (v ∷ newer) =
+from-fits bytes a output (missing n) = omega arith
+from-fits bytes a output (found older v newer) =
     by-test (Fits output) (ltb (length output) (v .length)) (λ e. omega arith) (λ e. ltb-false (length output) (v .length) e)
 
 in-fits : (t v : ℕ) (output : List ℕ) (o : Option Store) → Fits output (restoreIn o t v output)
@@ -28,7 +28,7 @@ unfolding restoreIn restore restoreRefusal
 in-fits t v output none = omega arith
 in-fits t v output (some x) =
     by-test (Fits output) (leb (x .shape .capacities .tills) t) (λ e. omega arith)
-    (λ e. from-fits (x .shape .measures .blockBytes) (x .state .shelf) output (heldFrom v (tillOf (x .state) t .versions)))
+    (λ e. from-fits (x .shape .measures .blockBytes) (x .state .shelf) output (lookUp (tillOf (x .state) t) v))
 
 restore-fits : (pool table : List ℕ) (t v : ℕ) (output : List ℕ) → restoreOf pool table t v output .length ≤ length output
 unfolding restoreOf

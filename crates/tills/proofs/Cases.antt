@@ -1,22 +1,22 @@
 -- How large a till is; the listing, case by case; and where a version is.
-use mathlib.Core.Path.{_≡_, refl, sym, ap, _∙_}
+use mathlib.Core.Path.{_≡_, refl, sym, ap, ap₂, _∙_}
 use mathlib.Core.Bool.{Bool, true, false}
 use mathlib.Core.List.{List, [], _∷_, map}
 use Prim.Native.Nat.{ℕ, suc, _+_, _*_, _-_, _≤_, _<_}
 use native.Mathlib.Omega.{arith}
-use lib.ListN.{length, getD}
+use lib.ListN.{length, getD, take, drop, length-drop}
 use lib.Dec.{leb}
-use borrow.Author.Tests.{le-leb, lt-leb, leb-true, leb-false}
+use borrow.Author.Tests.{le-leb, lt-leb, leb-true, leb-false, eq-eqb, ne-eqb, le-ltb, lt-ltb}
 use Rattle.model.specs.State.{Version, Till}
 use Rattle.model.specs.Table.{shapeOf, stateIn}
-use Rattle.model.specs.Calls.{ListingAnswer, tillOf, oldestNumber, newestNumber, listingRefusal, listTill, listingIn, listingOf}
+use Rattle.model.specs.Calls.{ListingAnswer, tillOf, heldBefore, missing, firstOf, notHeld, lookUp, oldestNumber, newestNumber, listingRefusal, listTill, listingIn, listingOf}
 use Rattle.laws.proofs.Measures.{sizes}
 use Rattle.laws.specs.Stores.{tillAt, Sound, Header}
 use Rattle.laws.proofs.Stores.{header}
-use Rattle.laws.proofs.Tills.{till, in-words, last-word, held-word, held-place, oldest-at, newest-at, slot-in, number-word}
+use Rattle.laws.proofs.Tills.{till, in-words, last-word, held-word, held-place, not-held-some, oldest-at, newest-at, slot-in, number-word}
 use Rattle.tills.specs.declared.Head.{Head}
-use Rattle.tills.specs.Answers.{tillSize, HeadOf, versionsHeld, numbersHeld, PlaceOf}
-use Rattle.lists.proofs.Slices.{none-left}
+use Rattle.tills.specs.Answers.{tillSize, HeadOf, versionsHeld, numbersHeld, PlaceOf, LookedUp}
+use Rattle.lists.proofs.Slices.{drop-end, none-left}
 
 pub small : (table : List ℕ) → Header table → (t : ℕ) → t ≤ 16 → (tillSize table ≤ 65732) × (t * tillSize table ≤ 1051712)
 small table h t n = let (a, b) = sizes t (getD table 1 0) (getD table 2 0) n (h .versions) (h .blocks) in (omega (arith, a), b)
@@ -107,3 +107,49 @@ module _ {pool table : List ℕ} (h : Sound pool table) (t : ℕ) (in-table : t 
   place-none n j e f =
       let q = held-place n (versionsHeld pool table t) j (omega (arith, e)) f (λ k. absurd (omega (arith, k, e))) in
       record { most = omega (arith, e); from = q .0; before = q .1 }
+
+-- ---- the refusal of a number that is not held
+
+pub zero-missing : (last n : ℕ) → n ≡ 0 → 17 ≡ notHeld last n
+unfolding notHeld
+zero-missing last n e = rw (eq-eqb n 0 e)
+
+pub above-missing : (last n : ℕ) → (n ≡ 0 → ⊥) → last < n → 17 ≡ notHeld last n
+unfolding notHeld
+above-missing last n e h = rw (ne-eqb n 0 e, lt-ltb last n h)
+
+pub given-missing : (last n : ℕ) → (n ≡ 0 → ⊥) → n ≤ last → 18 ≡ notHeld last n
+unfolding notHeld
+given-missing last n e h = rw (ne-eqb n 0 e, le-ltb last n h)
+
+-- ---- a number looked up, from its place
+
+module _ {pool table : List ℕ} (t n : ℕ) (h : Head) (o : HeadOf pool table t h) (j : ℕ) (p : PlaceOf pool table t n j) where
+  past-missing : (r : ℕ) → r ≡ notHeld (h .last) n → h .held ≤ j → lookUp (tillOf (stateIn (shapeOf table) pool table) t) n ≡ missing r
+  unfolding lookUp firstOf
+  past-missing r e l =
+      let past : drop j (versionsHeld pool table t) ≡ [] = drop-end (versionsHeld pool table t) j (omega (arith, l, o .held)) in
+      ap (firstOf (notHeld (tillOf (stateIn (shapeOf table) pool table) t .last) n) (heldBefore n (versionsHeld pool table t))) (p .from ∙ past)
+      ∙ ap (λ (x : ℕ). missing x) (ap (λ (x : ℕ). notHeld x n) (sym (o .last)) ∙ sym e)
+
+  pub looked-past : (r : ℕ) → r ≡ notHeld (h .last) n → h .held ≤ j → LookedUp pool table t n (record { refusal = r; place = 0 })
+  looked-past r e l =
+      let some : 0 < r = rw e (not-held-some (h .last) n) in
+      record {
+        inside = λ z. absurd (omega (arith, some, z));
+        held = λ z. absurd (omega (arith, some, z));
+        missing = λ z. past-missing r e l;
+      }
+
+  pub looked-at : j < h .held → LookedUp pool table t n (record { refusal = 0; place = j })
+  unfolding lookUp
+  looked-at l = record {
+    inside = λ z. omega (arith, l, o .held);
+    held = λ z. ap₂ (firstOf (notHeld (tillOf (stateIn (shapeOf table) pool table) t .last) n)) (p .before) (p .from) ∙ there (drop j (versionsHeld pool table t)) refl;
+    missing = λ z. absurd (z refl);
+  }
+    where
+      there : (vs : List Version) → drop j (versionsHeld pool table t) ≡ vs
+          → firstOf (notHeld (tillOf (stateIn (shapeOf table) pool table) t .last) n) (take j (versionsHeld pool table t)) vs ≡ firstOf 0 (take j (versionsHeld pool table t)) vs
+      there [] e = absurd (omega (arith, l, o .held, ap length e, length-drop j (versionsHeld pool table t)))
+      there (v ∷ vs) e = unfold firstOf in refl

@@ -1,5 +1,5 @@
 -- A till's head, the place of a version among those held, and what the answers say.
-use Prim.Native.Nat.{ℕ, _≤_}
+use Prim.Native.Nat.{ℕ, _≤_, _<_}
 use mathlib.Core.Path.{_≡_}
 use mathlib.Core.List.{List, map}
 use lib.ListN.{length, getD, take, drop}
@@ -8,6 +8,7 @@ use Rattle.model.specs.State.{Version}
 use Rattle.model.specs.Table.{shapeOf, stateIn}
 use Rattle.model.specs.Calls as calls
 use Rattle.laws.specs.Stores.{tillAt}
+use Rattle.tills.specs.declared.Found.{Found}
 use Rattle.tills.specs.declared.Head.{Head}
 use Rattle.tills.specs.declared.Listing.{Listing}
 
@@ -31,6 +32,13 @@ pub record PlaceOf (pool table : List ℕ) (t n r : ℕ) : Type 0 where
   pub most : r ≤ length (versionsHeld pool table t)
   pub from : calls.heldFrom n (versionsHeld pool table t) ≡ drop r (versionsHeld pool table t)
   pub before : calls.heldBefore n (versionsHeld pool table t) ≡ take r (versionsHeld pool table t)
+
+-- a number looked up in a till: refusal 0 and the place of its version among those held, or 17 or 18
+pub record LookedUp (pool table : List ℕ) (t n : ℕ) (r : Found) : Type 0 where
+  pub inside : r .refusal ≡ 0 → r .place < length (versionsHeld pool table t)
+  pub held : r .refusal ≡ 0
+      → calls.lookUp (calls.tillOf (stateIn (shapeOf table) pool table) t) n ≡ calls.firstOf 0 (take (r .place) (versionsHeld pool table t)) (drop (r .place) (versionsHeld pool table t))
+  pub missing : (r .refusal ≡ 0 → ⊥) → calls.lookUp (calls.tillOf (stateIn (shapeOf table) pool table) t) n ≡ calls.missing (r .refusal)
 
 abbrev pub listingAnswer : Listing → calls.ListingAnswer
 listingAnswer r = record { refusal = r .refusal; oldest = r .oldest; newest = r .newest; last = r .last }

@@ -1,11 +1,11 @@
-// A till of a sound store: where its words are, the place of a version, and its listing.
+// A till of a sound store: where its words are, the version of a number, and its listing.
 ghost use mathlib.Core.Path.{_≡_};
 ghost use Prim.Native.Nat.{ℕ, _<_};
 ghost use lib.ListN.{length, getD};
 ghost use Rattle.model.specs.Table.{shapeOf};
-ghost use Rattle.model.specs.Calls.{listingOf};
+ghost use Rattle.model.specs.Calls.{notHeld, listingOf};
 ghost use Rattle.laws.specs.Stores.{tillAt, recordsFrom, Sound, Header};
-ghost use Rattle.tills.specs.Answers.{tillSize, HeadOf, versionsHeld, numbersHeld, PlaceOf, listingAnswer};
+ghost use Rattle.tills.specs.Answers.{tillSize, HeadOf, versionsHeld, numbersHeld, PlaceOf, LookedUp, listingAnswer};
 
 // Refusal 0 is an accepted call.
 #[repr(C)]
@@ -21,6 +21,12 @@ pub struct Head {
     pub at: usize,
     pub last: u32,
     pub held: u32,
+}
+
+// What a lookup finds: the refusal, or 0 and the place of the version.
+pub struct Found {
+    pub refusal: u32,
+    pub place: usize,
 }
 
 // How many words a till has.
@@ -62,7 +68,7 @@ fn number_at(pool: &[u8], table: &[u32], till: u32, at: usize, j: usize) -> u32
 }
 
 // The place of a version among those held, the oldest first; past the last if it is not held.
-pub fn place_of(pool: &[u8], table: &[u32], till: u32, head: Head, version: u32) -> usize
+fn place_of(pool: &[u8], table: &[u32], till: u32, head: Head, version: u32) -> usize
     requires { ⌜ Sound (now pool) (now table) × (till < getD (now table) 0 0) × HeadOf (now pool) (now table) till head ⌝ }
     ensures { λ r. ⌜ PlaceOf (now (pool .entry)) (now (table .entry)) till version r ⌝ }
 {
@@ -75,6 +81,37 @@ pub fn place_of(pool: &[u8], table: &[u32], till: u32, head: Head, version: u32)
         j = j + 1;
     }
     held
+}
+
+// The refusal of a number that is not held: 17 if it was never given, 18 if it was.
+fn not_held(last: u32, version: u32) -> u32
+    ensures { λ r. ⌜ r ≡ notHeld last version ⌝ }
+{
+    if version == 0 {
+        return 17;
+    }
+    if last < version {
+        return 17;
+    }
+    18
+}
+
+// A version number looked up: refusal 0 and the version's place among those held, the oldest first; or 17 or 18.
+pub fn look_up(pool: &[u8], table: &[u32], till: u32, head: Head, version: u32) -> Found
+    requires { ⌜ Sound (now pool) (now table) × (till < getD (now table) 0 0) × HeadOf (now pool) (now table) till head ⌝ }
+    ensures { λ r. ⌜ LookedUp (now (pool .entry)) (now (table .entry)) till version r ⌝ }
+{
+    let j = place_of(pool, table, till, head, version);
+    if head.held as usize <= j {
+        return Found {
+            refusal: not_held(head.last, version),
+            place: 0,
+        };
+    }
+    Found {
+        refusal: 0,
+        place: j,
+    }
 }
 
 pub fn list_till(pool: &[u8], table: &[u32], till: u32) -> Listing

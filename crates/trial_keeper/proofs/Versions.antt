@@ -4,10 +4,10 @@ use mathlib.Core.Bool.{Bool, true, false, cond, not}
 use mathlib.Core.List.{List}
 use Prim.Native.Nat.{ℕ, _+_, _*_, _≤_, _<_, min}
 use native.Mathlib.Omega.{arith}
-use borrow.Author.Tests.{eq-eqb, ne-eqb, lt-ltb, le-ltb, le-leb, lt-leb, not-true, not-false}
+use borrow.Author.Tests.{eq-eqb, le-leb, le-ltb, lt-leb, lt-ltb, ne-eqb, not-false, not-true}
 use lib.Dec.{ltb}
 use lib.ListN.{getD, set}
-use Rattle.trial_keeper.specs.Notes.{lastGiven, newerThan, placeOf, lengthAt, isHeld, lengthOf, struck, mostBytes, backupRefusal, restoreRefusal, retireRefusal}
+use Rattle.trial_keeper.specs.Notes.{lastGiven, newerThan, placeOf, lengthAt, isHeld, lengthOf, struck, mostBytes, missingNumber, backupRefusal, restoreRefusal, retireRefusal}
 
 pub held-zero : (notes : List ℕ) (till v : ℕ) → v ≡ 0 → false ≡ isHeld notes till v
 unfolding isHeld
@@ -69,7 +69,8 @@ may-back-up tills versions most notes till bytes n m h z l e f g k =
 pub no-till-restore : (tills : ℕ) (notes : List ℕ) (till v room : ℕ) → tills ≤ till → 3 ≡ restoreRefusal tills notes till v room
 no-till-restore tills notes till v room h = rw (le-leb tills till h) refl
 
-pub gone-restore : (tills : ℕ) (notes : List ℕ) (till v room : ℕ) (r : Bool) → till < tills → r ≡ isHeld notes till v → not r ≡ true → 15 ≡ restoreRefusal tills notes till v room
+pub gone-restore : (tills : ℕ) (notes : List ℕ) (till v room : ℕ) (r : Bool) → till < tills → r ≡ isHeld notes till v → not r ≡ true
+    → missingNumber (lastGiven notes till) v ≡ restoreRefusal tills notes till v room
 gone-restore tills notes till v room r h e n = rw (lt-leb tills till h) (rw (sym e ∙ not-true r n) refl)
 
 pub no-room :
@@ -85,11 +86,22 @@ may-restore tills notes till v room n r h e k g l = rw (lt-leb tills till h) (rw
 pub no-till-retire : (tills : ℕ) (notes : List ℕ) (till v : ℕ) → tills ≤ till → 3 ≡ retireRefusal tills notes till v
 no-till-retire tills notes till v h = rw (le-leb tills till h) refl
 
-pub gone-retire : (tills : ℕ) (notes : List ℕ) (till v : ℕ) (r : Bool) → till < tills → r ≡ isHeld notes till v → not r ≡ true → 15 ≡ retireRefusal tills notes till v
+pub gone-retire : (tills : ℕ) (notes : List ℕ) (till v : ℕ) (r : Bool) → till < tills → r ≡ isHeld notes till v → not r ≡ true → missingNumber (lastGiven notes till) v ≡ retireRefusal tills notes till v
 gone-retire tills notes till v r h e n = rw (lt-leb tills till h) (rw (sym e ∙ not-true r n) refl)
 
 pub may-retire : (tills : ℕ) (notes : List ℕ) (till v : ℕ) (r : Bool) → till < tills → r ≡ isHeld notes till v → not r ≡ false → 0 ≡ retireRefusal tills notes till v
 may-retire tills notes till v r h e n = rw (lt-leb tills till h) (rw (sym e ∙ not-false r n) refl)
+
+-- ---- a number that is not held
+
+pub zero-missing : (last n : ℕ) → 0 ≡ n → 17 ≡ missingNumber last n
+zero-missing last n e = rw (eq-eqb n 0 (sym e))
+
+pub above-missing : (last n : ℕ) → (0 ≡ n → ⊥) → last < n → 17 ≡ missingNumber last n
+above-missing last n e h = rw (ne-eqb n 0 (λ z. e (sym z)), lt-ltb last n h)
+
+pub given-missing : (last n : ℕ) → (0 ≡ n → ⊥) → n ≤ last → 18 ≡ missingNumber last n
+given-missing last n e h = rw (ne-eqb n 0 (λ z. e (sym z)), le-ltb last n h)
 
 -- ---- an image's most bytes
 

@@ -71,10 +71,14 @@ backupRefusal tills versions most notes till bytes =
     (cond (leb versions (newerThan notes till 0)) 11
     (cond (leb 65535 (lastGiven notes till)) 12 0))))
 
+-- of a number that is not held: never given, being 0 or above the last, or given before
+abbrev pub missingNumber : ℕ → ℕ → ℕ
+missingNumber last n = cond (eqb n 0) 17 (cond (ltb last n) 17 18)
+
 abbrev pub restoreRefusal : ℕ → List ℕ → ℕ → ℕ → ℕ → ℕ
 restoreRefusal tills notes till n room =
     cond (leb tills till) 3
-    (cond (isHeld notes till n) (cond (ltb room (lengthOf notes till n)) 5 0) 15)
+    (cond (isHeld notes till n) (cond (ltb room (lengthOf notes till n)) 5 0) (missingNumber (lastGiven notes till) n))
 
 abbrev pub retireRefusal : ℕ → List ℕ → ℕ → ℕ → ℕ
-retireRefusal tills notes till n = cond (leb tills till) 3 (cond (isHeld notes till n) 0 15)
+retireRefusal tills notes till n = cond (leb tills till) 3 (cond (isHeld notes till n) 0 (missingNumber (lastGiven notes till) n))

@@ -3,7 +3,7 @@
 ghost use mathlib.Core.Path.{_≡_};
 ghost use Prim.Native.Nat.{_+_, _*_, _≤_, _<_, min};
 ghost use lib.ListN.{getD, set};
-ghost use Rattle.trial_keeper.specs.Notes.{lastGiven, numberAt, newerThan, placeOf, newestOf, oldestOf, lengthOf, isHeld, struck, mostBytes, backupRefusal, restoreRefusal, retireRefusal};
+ghost use Rattle.trial_keeper.specs.Notes.{lastGiven, numberAt, newerThan, placeOf, newestOf, oldestOf, lengthOf, isHeld, struck, mostBytes, missingNumber, backupRefusal, restoreRefusal, retireRefusal};
 use layout::Capacities;
 use numbers::Block;
 
@@ -294,6 +294,19 @@ pub fn backup_refusal(c: Capacities, notes: &[u32], till: u32, bytes: usize) -> 
     0
 }
 
+// The number of a version that is not held.
+fn missing(notes: &[u32], till: u32, version: u32) -> u32
+    ensures { λ r. ⌜ r ≡ missingNumber (lastGiven (now (notes .entry)) till) version ⌝ }
+{
+    if 0 == version {
+        return 17;
+    }
+    if last(notes, till) < version {
+        return 17;
+    }
+    18
+}
+
 pub fn restore_refusal(c: Capacities, notes: &[u32], till: u32, version: u32, room: usize) -> u32
     ensures { λ r. ⌜ r ≡ restoreRefusal (c .tills) (now (notes .entry)) till version room ⌝ }
 {
@@ -301,7 +314,7 @@ pub fn restore_refusal(c: Capacities, notes: &[u32], till: u32, version: u32, ro
         return 3;
     }
     if !holds(notes, till, version) {
-        return 15;
+        return missing(notes, till, version);
     }
     if room < length(notes, till, version) as usize {
         return 5;
@@ -316,7 +329,7 @@ pub fn retire_refusal(c: Capacities, notes: &[u32], till: u32, version: u32) -> 
         return 3;
     }
     if !holds(notes, till, version) {
-        return 15;
+        return missing(notes, till, version);
     }
     0
 }

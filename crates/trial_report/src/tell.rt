@@ -31,8 +31,9 @@ fn refusals(counts: &[u64]) {
     line(b"refused with 11:", counts::count_at(counts, 11));
     line(b"refused with 12:", counts::count_at(counts, 12));
     line(b"refused with 14:", counts::count_at(counts, 14));
-    line(b"refused with 15:", counts::count_at(counts, 15));
     line(b"refused with 16:", counts::count_at(counts, 16));
+    line(b"refused with 17:", counts::count_at(counts, 17));
+    line(b"refused with 18:", counts::count_at(counts, 18));
 }
 
 fn retires(counts: &[u64]) {

@@ -32,7 +32,11 @@ pub enum Call {
         till: u32,
     },
     Tally,
-    WriteStream { till: u32, version: u32, room: usize },
+    WriteStream {
+        till: u32,
+        version: u32,
+        room: usize,
+    },
 }
 
 impl fmt::Debug for Call {

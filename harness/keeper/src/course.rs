@@ -197,21 +197,16 @@ impl Course {
             Call::Tally => None,
             Call::Listing { till } => self.keeper.till(*till).is_none().then_some(Refusal::NoSuchTill),
             Call::Backup { till, image } | Call::Earlier { till, image } => self.backup_refusal(*till, image.len()),
-            Call::Restore { till, version, room } => {
-                let Some(till) = self.keeper.till(*till) else { return Some(Refusal::NoSuchTill) };
-                let Some(image) = till.image(*version) else { return Some(Refusal::NotHeld) };
-                (*room < image.len()).then_some(Refusal::ShortOutput)
-            }
-            Call::WriteStream { till, version, room } => {
-                let Some(till) = self.keeper.till(*till) else { return Some(Refusal::NoSuchTill) };
-                let Some(image) = till.image(*version) else { return Some(Refusal::NotHeld) };
-                (*room < stream_length(image)).then_some(Refusal::ShortOutput)
-            }
-            Call::Retire { till, version } => {
-                let Some(till) = self.keeper.till(*till) else { return Some(Refusal::NoSuchTill) };
-                till.image(*version).is_none().then_some(Refusal::NotHeld)
-            }
+            Call::Restore { till, version, room } => too_short(self.image(*till, *version), *room, <[u8]>::len),
+            Call::WriteStream { till, version, room } => too_short(self.image(*till, *version), *room, stream_length),
+            Call::Retire { till, version } => self.image(*till, *version).err(),
         }
+    }
+
+    /// The image that the keeper has under these numbers, or why it has none.
+    fn image(&self, till: u32, version: u32) -> Result<&[u8], Refusal> {
+        let till = self.keeper.till(till).ok_or(Refusal::NoSuchTill)?;
+        till.image(version).ok_or(till.missing(version))
     }
 
     fn backup_refusal(&self, till: u32, length: usize) -> Option<Refusal> {
@@ -223,6 +218,14 @@ impl Course {
         } else {
             (till.last == LAST_NUMBER).then_some(Refusal::NumbersSpent)
         }
+    }
+}
+
+/// The refusal of a call that writes an image, in a form of so many bytes, to so much room.
+fn too_short(image: Result<&[u8], Refusal>, room: usize, bytes: fn(&[u8]) -> usize) -> Option<Refusal> {
+    match image {
+        Ok(image) => (room < bytes(image)).then_some(Refusal::ShortOutput),
+        Err(refusal) => Some(refusal),
     }
 }
 

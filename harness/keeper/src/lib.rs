@@ -11,6 +11,7 @@ pub mod events;
 pub mod flash;
 pub mod images;
 pub mod inspect;
+pub mod lookups;
 pub mod retires;
 pub mod settings;
 pub mod sketch;

@@ -35,7 +35,7 @@ pub fn middle_and_newest(store: &dyn Calls) {
     for (version, shown) in [(1, ("ABCDEFGH", 2)), (2, ("ABCDEFGZ", 1)), (4, ("ABCDEFGH", 0))] {
         assert_eq!(one.shown(version), (shown.0.into(), shown.1));
     }
-    assert_eq!((one.retire(3), one.restore(3, &mut [0; 512])), ([15, 0], [15, 0, 0]));
+    assert_eq!((one.retire(3), one.restore(3, &mut [0; 512])), ([18, 0], [18, 0, 0]));
 
     // The newest goes: H of record 2 has no pointer left.
     assert_eq!(one.retire(4), [0, 512]);
@@ -59,7 +59,7 @@ pub fn one_after_the_other(store: &dyn Calls) {
         assert_eq!(one.retire(version), [0, 512]);
         assert_eq!((one.tally(), one.listing()), (tally, listing), "after {version}");
         (1..version).for_each(|held| assert_eq!(one.shown(held).0.len(), 8));
-        assert_eq!(one.retire(version), [15, 0]);
+        assert_eq!((one.retire(version), one.retire(5)), ([18, 0], [17, 0]));
     }
     assert_eq!((one.picture(), one.file("A"), one.listing()), ("".into(), [0, 5], [0, 5, 5, 5]));
 

@@ -1,7 +1,7 @@
 //! The page's keeper of whole images.
 
 use std::collections::BTreeMap;
-use terms::Listing;
+use terms::{Listing, Refusal};
 
 /// For each till the last number given and the held versions, each a whole image.
 pub struct Keeper {
@@ -88,6 +88,14 @@ impl Till {
 
     pub fn image(&self, version: u32) -> Option<&[u8]> {
         self.held.get(&version).map(|kept| kept.image.as_slice())
+    }
+
+    /// Why a number is not held: it was given once, or never.
+    pub fn missing(&self, version: u32) -> Refusal {
+        match (1..=self.last).contains(&version) {
+            true => Refusal::NoLongerHeld,
+            false => Refusal::NeverGiven,
+        }
     }
 
     /// How many held versions are newer than this one.

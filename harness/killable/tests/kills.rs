@@ -74,7 +74,7 @@ impl Scene {
         let again = bench.run(self.line);
         assert!(again.status.is_some(), "{again:?}");
         let made = ["init", "grow"].contains(&self.name) && again.err.contains("exists already");
-        let retired = self.name == "retire" && again.err.contains("refused, 15");
+        let retired = self.name == "retire" && again.err.contains("refused, 18");
         assert!(again.status == Some(0) || self.name == "refused" || made || retired, "{again:?}");
         bench.fed("backup s 1 -", &letters("QQQ")).accepted();
         assert!(bench.drafts().is_empty(), "{:?}", bench.names());

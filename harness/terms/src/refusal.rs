@@ -2,7 +2,8 @@
 
 use std::fmt;
 
-/// A refusal, with the page's number as its value and the page's words as its text. 13 is no longer answered.
+/// A refusal, with the page's number as its value and the page's words as its text. 13 and 15 are no longer
+/// answered.
 #[derive(Clone, Copy, Debug, PartialEq, Eq, PartialOrd, Ord, Hash)]
 #[repr(u32)]
 pub enum Refusal {
@@ -15,8 +16,9 @@ pub enum Refusal {
     TillFull = 11,
     NumbersSpent = 12,
     NoRecord = 14,
-    NotHeld = 15,
     NoRun = 16,
+    NeverGiven = 17,
+    NoLongerHeld = 18,
     StreamSize = 24,
     StreamLength = 25,
     StreamBits = 26,
@@ -24,7 +26,7 @@ pub enum Refusal {
 }
 
 impl Refusal {
-    pub const ALL: [Refusal; 15] = [
+    pub const ALL: [Refusal; 16] = [
         Refusal::Capacity,
         Refusal::Lengths,
         Refusal::NoSuchTill,
@@ -34,8 +36,9 @@ impl Refusal {
         Refusal::TillFull,
         Refusal::NumbersSpent,
         Refusal::NoRecord,
-        Refusal::NotHeld,
         Refusal::NoRun,
+        Refusal::NeverGiven,
+        Refusal::NoLongerHeld,
         Refusal::StreamSize,
         Refusal::StreamLength,
         Refusal::StreamBits,
@@ -64,8 +67,9 @@ impl Refusal {
             Refusal::TillFull => "the till holds its full number of versions",
             Refusal::NumbersSpent => "its last given number is 65,535",
             Refusal::NoRecord => "a segment to be placed in step 1 finds no free record",
-            Refusal::NotHeld => "that version is not held",
             Refusal::NoRun => "a segment to be placed finds no run",
+            Refusal::NeverGiven => "a version number that is 0 or above the till's last given",
+            Refusal::NoLongerHeld => "a version number given before and no longer held",
             Refusal::StreamSize => "a stream too short or too long",
             Refusal::StreamLength => "a stream with a length of 0 or above 65,536",
             Refusal::StreamBits => {
@@ -93,13 +97,14 @@ mod tests {
         for refusal in Refusal::ALL {
             assert_eq!(Refusal::from_number(refusal.number()), Some(refusal));
         }
-        for number in [0, 6, 7, 8, 9, 13, 17, 23, 28, u32::MAX] {
+        for number in [0, 6, 7, 8, 9, 13, 15, 19, 23, 28, u32::MAX] {
             assert_eq!(Refusal::from_number(number), None);
         }
     }
 
     #[test]
     fn text_has_number_and_words() {
-        assert_eq!(Refusal::NotHeld.to_string(), "refused, 15: that version is not held");
+        let words = "refused, 18: a version number given before and no longer held";
+        assert_eq!(Refusal::NoLongerHeld.to_string(), words);
     }
 }

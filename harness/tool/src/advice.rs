@@ -47,8 +47,9 @@ impl<'a> Call<'a> {
             Refusal::ImageLength => self.image_length(),
             Refusal::TillFull => self.till_full(),
             Refusal::NumbersSpent => self.numbers_spent(),
-            Refusal::NotHeld => self.not_held(),
             Refusal::NoRecord | Refusal::NoRun => self.no_room(refusal),
+            Refusal::NeverGiven => self.never_given(),
+            Refusal::NoLongerHeld => self.no_longer_held(),
             Refusal::Unsound => return unsound(refusal, self.file),
             Refusal::Capacity | Refusal::Lengths | Refusal::ShortOutput | Refusal::NoTurn => unforeseen(),
             // Streams are read before there is a call.
@@ -86,19 +87,45 @@ impl<'a> Call<'a> {
         (here, "go on in a new store, made with `lurdempos init`; this one still restores.".into())
     }
 
-    fn not_held(&self) -> (String, String) {
+    /// The number is mistyped; or the till has no version, and so no newest one.
+    fn never_given(&self) -> (String, String) {
+        let (till, version, held, choose) = (self.till, self.version, self.held(), self.choose());
+        let Listing { newest, last, .. } = self.listing();
+        if last == 0 {
+            (format!("till {till} holds no version, and has given no number yet"), format!("{choose}."))
+        } else if newest == 0 && version == 0 {
+            (
+                format!("till {till} holds no version; all up to its last number, {last}, are retired"),
+                format!("{choose}."),
+            )
+        } else {
+            let here = format!("{version} was never given, the last number of till {till} is {last}; it holds {held}");
+            (here, format!("the number is mistyped: {choose}."))
+        }
+    }
+
+    fn no_longer_held(&self) -> (String, String) {
+        let (till, version, held, choose) = (self.till, self.version, self.held(), self.choose());
+        let here = format!("version {version} was given and is retired; till {till} holds {held}");
+        (here, format!("{choose}; a retired version is in older copies of the file only."))
+    }
+
+    /// What the till holds.
+    fn held(&self) -> String {
+        match &table::numbers(self.store, self.till)[..] {
+            [] => "no version".into(),
+            [only] => format!("version {only} alone"),
+            held => numbers::shown(held),
+        }
+    }
+
+    /// Where there is a version to choose.
+    fn choose(&self) -> String {
         let (file, till) = (quoted(self.file), self.till);
-        let here = match &table::numbers(self.store, till)[..] {
-            [] => {
-                return (
-                    format!("till {till} holds no version"),
-                    format!("see what is held with `lurdempos list {file}`."),
-                );
-            }
-            [only] => format!("till {till} holds version {only} alone"),
-            held => format!("till {till} holds {}, and not {}", numbers::shown(held), self.version),
-        };
-        (here, format!("choose one that `lurdempos list {file} {till}` shows."))
+        match self.listing().newest {
+            0 => format!("see what is held with `lurdempos list {file}`"),
+            _ => format!("choose one that `lurdempos list {file} {till}` shows"),
+        }
     }
 
     /// No record or no run of cells for a segment. If no cell is in use, though versions without any may be held or one

@@ -196,7 +196,7 @@ fn the_demo_is_the_same_every_time_and_leaves_nothing() {
         .accepted()
         .says("the same, byte for byte")
         .says("version 3 retired")
-        .says("holds versions 1 to 2, 4 to 6, and not 3")
+        .says("version 3 was given and is retired; till 0 holds versions 1 to 2, 4 to 6")
         .says("598,824");
     assert_eq!(first.out, play(&bench).out);
     assert!(bench.names().is_empty(), "{:?}", bench.names());

@@ -117,7 +117,7 @@ fn a_users_own_file_stays() {
     for line in ["backup s 0 image", "restore s 0 1 out", "retire s 0 1", "init n", "map s --output out"] {
         bench.run(line).accepted();
     }
-    bench.run("restore s 0 1 s.lurdempos-new").fails(1, &["refused, 15"]);
+    bench.run("restore s 0 1 s.lurdempos-new").fails(1, &["refused, 18"]);
     for name in ["s.lurdempos-new", "out.lurdempos-new", "n.lurdempos-new"] {
         assert_eq!(bench.read(name), b"my own");
     }

@@ -111,7 +111,10 @@ fn refused_streams() {
     refused(&altered, 26, "write it once more with `lurdempos export`");
     // A refused export leaves nothing for the import.
     let run = bench.shell("lurdempos export s 0 9 - | lurdempos import other 0 -");
-    run.fails(1, &["refused, 15: that version is not held", "refused, 24: ", "nothing came from standard input"]);
+    run.fails(
+        1,
+        &["refused, 17: a version number that is 0 or above", "refused, 24: ", "nothing came from standard input"],
+    );
     assert!(bench.read("other") == before);
     // What a store of smaller images does not take is refused as in a backup.
     bench.run("init small --tills 1 --blocks 2 --records 2 --cells 9").accepted();
@@ -123,8 +126,14 @@ fn refused_streams() {
 fn refusals_of_a_restore() {
     let (bench, _) = two_stores("moves-not-held");
     bench.run("export s 2 1 out").fails(1, &["refused, 3: ", "there is no till 2"]);
-    bench.run("export s 0 2 out").fails(1, &["refused, 15: ", "till 0 holds version 1 alone"]);
-    bench.run("export s 1 newest out").fails(1, &["refused, 15: ", "till 1 holds no version"]);
+    bench
+        .run("export s 0 2 out")
+        .fails(1, &["refused, 17: ", "the last number of till 0 is 1; it holds version 1 alone"]);
+    bench
+        .run("export s 1 newest out")
+        .fails(1, &["refused, 17: ", "till 1 holds no version, and has given no number yet"]);
     bench.run("import s 2 image").fails(1, &["refused, 25: "]);
+    bench.run("retire s 0 1").accepted();
+    bench.run("export s 0 1 out").fails(1, &["refused, 18: ", "version 1 was given and is retired"]);
     assert_eq!(bench.names(), ["image", "other", "s"]);
 }

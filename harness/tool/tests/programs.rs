@@ -116,7 +116,8 @@ fn what_programs_are_told() {
     bench.run("restore s 0 2 out --json").accepted().says("\"output\": \"out\", \"bytes\": 192, \"chain\": 0}");
     bench.run("map s --json").accepted().says("\"records\": {\"of\": 8, \"in_use\": 1, \"whole\": 1}}");
     // What fails is told in words, with the exit status.
-    bench.run("restore s 0 7 out --json").fails(1, &["refused, 15"]);
+    bench.run("restore s 0 7 out --json").fails(1, &["refused, 17"]);
+    bench.run("restore s 0 1 out --json").fails(1, &["refused, 18"]);
 }
 
 #[test]
@@ -129,7 +130,7 @@ fn quiet_runs_say_nothing() {
         assert_eq!(run.status, words.run(line).status, "{line}");
     }
     assert!(bench.run("restore s 0 newest - --quiet").accepted().bytes == letters("ABD"));
-    bench.run("restore s 0 9 out --quiet").fails(1, &["refused, 15"]);
+    bench.run("restore s 0 9 out --quiet").fails(1, &["refused, 17"]);
     let warned = bench.run("init w --cells 3 --quiet");
     assert!(warned.status == Some(0) && warned.out.is_empty() && warned.err.contains("not even one image"));
 }

@@ -100,27 +100,59 @@ fn spent_numbers_12() {
     bench.run("list s").accepted().says("till 0: no version held, the last was 65535");
 }
 
+/// Every line that names this version of till 0.
+fn naming(version: u32) -> Vec<String> {
+    let lines = ["restore s 0 V out", "restore s 0 V -", "retire s 0 V", "retire s 0 V --dry-run", "export s 0 V out"];
+    let lines = lines.into_iter().chain(["export s 0 V -", "verify s 0 V image", "diff s 0 V 3", "diff s 0 newest V"]);
+    lines.map(|line| line.replace('V', &version.to_string())).collect()
+}
+
 #[test]
-fn versions_not_held_15() {
-    let bench = Bench::with_store("refusal-15");
+fn numbers_never_given_17() {
+    let bench = Bench::with_store("refusal-17");
     bench.write("image", letters("A"));
-    refused(&bench, "retire s 0 1", 15, &["till 0 holds no version", "`lurdempos list s`"]);
-    bench.run("backup s 0 image").accepted();
-    refused(&bench, "retire s 0 2", 15, &["till 0 holds version 1 alone", "`lurdempos list s 0`"]);
-    bench.run("backup s 0 image").accepted();
-    bench.run("backup s 0 image").accepted();
-    for version in ["0", "4", "65536", "4294967295"] {
-        let words = [&format!("till 0 holds versions 1 to 3, and not {version}")[..]];
-        refused(&bench, &format!("retire s 0 {version}"), 15, &words);
-        refused(&bench, &format!("restore s 0 {version} out"), 15, &words);
-        refused(&bench, &format!("restore s 0 {version} -"), 15, &words);
+    let none = "till 0 holds no version, and has given no number yet";
+    for line in ["retire s 0 1", "restore s 0 1 out", "restore s 0 0 out", "restore s 0 newest out", "diff s 0 1 2"] {
+        refused(&bench, line, 17, &[none, "see what is held with `lurdempos list s`."]);
     }
-    bench.run("retire s 0 2").accepted();
-    for line in ["retire s 0 2", "restore s 0 2 out", "verify s 0 2 image", "diff s 0 2 3", "diff s 0 newest 2"] {
-        refused(&bench, line, 15, &["till 0 holds versions 1, 3, and not 2", "`lurdempos list s 0`"]);
+    bench.run("backup s 0 image").accepted();
+    let alone = "2 was never given, the last number of till 0 is 1; it holds version 1 alone";
+    refused(&bench, "retire s 0 2", 17, &[alone, "`lurdempos list s 0`"]);
+    bench.run("backup s 0 image").accepted();
+    bench.run("backup s 0 image").accepted();
+    for version in [0, 4, 65_535, 65_536, u32::MAX] {
+        let here =
+            format!("Here: {version} was never given, the last number of till 0 is 3; it holds versions 1 to 3.\n");
+        let advice = "What to do: the number is mistyped: choose one that `lurdempos list s 0` shows.\n";
+        naming(version).iter().for_each(|line| refused(&bench, line, 17, &[&here, advice]));
     }
     bench.write("out", "an old output");
-    refused(&bench, "restore s 1 1 out", 15, &["till 1 holds no version"]);
+    refused(&bench, "restore s 1 1 out", 17, &["till 1 holds no version, and has given no number yet"]);
+    // Once all are retired there is no newest, and a number may still be mistyped.
+    bench.run("retire s 0 --keep 0").accepted();
+    let gone = "till 0 holds no version; all up to its last number, 3, are retired";
+    refused(&bench, "restore s 0 newest out", 17, &[gone, "see what is held with `lurdempos list s`."]);
+    let mistyped = ["4 was never given, the last number of till 0 is 3; it holds no version", "is mistyped: see what"];
+    refused(&bench, "restore s 0 4 out", 17, &mistyped);
+}
+
+#[test]
+fn versions_no_longer_held_18() {
+    let bench = Bench::with_store("refusal-18");
+    bench.write("image", letters("A"));
+    (0..4).for_each(|_| assert_eq!(bench.run("backup s 0 image").status, Some(0)));
+    // In a gap, then just below the oldest, then the last given.
+    let steps = [(2, "versions 1, 3 to 4"), (1, "versions 3 to 4"), (4, "version 3 alone")];
+    for (version, held) in steps {
+        bench.run(&format!("retire s 0 {version}")).accepted();
+        let here = format!("Here: version {version} was given and is retired; till 0 holds {held}.\n");
+        let advice = "What to do: choose one that `lurdempos list s 0` shows; a retired version is in older copies";
+        naming(version).iter().for_each(|line| refused(&bench, line, 18, &[&here, advice]));
+    }
+    refused(&bench, "restore s 0 5 out", 17, &["5 was never given, the last number of till 0 is 4"]);
+    bench.run("retire s 0 3").accepted();
+    let words = ["version 4 was given and is retired; till 0 holds no version", "`lurdempos list s`;"];
+    refused(&bench, "restore s 0 4 out", 18, &words);
 }
 
 #[test]

@@ -69,7 +69,7 @@ fn the_newest() {
         .run("restore s 0 newest out")
         .accepted()
         .says("till 0: version 4 restored to out, 512 bytes, longest chain 0");
-    bench.run("restore s 1 newest out").fails(1, &["refused, 15", "till 1 holds no version"]);
+    bench.run("restore s 1 newest out").fails(1, &["refused, 17", "till 1 holds no version"]);
     bench.run("restore s 2 newest out").fails(1, &["refused, 3"]);
     bench.run("verify s 0 newest out").accepted();
 }
@@ -114,7 +114,7 @@ fn dry_runs() {
     let same = bench.fed("backup s 0 - --unless-same --dry-run", &letters("ABCDEFGH"));
     same.accepted().says("the same as version 4, nothing would be kept; cells 11 before, 11 after, of 64");
     bench.run("backup s 0 image --dry-run").fails(1, &["refused, 11"]);
-    bench.run("retire s 0 5 --dry-run").fails(1, &["refused, 15"]);
+    bench.run("retire s 0 5 --dry-run").fails(1, &["refused, 17"]);
     let retired = bench.run("retire s 0 3 --dry-run");
     retired.accepted().says("till 0: version 3 would be retired, 512 bytes; cells 11 before, 11 after, of 64\n");
     let retired = bench.run("retire s 0 --keep 1 --dry-run");
@@ -140,7 +140,7 @@ fn comparisons() {
     bench.fed("verify s 0 1 -", &[65; 70_000]).says("more than 65536 bytes");
     bench.fed("verify s 0 1 - --json", &[65; 65_536]).says("\"image_bytes\": 65536,");
     bench.fed("verify s 0 1 - --json", &[65; 65_537]).says("\"image_bytes\": null,");
-    bench.run("verify s 0 7 v1").fails(1, &["refused, 15"]);
+    bench.run("verify s 0 7 v1").fails(1, &["refused, 17"]);
     bench.run("verify s 0 1 none").fails(3, &["none: cannot be read"]);
 
     bench.run("diff s 0 1 4").accepted().says("till 0: versions 1 and 4 are the same, 512 bytes\n");
@@ -155,7 +155,7 @@ fn comparisons() {
     bench.fed("backup s 1 -", &image).accepted();
     let said = "till 1: versions 1 and 2 differ in 1 place, 1 byte\n  byte 100\n  version 2 alone has byte 256\n";
     assert_eq!(bench.run("diff s 1 1 newest").out, said);
-    bench.run("diff s 1 1 3").fails(1, &["refused, 15"]);
+    bench.run("diff s 1 1 3").fails(1, &["refused, 17"]);
 }
 
 #[test]
@@ -267,7 +267,9 @@ fn growing_and_writing_out_with_gaps() {
     for name in ["s", "new"] {
         bench.run(&format!("verify {name} 1 newest old/till-1-version-6.img")).accepted().says("version 6");
         assert_eq!(bench.run(&format!("diff {name} 0 3 6")).status, Some(5));
-        bench.run(&format!("diff {name} 0 3 5")).fails(1, &["holds versions 2 to 3, 6 to 8, and not 5"]);
+        bench
+            .run(&format!("diff {name} 0 3 5"))
+            .fails(1, &["version 5 was given and is retired; till 0 holds versions 2 to 3, 6 to 8"]);
         bench.run(&format!("backup {name} 1 old/till-1-version-1.img")).accepted().says("version 9 kept");
         bench.run(&format!("map {name} --output {name}.svg")).accepted();
     }

@@ -34,11 +34,11 @@ fn every_refusal() -> BTreeSet<(char, u32)> {
         ('l', &[0, 1][..]),
         ('o', &[1, 2]),
         ('b', &[0, 3, 4, 11, 14, 16]),
-        ('r', &[0, 3, 5, 15]),
-        ('q', &[0, 3, 15]),
+        ('r', &[0, 3, 5, 17, 18]),
+        ('q', &[0, 3, 17, 18]),
         ('i', &[0, 3]),
         ('t', &[0]),
-        ('s', &[0, 3, 5, 15]),
+        ('s', &[0, 3, 5, 17, 18]),
     ];
     wanted.into_iter().flat_map(|(call, numbers)| numbers.iter().map(move |&number| (call, number))).collect()
 }
@@ -75,6 +75,9 @@ fn all_numbers() {
     }
     assert_eq!(course.call(&Call::Backup { till: 0, image: vec![1] })[0], 12);
     assert_eq!(course.call(&Call::Retire { till: 0, version: 65_535 })[0], 0);
+    for (version, refusal) in [(0, 17), (1, 18), (65_535, 18), (65_536, 17)] {
+        assert_eq!(course.call(&Call::Restore { till: 0, version, room: 64 })[0], refusal);
+    }
     assert_eq!(course.call(&Call::Backup { till: 0, image: vec![1] })[0], 12);
     assert_eq!(course.call(&Call::Listing { till: 0 }), [0, 0, 0, 65_535]);
 }

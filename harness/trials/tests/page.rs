@@ -1,6 +1,6 @@
 //! The page's cases, put to the proved store and to the twin.
 
-use keeper::{day, retires};
+use keeper::{day, lookups, retires};
 use trials::stores;
 
 #[test]
@@ -41,4 +41,14 @@ fn backup_after_the_newest() {
 #[test]
 fn neighbours_that_were_none() {
     stores().iter().for_each(|store| retires::neighbours_that_were_none(store.as_ref()));
+}
+
+#[test]
+fn given_or_never() {
+    stores().iter().for_each(|store| lookups::given_or_never(store.as_ref()));
+}
+
+#[test]
+fn numbers_used_up() {
+    stores().iter().for_each(|store| lookups::numbers_used_up(store.as_ref()));
 }

@@ -114,7 +114,7 @@ fn backups(store: &dyn Calls) -> Vec<(u32, u32)> {
     cases
 }
 
-/// Restore 10, 3, 15, 5; retire 10, 3, 15; listing 10, 3; tally 10.
+/// Restore 10, 3, 17 or 18, 5; retire 10, 3, 17 or 18; listing 10, 3; tally 10.
 fn others(store: &dyn Calls) -> Vec<(u32, u32)> {
     let mut one = Trial::of_page(store, 32);
     for image in ["ABCDEFGH", "ABCDEFGZ", "A"] {
@@ -125,16 +125,21 @@ fn others(store: &dyn Calls) -> Vec<(u32, u32)> {
     for (till, version, restored, retired) in [
         (1, 0, 3, 3),
         (u32::MAX, 1, 3, 3),
-        (0, 0, 15, 15),
-        (0, 4, 15, 15),
-        (0, u32::MAX, 15, 15),
+        (0, 0, 17, 17),
+        (0, 4, 17, 17),
+        (0, u32::MAX, 17, 17),
         (0, 2, 5, 0),
-        (0, 2, 15, 15),
+        (0, 2, 18, 18),
+        (1, 2, 3, 3),
         (0, 3, 0, 0),
-        (0, 3, 15, 15),
+        (0, 3, 18, 18),
+        (0, 4, 17, 17),
         (0, 1, 5, 0),
-        (0, 1, 15, 15),
+        (0, 1, 18, 18),
+        (0, 0, 17, 17),
     ] {
+        let in_no_room = if restored == 0 { 5 } else { restored };
+        cases.push((store.restore(&one.pool, &one.table, till, version, &mut [])[0], in_no_room));
         cases.push((store.restore(&one.pool, &one.table, till, version, &mut output[..64])[0], restored));
         cases.push((store.retire(&mut one.pool, &mut one.table, till, version)[0], retired));
         cases.push((store.listing(&one.pool, &one.table, till)[0], if till == 0 { 0 } else { 3 }));
@@ -149,16 +154,21 @@ fn others(store: &dyn Calls) -> Vec<(u32, u32)> {
     cases
 }
 
-/// Writing a stream 10, 3, 15, 5; reading one 24, 25, 5, then 24 and 26 in its order.
+/// Writing a stream 10, 3, 17 or 18, 5; reading one 24, 25, 5, then 24 and 26 in its order.
 fn streams(store: &dyn Calls) -> Vec<(u32, u32)> {
     let mut one = Trial::of_page(store, 32);
     store.backup(&mut one.pool, &mut one.table, 0, &letters("A"));
-    let mut stream = vec![0; 70];
-    let asked = [(1, 0, 0, 3), (u32::MAX, 1, 70, 3), (0, 0, 0, 15), (0, 2, 70, 15), (0, 1, 68, 5), (0, 1, 69, 0)];
-    let mut write = |(till, version, room, expected)| {
-        (store.write_stream(&one.pool, &one.table, till, version, &mut stream[..room])[0], expected)
+    let (mut stream, mut cases) = (vec![0; 70], Vec::new());
+    let mut write = |one: &Trial, asked: &[(u32, u32, usize, u32)]| {
+        for &(till, version, room, expected) in asked {
+            let output = &mut stream[..room];
+            cases.push((store.write_stream(&one.pool, &one.table, till, version, output)[0], expected));
+        }
     };
-    let mut cases: Vec<(u32, u32)> = asked.into_iter().map(&mut write).collect();
+    write(&one, &[(1, 0, 0, 3), (u32::MAX, 1, 70, 3), (0, 0, 0, 17), (0, 2, 70, 17), (0, u32::MAX, 0, 17)]);
+    write(&one, &[(0, 1, 68, 5), (0, 1, 69, 0)]);
+    one.retire(1);
+    write(&one, &[(1, 1, 0, 3), (0, 1, 0, 18), (0, 1, 70, 18), (0, 2, 0, 17), (0, 0, 70, 17)]);
     cases.push((store.write_stream(&[], &[], 1, 0, &mut [])[0], 10));
     let mut read = |stream: &[u8], room: usize, expected| {
         cases.push((store.read_stream(stream, &mut vec![0; room])[0], expected));

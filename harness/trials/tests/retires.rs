@@ -6,7 +6,7 @@ use keeper::inspect::inspect;
 use keeper::trial::Trial;
 use keeper::{Call, Course, Random};
 use std::collections::BTreeSet;
-use terms::{Capacities, Refusal};
+use terms::Capacities;
 use trials::compare::{compare, each_call};
 use trials::{history, seed, stores, times};
 
@@ -35,13 +35,19 @@ fn next(random: &mut Random, held: &[u32], order: Order) -> u32 {
     }
 }
 
-/// Every held version of a till comes back, the others are refused, and the listing has the ends.
+/// Every held version of a till comes back, the others are refused as given once or never, and the listing has the
+/// ends.
 fn all_come_back(course: &mut Course, till: u32, room: usize) {
     let held = numbers(course, till);
     let last = course.keeper().tills()[till as usize].last;
     for version in 0..=last + 1 {
         let refusal = course.call(&Call::Restore { till, version, room })[0];
-        assert_eq!(refusal, if held.contains(&version) { 0 } else { Refusal::NotHeld.number() });
+        let expected = match version {
+            _ if held.contains(&version) => 0,
+            _ if version == 0 || version == last + 1 => 17,
+            _ => 18,
+        };
+        assert_eq!(refusal, expected);
     }
     course.call(&Call::Listing { till });
 }
@@ -64,7 +70,7 @@ fn emptied_in_every_order() {
             while let [_, ..] = numbers(&course, till)[..] {
                 let version = next(&mut random, &numbers(&course, till), order);
                 assert_eq!(course.call(&Call::Retire { till, version })[0], 0, "{order:?}");
-                assert_eq!(course.call(&Call::Retire { till, version })[0], 15, "{order:?}");
+                assert_eq!(course.call(&Call::Retire { till, version })[0], 18, "{order:?}");
                 all_come_back(&mut course, till, capacities.image_bytes());
                 look(&course);
                 emptied[round % 3] += 1;
@@ -77,7 +83,16 @@ fn emptied_in_every_order() {
     assert!(emptied.iter().all(|&often| often > 200), "{emptied:?}");
 }
 
-/// Numbers that are not held: 0, retired ones, those above the last given, and all of another till.
+/// Every call that names a version refuses this one so, whatever room it has.
+fn refuse(course: &mut Course, till: u32, version: u32, refusal: u32) {
+    for room in [0, 64, 1_024] {
+        assert_eq!(course.call(&Call::Restore { till, version, room })[0], refusal, "{version}");
+        assert_eq!(course.call(&Call::WriteStream { till, version, room })[0], refusal, "{version}");
+    }
+    assert_eq!(course.call(&Call::Retire { till, version })[0], refusal, "{version}");
+}
+
+/// Numbers that are not held: retired ones, which were given; 0, those above the last, and all of another till.
 #[test]
 fn numbers_not_held() {
     let mut course = Course::new(Capacities::new(2, 6, 4, 12, 24), stores());
@@ -88,15 +103,18 @@ fn numbers_not_held() {
         assert_eq!(course.call(&Call::Retire { till: 0, version })[0], 0);
     }
     assert_eq!(course.call(&Call::Listing { till: 0 }), [0, 2, 5, 6]);
-    for version in [0, 1, 3, 6, 7, 8, 65_535, 65_536, u32::MAX] {
-        assert_eq!(course.call(&Call::Retire { till: 0, version })[0], 15);
-        assert_eq!(course.call(&Call::Restore { till: 0, version, room: 64 })[0], 15);
-    }
-    (0..=7).for_each(|version| assert_eq!(course.call(&Call::Retire { till: 1, version })[0], 15));
-    assert_eq!(course.call(&Call::Retire { till: 2, version: 2 })[0], 3);
+    [1, 3, 6].into_iter().for_each(|version| refuse(&mut course, 0, version, 18));
+    [0, 7, 8, 65_535, 65_536, u32::MAX].into_iter().for_each(|version| refuse(&mut course, 0, version, 17));
+    (0..=7).chain([u32::MAX]).for_each(|version| refuse(&mut course, 1, version, 17));
+    (0..=7).chain([u32::MAX]).for_each(|version| refuse(&mut course, 2, version, 3));
     assert_eq!(course.call(&Call::Backup { till: 0, image: vec![9] })[..2], [0, 7]);
     assert_eq!(course.call(&Call::Listing { till: 0 }), [0, 2, 7, 7]);
     look(&course);
+    for version in [2, 4, 5, 7] {
+        assert_eq!(course.call(&Call::Retire { till: 0, version })[0], 0);
+    }
+    (1..=7).for_each(|version| refuse(&mut course, 0, version, 18));
+    [0, 8].into_iter().for_each(|version| refuse(&mut course, 0, version, 17));
 }
 
 /// A till with three versions and each of the numbers 0 to 6 in each slot, for several last numbers: sound exactly if

@@ -117,9 +117,12 @@ impl<'a> TillWords<'a> {
         (0..self.held()).map(|slot| self.slot(slot)[0])
     }
 
-    /// The slot of a held version, or refusal 15.
+    /// The slot of a held version; or refusal 17 for a number that is 0 or above the last given, and 18 for one that
+    /// was given before.
     pub fn slot_with(&self, version: u32) -> Result<usize, Refusal> {
-        self.numbers().position(|number| number == version).ok_or(Refusal::NotHeld)
+        let slot = self.numbers().position(|number| number == version);
+        let never = version == 0 || version > self.last();
+        slot.ok_or(if never { Refusal::NeverGiven } else { Refusal::NoLongerHeld })
     }
 
     fn slot(&self, slot: usize) -> &'a [u32] {

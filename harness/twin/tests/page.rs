@@ -1,6 +1,6 @@
 //! The page's cases, and their counterparts at other settings, put to the twin.
 
-use keeper::{blanks, day, retires, settings};
+use keeper::{blanks, day, lookups, retires, settings};
 use twin::{earlier, Twin};
 
 #[test]
@@ -71,6 +71,16 @@ fn backup_after_the_newest() {
 #[test]
 fn neighbours_that_were_none() {
     retires::neighbours_that_were_none(&Twin);
+}
+
+#[test]
+fn given_or_never() {
+    lookups::given_or_never(&Twin);
+}
+
+#[test]
+fn numbers_used_up() {
+    lookups::numbers_used_up(&Twin);
 }
 
 #[test]

@@ -29,7 +29,9 @@ fn any_version_goes() {
     (1..=4).for_each(|n| assert_eq!(store.backup(0, &image[..600 + n as usize]), Ok(n)));
     assert_eq!(store.retire(0, 3), Ok(603));
     assert_eq!(store.retire(0, 4), Ok(604));
-    assert_eq!(store.retire(0, 3), Err(Refusal::NotHeld));
+    assert_eq!(store.retire(0, 3), Err(Refusal::NoLongerHeld));
+    assert_eq!(store.image(0, 4), Err(Refusal::NoLongerHeld));
+    assert_eq!(store.stream(0, 5), Err(Refusal::NeverGiven));
     assert_eq!(store.listing(0), Ok(Listing { oldest: 1, newest: 2, last: 4 }));
     assert_eq!(store.backup(0, &image), Ok(5));
     assert_eq!(store.listing(0), Ok(Listing { oldest: 1, newest: 5, last: 5 }));

@@ -1,4 +1,4 @@
-use mathlib.Core.Path.{_∙_}
+use mathlib.Core.Path.{_∙_, _≡_, refl}
 use native.Mathlib.Omega.{arith}
 use Rattle.laws.proofs.Stores.{header}
 use Rattle.retire.proofs.Cases.{no-till, not-held, held-at, holds}
@@ -15,11 +15,12 @@ returns c = no-till (c .before .before .before .before .pre) _ _ (c .if1 .taken)
 till-head-requires : tie.Need-till-head-requires
 till-head-requires c κs = search needs
 
-place-of-requires : tie.Need-place-of-requires
-place-of-requires c κs = search needs
+look-up-requires : tie.Need-look-up-requires
+look-up-requires c κs = search needs
 
-cast-if2 : tie.Need-cast-if2
-cast-if2 c = search needs
+-- the version that was found
+found : (c : tie.Else2) → c .before .look-up .result .refusal ≡ 0
+found c = omega (arith, c .if2 .left)
 
 same-length : tie.Need-same-length
 same-length c = search needs
@@ -28,13 +29,14 @@ same-length-2 : tie.Need-same-length-2
 same-length-2 c = search needs
 
 returns-2 : tie.Need-returns-2
-returns-2 c = not-held (c .before .before .before .before .before .before .before .before .before .before .before .before .pre) _ _ (omega (arith, c .before .before .before .before .before .before .before .before .if1 .left)) _ (c .before .before .before .before .before .till-head .ensures) _ (c .before .before .place-of .ensures) (c .if2 .taken)
+returns-2 c = not-held (c .before .before .before .before .before .before .before .before .before .before .before .pre) _ _ (omega (arith, c .before .before .before .before .before .before .before .if1 .left)) _ (c .before .before .before .before .till-head .ensures) _ (c .before .look-up .ensures) _ refl (c .if2 .taken)
 
 measures-in-requires : tie.Need-measures-in-requires
-measures-in-requires c κs = header (c .before .before .before .before .before .before .before .before .before .before .before .before .before .pre) .eight
+measures-in-requires c κs = header (c .before .before .before .before .before .before .before .before .before .before .before .before .pre) .eight
 
 retire-held-requires : tie.Need-retire-held-requires
-retire-held-requires c κs = (holds (c .before .before .before .before .before .before .before .before .before .before .before .before .before .before .before .before .pre) _ _ (omega (arith, c .before .before .before .before .before .before .before .before .before .before .before .before .if1 .left)) _ (c .before .before .before .before .before .before .before .before .before .till-head .ensures) _ (c .before .before .before .before .before .before .place-of .ensures) (omega (arith, c .before .before .before .before .if2 .left)), c .before .before .measures-in .ensures)
+retire-held-requires c κs =
+    (holds (c .before .before .before .before .before .before .before .before .before .before .before .before .before .before .before .pre) _ _ (omega (arith, c .before .before .before .before .before .before .before .before .before .before .before .if1 .left)) _ (c .before .before .before .before .before .before .before .before .till-head .ensures) _ (c .before .before .before .before .before .look-up .ensures) (found (c .before .before .before .before)), c .before .before .measures-in .ensures)
 
 same-length-3 : tie.Need-same-length-3
 same-length-3 c = search needs
@@ -43,7 +45,9 @@ same-length-4 : tie.Need-same-length-4
 same-length-4 c = search needs
 
 returns-3 : tie.Need-returns-3
-returns-3 c = c .before .before .before .before .retire-held .ensures ∙ held-at (c .before .before .before .before .before .before .before .before .before .before .before .before .before .before .before .before .before .before .before .before .before .pre) _ _ (omega (arith, c .before .before .before .before .before .before .before .before .before .before .before .before .before .before .before .before .before .if1 .left)) _ (c .before .before .before .before .before .before .before .before .before .before .before .before .before .before .till-head .ensures) _ (c .before .before .before .before .before .before .before .before .before .before .before .place-of .ensures)
+returns-3 c =
+    c .before .before .before .before .retire-held .ensures
+    ∙ held-at (c .before .before .before .before .before .before .before .before .before .before .before .before .before .before .before .before .before .before .before .before .pre) _ _ (omega (arith, c .before .before .before .before .before .before .before .before .before .before .before .before .before .before .before .before .if1 .left)) _ (c .before .before .before .before .before .before .before .before .before .before .before .before .before .till-head .ensures) _ (c .before .before .before .before .before .before .before .before .before .before .look-up .ensures) (found (c .before .before .before .before .before .before .before .before .before))
 
 pub retire-version-spec : {M : Type 1} → statement M
 retire-version-spec =
@@ -52,8 +56,7 @@ retire-version-spec =
     slice-read-if1
     returns
     till-head-requires
-    place-of-requires
-    cast-if2
+    look-up-requires
     same-length
     same-length-2
     returns-2

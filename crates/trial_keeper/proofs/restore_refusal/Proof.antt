@@ -1,3 +1,4 @@
+use mathlib.Core.Path.{_∙_}
 use Rattle.trial_keeper.proofs.Versions.{no-till-restore, gone-restore, no-room, may-restore}
 use borrow.Author.Needs.{needs}
 use Rattle.trial_keeper.proofs.restore_refusal.Statement.{statement}
@@ -5,6 +6,7 @@ use Rattle.trial_keeper.proofs.restore_refusal.Tie as tie
 use Rattle.trial_keeper.proofs.restore_refusal.Reads as reads
 use Rattle.trial_keeper.proofs.restore_refusal.Lts as lts
 use Rattle.trial_keeper.proofs.holds.Reads as holds-reads
+use Rattle.trial_keeper.proofs.missing.Reads as missing-reads
 use Rattle.trial_keeper.proofs.length.Reads as length-reads
 
 -- src/lib.rt:301:9
@@ -15,9 +17,13 @@ returns c = no-till-restore (c .before .before .before .args .c .tills) (c .befo
 holds-requires : tie.Need-holds-requires
 holds-requires c κs = search needs
 
+missing-requires : tie.Need-missing-requires
+missing-requires c κs = search needs
+
 -- src/lib.rt:304:9
 returns-2 : tie.Need-returns-2
-returns-2 c = gone-restore (c .before .before .before .before .before .args .c .tills) (c .before .before .before .before .before .args .notes .now) (c .before .before .before .before .before .args .till) (c .before .before .before .before .before .args .version) (c .before .before .before .before .before .args .room) (c .before .holds .result) (c .before .before .if1 .left) (c .before .holds .ensures) (c .if2 .taken)
+returns-2 c =
+    c .missing .ensures ∙ gone-restore (c .before .before .before .before .before .before .args .c .tills) (c .before .before .before .before .before .before .args .notes .now) (c .before .before .before .before .before .before .args .till) (c .before .before .before .before .before .before .args .version) (c .before .before .before .before .before .before .args .room) (c .before .before .holds .result) (c .before .before .before .if1 .left) (c .before .before .holds .ensures) (c .before .if2 .taken)
 
 -- src/lib.rt:306:15
 length-requires : tie.Need-length-requires
@@ -38,4 +44,4 @@ returns-4 c = may-restore (c .before .before .before .before .before .before .be
 pub restore-refusal-spec : {M : Type 1} → statement M
 restore-refusal-spec =
     tie.close
-    (tie.spec returns holds-requires returns-2 length-requires cast-if3 returns-3 returns-4)
+    (tie.spec returns holds-requires missing-requires returns-2 length-requires cast-if3 returns-3 returns-4)
