@@ -7,6 +7,7 @@ ghost use lib.ListN.{length, take, drop, replicate};
 ghost use Rattle.lists.specs.Lists.{every, allZero, sameNumbers};
 ghost use Rattle.lists.specs.Rows.{fill};
 ghost use Rattle.model.specs.Image.{blockFrom};
+use numbers::Block;
 use numbers::Cell;
 
 pub fn least(a: usize, b: usize) -> usize
@@ -142,13 +143,21 @@ pub fn copy_in(src: &[u8], dst: &mut [u8])
     }
 }
 
-// n bytes of the pool, from `from` on, to the output, from `to` on.
-pub fn copy_block(pool: &[u8], from: usize, out: &mut [u8], to: usize, n: usize)
-    requires { ⌜ (from + n ≤ length (now pool)) × (to + n ≤ length (now out)) ⌝ }
-    ensures { λ _. ⌜ now (out .exit) ≡ take to (now (out .entry)) ++ (take n (drop from (now (pool .entry))) ++ drop (to + n) (now (out .entry))) ⌝ }
+// n bytes of the source, from `from` on, to the output, from `to` on: the output's part from there on is lent to the byte copier.
+pub fn copy_part(src: &[u8], from: usize, out: &mut [u8], to: usize, n: usize)
+    requires { ⌜ (from + n ≤ length (now src)) × (to + n ≤ length (now out)) ⌝ }
+    ensures { λ _. ⌜ now (out .exit) ≡ take to (now (out .entry)) ++ (take n (drop from (now (src .entry))) ++ drop (to + n) (now (out .entry))) ⌝ }
 {
     let end = from + n;
-    copy_in(&pool[from..end], &mut out[to..]);
+    copy_in(&src[from..end], &mut out[to..]);
+}
+
+// The first n bytes of a cell go straight to a block's place in the output.
+pub fn copy_block(pool: &[u8], cell: Cell, out: &mut [u8], block: Block, n: usize, bytes: usize)
+    requires { ⌜ (bytes ≤ 512) × (cell .0 * bytes + n ≤ length (now pool)) × (block .0 * bytes + n ≤ length (now out)) ⌝ }
+    ensures { λ _. ⌜ now (out .exit) ≡ take (block .0 * bytes) (now (out .entry)) ++ (take n (drop (cell .0 * bytes) (now (pool .entry))) ++ drop (block .0 * bytes + n) (now (out .entry))) ⌝ }
+{
+    copy_part(pool, cell.byte(bytes), out, block.byte(bytes), n);
 }
 
 pub fn fill_with(part: &mut [u8], byte: u8)
@@ -159,6 +168,16 @@ pub fn fill_with(part: &mut [u8], byte: u8)
         part[i] = byte;
         i = i + 1;
     }
+}
+
+// The first n bytes of a block's place in the output become one byte, as of a block that has no cell.
+pub fn fill_block(out: &mut [u8], block: Block, n: usize, byte: u8, bytes: usize)
+    requires { ⌜ (bytes ≤ 512) × (block .0 * bytes + n ≤ length (now out)) ⌝ }
+    ensures { λ _. ⌜ now (out .exit) ≡ take (block .0 * bytes) (now (out .entry)) ++ (replicate n byte ++ drop (block .0 * bytes + n) (now (out .entry))) ⌝ }
+{
+    let to = block.byte(bytes);
+    let end = to + n;
+    fill_with(&mut out[to..end], byte);
 }
 
 pub fn clear(part: &mut [u8])

@@ -25,7 +25,7 @@ fn fill_block(stream: &[u8], at: usize, bit: u32, image: &mut [u8], to: usize) -
         blocks::clear(&mut image[to..end]);
         return at;
     }
-    blocks::copy_block(stream, at, image, to, n);
+    blocks::copy_part(stream, at, image, to, n);
     at + Block::BYTES
 }
 

@@ -1,19 +1,18 @@
 -- A version's image, block by block.
 use mathlib.Core.Path.{_≡_, refl, sym, ap, ap₂, _∙_}
-use mathlib.Core.List.{List, [], _∷_, _++_, map, append-nil}
-use Prim.Native.Nat.{ℕ, zero, suc, _+_, _-_, _*_, _/_, _%_, _≤_, _<_}
+use mathlib.Core.List.{List, [], _∷_, _++_, map}
+use Prim.Native.Nat.{ℕ, zero, suc, _+_, _*_, _/_, _%_, _≤_, _<_}
 use native.Mathlib.Nat.{zero-add, zero-mul}
 use native.Mathlib.Omega.{arith}
 use lib.ListN.{length, getD, take, drop, replicate, length-map, length-drop, length-replicate, List·getD-map, List·getD-append}
 use lib.Seq.{getD-take, getD-drop, drop-cons, take-take, length-take-le}
-use borrow.Rule.Slice.PartMut.{midOf, mid-len}
 use Rattle.lists.specs.Each.{Each}
 use Rattle.lists.specs.Lists.{counted, largest}
 use Rattle.lists.specs.Rows.{joined}
 use Rattle.lists.proofs.Counted.{length-counted, counted-at}
 use Rattle.lists.proofs.Each.{each-counted}
 use Rattle.lists.proofs.Rows.{getD-rows, length-joined}
-use Rattle.lists.proofs.Slices.{drop-end, take-replicate}
+use Rattle.lists.proofs.Slices.{take-replicate}
 use Rattle.model.specs.Image.{blankBlock, zeroBlock}
 use Rattle.model.specs.Measures.{Measures, recordWords}
 use Rattle.model.specs.Records.{cellOf, countOf, cellAt, positionAt}
@@ -106,24 +105,17 @@ module _ (m : Measures) (pool words : List ℕ) (s : Stored m pool words) where
       (omega (arith, cell-room k i (f .0) (f .1), length-drop (cellOf (getD (getD (recordsIn n words) k []) i nullPosition) * size) pool))
   length-block (indirect b) f = unfold blockAt zeroBlock in length-replicate {A = ℕ} size 0
 
-  -- a part filled from a cell
-  pub put-cell : (w l from c : ℕ) (part ys : List ℕ) → w / 16777216 ≡ 1 → Fits n (length words) (wordToPointer w) → l ≡ length part → l ≤ size
-      → c ≡ cellOf (getD (getD (recordsIn n words) (w % 16777216 / 16) []) (w % 16777216 % 16) nullPosition) → from ≡ c * size
-      → (let t = midOf from ((from + l) - from) pool in ys ≡ t ++ drop (length t) part) → ys ≡ take l (blockAt size sh (wordToPointer w))
-  put-cell w l from c part ys e f lm h ec ef ey =
+  -- the front of a block from its cell
+  put-cell : (w c l : ℕ) → w / 16777216 ≡ 1 → Fits n (length words) (wordToPointer w) → l ≤ size
+      → c ≡ cellOf (getD (getD (recordsIn n words) (w % 16777216 / 16) []) (w % 16777216 % 16) nullPosition)
+      → take l (drop (c * size) pool) ≡ take l (blockAt size sh (wordToPointer w))
+  put-cell w c l e f h ec =
       let (room, hi) = fits-direct n (length words) w e f in
-      let below = cell-room (w % 16777216 / 16) (w % 16777216 % 16) room hi in
-      let k : (from + l) - from ≡ l = omega arith in
-      let ec′ : c * size ≡ cellOf (getD (getD (recordsIn n words) (w % 16777216 / 16) []) (w % 16777216 % 16) nullPosition) * size = ap (λ (i : ℕ). i * size) ec in
-      let inside : from + l ≤ length pool = omega (arith, below, ec′) in
-      let lt : length (midOf from ((from + l) - from) pool) ≡ l = mid-len from (from + l) pool inside ∙ k in
-      ey
-      ∙ rw (drop-end part (length (midOf from ((from + l) - from) pool)) (omega arith), append-nil, k)
-      (sym (take-take l size (drop from pool) h)
-      ∙ ap (λ (i : ℕ). take l (take size (drop i pool))) (ef ∙ ec′)
-      ∙ ap (take l) (block-direct (w % 16777216 / 16) (w % 16777216 % 16) room hi ∙ ap (blockAt size sh) (sym (direct-word w e))))
+      sym (take-take l size (drop (c * size) pool) h)
+      ∙ ap (λ (i : ℕ). take l (take size (drop (i * size) pool))) ec
+      ∙ ap (take l) (block-direct (w % 16777216 / 16) (w % 16777216 % 16) room hi ∙ ap (blockAt size sh) (sym (direct-word w e)))
 
-  -- a part filled with one byte
+  -- the front of a block that is one byte over and over
   fill-other : (w : ℕ) → (w / 16777216 ≡ 1 → ⊥) → blockAt size sh (wordToPointer w) ≡ replicate size (fillByte (wordToPointer w))
   unfolding blockAt wordToPointer pointerOf fillByte zeroBlock blankBlock
   fill-other w f = go (w / 16777216) f
@@ -135,10 +127,19 @@ module _ (m : Measures) (pool words : List ℕ) (s : Stored m pool words) where
       go (suc (suc (suc zero))) f = refl
       go (suc (suc (suc (suc k)))) f = refl
 
-  pub put-filled : (w v : ℕ) (part ys : List ℕ) → (w / 16777216 ≡ 1 → ⊥) → length part ≤ size → v ≡ fillByte (wordToPointer w) → ys ≡ replicate (length part) v
-      → ys ≡ take (length part) (blockAt size sh (wordToPointer w))
-  put-filled w v part ys f h b e =
-      e ∙ ap (replicate (length part)) b ∙ sym (ap (take (length part)) (fill-other w f) ∙ take-replicate (length part) size (fillByte (wordToPointer w)) h)
+  put-filled : (w v l : ℕ) → (w / 16777216 ≡ 1 → ⊥) → l ≤ size → v ≡ fillByte (wordToPointer w) → replicate l v ≡ take l (blockAt size sh (wordToPointer w))
+  put-filled w v l f h b = ap (replicate l) b ∙ sym (ap (take l) (fill-other w f) ∙ take-replicate l size (fillByte (wordToPointer w)) h)
+
+  -- either of them at its place in the output
+  module _ (w l to : ℕ) (out ys : List ℕ) (h : l ≤ size) where
+    pub cell-put : (c : ℕ) → w / 16777216 ≡ 1 → Fits n (length words) (wordToPointer w)
+        → c ≡ cellOf (getD (getD (recordsIn n words) (w % 16777216 / 16) []) (w % 16777216 % 16) nullPosition)
+        → ys ≡ take to out ++ (take l (drop (c * size) pool) ++ drop (to + l) out) → ys ≡ take to out ++ (take l (blockAt size sh (wordToPointer w)) ++ drop (to + l) out)
+    cell-put c e f ec ey = ey ∙ ap (λ (x : List ℕ). take to out ++ (x ++ drop (to + l) out)) (put-cell w c l e f h ec)
+
+    pub filled-put : (v : ℕ) → (w / 16777216 ≡ 1 → ⊥) → v ≡ fillByte (wordToPointer w)
+        → ys ≡ take to out ++ (replicate l v ++ drop (to + l) out) → ys ≡ take to out ++ (take l (blockAt size sh (wordToPointer w)) ++ drop (to + l) out)
+    filled-put v f b ey = ey ∙ ap (λ (x : List ℕ). take to out ++ (x ++ drop (to + l) out)) (put-filled w v l f h b)
 
   -- ---- the image
 
@@ -198,7 +199,3 @@ module _ (m : Measures) (pool words : List ℕ) (s : Stored m pool words) where
         go : (us : List Version) → us ≡ getD us 0 noVersion ∷ drop 1 us → longestChain us ≡ largest (counted (hops us) 0 (length (pointersAt us 0)))
         go [] e = let z : _≡_ {A = ℕ} 0 1 = ap length e in absurd (omega arith)
         go (v ∷ us) e = refl
-
--- a part of the output is short
-pub part-short : (size at end : ℕ) (out : List ℕ) → end ≤ length out → end ≤ at + size → length (midOf at (end - at) out) ≤ size
-part-short size at end out h k = omega (arith, mid-len at end out h)

@@ -8,7 +8,6 @@ use native.Mathlib.Omega.{arith}
 use lib.ListN.{length, take, drop}
 use lib.Seq.{drop-drop, take-at, drop-at, take-add, length-take-le}
 use lib.Arith.{digits-lt}
-use borrow.Rule.Slice.PartMut.{midOf, putMid, mid-len, same-len-mid}
 use Rattle.lists.specs.Lists.{largest, counted}
 use Rattle.lists.proofs.Places.{row-room, row-next}
 use Rattle.trace.specs.Versions.{Traceable}
@@ -25,25 +24,24 @@ piece-more img out b d m h e =
     sym (drop-drop m d (take d img ++ drop d out)) ∙ ap (λ (x : List ℕ). drop m x) (drop-at (take d img) (drop d out) d l) ∙ drop-drop m d out in
     rw (f, g, ← e, take-add d m img) (sym (append-assoc (take d img) (take m (drop d img)) (drop (d + m) out)))
 
--- the part from block n on was lent, and has come back with the front of block n
-restore-turn : (size : ℕ) (img out₀ out ys block : List ℕ) (n len count at end : ℕ) → length img ≡ count * size → n < count → count * size < len + size → len ≤ length out
+-- the front of block n has gone to its place
+restore-turn : (size : ℕ) (img out₀ out ys block : List ℕ) (n len count at end : ℕ) → length img ≡ count * size → n < count → count * size < len + size
     → at ≡ n * size → end ≡ min (at + size) len → ((m : ℕ) → m ≤ size → take m (drop (n * size) img) ≡ take m block)
     → out ≡ take (min (n * size) len) img ++ drop (min (n * size) len) out₀
-    → ys ≡ take (length (midOf at (end - at) out)) block
-    → putMid at (end - at) out ys ≡ take (min ((n + 1) * size) len) img ++ drop (min ((n + 1) * size) len) out₀
-restore-turn size img out₀ out ys block n len count at end li l h o ea ee f e ey =
+    → ys ≡ take (n * size) out ++ (take (end - at) block ++ drop (n * size + (end - at)) out)
+    → ys ≡ take (min ((n + 1) * size) len) img ++ drop (min ((n + 1) * size) len) out₀
+restore-turn size img out₀ out ys block n len count at end li l h ea ee f e ey =
+    let d : ℕ = n * size in
     let m : ℕ = end - at in
     let room : n * size + size ≤ count * size = row-room n count size l in
     let next : (n + 1) * size ≡ n * size + size = row-next n size in
-    let d : min (n * size) len ≡ at = omega arith in
-    let d′ : min ((n + 1) * size) len ≡ at + m = omega arith in
-    let lm : length (midOf at (end - at) out) ≡ m = mid-len at end out (omega arith) in
-    let by : ys ≡ take m (drop at img) = ey ∙ ap (λ (i : ℕ). take i block) lm ∙ sym (f m (omega arith)) ∙ ap (λ (i : ℕ). take m (drop i img)) (sym ea) in
-    let o′ : out ≡ take at img ++ drop at out₀ = e ∙ ap (λ (i : ℕ). take i img ++ drop i out₀) d in
-    ap (λ (x : List ℕ). take at out ++ (ys ++ x)) (drop-drop m at out)
-    ∙ ap (λ (x : List ℕ). take at x ++ (ys ++ drop (at + m) x)) o′
-    ∙ piece-more img out₀ ys at m (omega (arith, li)) (sym by)
-    ∙ ap (λ (i : ℕ). take i img ++ drop i out₀) (sym d′)
+    let e₁ : min (n * size) len ≡ d = omega arith in
+    let e₂ : min ((n + 1) * size) len ≡ d + m = omega arith in
+    let o : out ≡ take d img ++ drop d out₀ = e ∙ ap (λ (i : ℕ). take i img ++ drop i out₀) e₁ in
+    ey
+    ∙ ap (λ (x : List ℕ). take d x ++ (take m block ++ drop (d + m) x)) o
+    ∙ piece-more img out₀ (take m block) d m (omega (arith, li)) (f m (omega arith))
+    ∙ ap (λ (i : ℕ). take i img ++ drop i out₀) (sym e₂)
 
 -- ---- the chains
 
@@ -69,14 +67,14 @@ module _ (size : ℕ) (img : List ℕ) (f : ℕ → ℕ) (out₀ : List ℕ) (le
       record { inside = omega arith; long = refl; bytes = rw e; chain = rw q (omega arith) }
 
   module _ (out : List ℕ) (most n : ℕ) (s : Restoring size img f out₀ len count out most n) where
-    pub restore-next : (ys block : List ℕ) (at end most′ hop : ℕ) → length img ≡ count * size → n < count → count * size < len + size → len ≤ length out₀
+    pub restore-next : (ys block : List ℕ) (at end most′ hop : ℕ) → length img ≡ count * size → n < count → count * size < len + size
         → at ≡ n * size → end ≡ min (at + size) len → ((m : ℕ) → m ≤ size → take m (drop (n * size) img) ≡ take m block)
-        → ys ≡ take (length (midOf at (end - at) out)) block → length ys ≡ length (midOf at (end - at) out) → most′ ≡ max most hop → hop ≡ f n
-        → Restoring size img f out₀ len count (putMid at (end - at) out ys) most′ (n + 1)
-    restore-next ys block at end most′ hop li h k o ea ee eb ey ly em eh = record {
+        → ys ≡ take (n * size) out ++ (take (end - at) block ++ drop (n * size + (end - at)) out) → length ys ≡ length out → most′ ≡ max most hop → hop ≡ f n
+        → Restoring size img f out₀ len count ys most′ (n + 1)
+    restore-next ys block at end most′ hop li h k ea ee eb ey ly em eh = record {
       inside = omega arith;
-      long = same-len-mid at (end - at) out ys ly ∙ s .long;
-      bytes = restore-turn size img out₀ out ys block n len count at end li h k (omega (arith, s .long)) ea ee eb (s .bytes) ey;
+      long = ly ∙ s .long;
+      bytes = restore-turn size img out₀ out ys block n len count at end li h k ea ee eb (s .bytes) ey;
       chain = rw (em, eh) (chain-next f count most n h) ∙ s .chain;
     }
 

@@ -63,21 +63,27 @@ fn fill_byte(pointer: u32) -> u8
     0
 }
 
-// A part of the output is filled with the front of the block that a pointer's word, which is not indirect, leads to.
-pub fn put_block(pool: &[u8], words: &[u32], pointer: u32, part: &mut [u8], m: Measures)
+// The front of the block that a pointer's word, which is not indirect, leads to goes to a block's place in the output.
+pub fn put_block(
+    pool: &[u8],
+    words: &[u32],
+    pointer: u32,
+    out: &mut [u8],
+    block: Block,
+    n: usize,
+    m: Measures,
+)
     requires { ⌜ Stored (measuresOf m) (now pool) (now words) ⌝ }
-    requires { ⌜ Fits (m .blocks) (length (now words)) (wordToPointer pointer) × (length (now part) ≤ m .bytes) ⌝ }
-    ensures { λ _. ⌜ now (part .exit) ≡ take (length (now (part .entry))) (blockAt (m .bytes) (shelfIn (measuresOf m) (now (pool .entry)) (now (words .entry))) (wordToPointer pointer)) ⌝ }
+    requires { ⌜ Fits (m .blocks) (length (now words)) (wordToPointer pointer) × (n ≤ m .bytes) × (block .0 * m .bytes + n ≤ length (now out)) ⌝ }
+    ensures { λ _. ⌜ now (out .exit) ≡ take (block .0 * m .bytes) (now (out .entry)) ++ (take n (blockAt (m .bytes) (shelfIn (measuresOf m) (now (pool .entry)) (now (words .entry))) (wordToPointer pointer)) ++ drop (block .0 * m .bytes + n) (now (out .entry))) ⌝ }
 {
     if pointer / 16777216 == 1 {
         let rest = pointer % 16777216;
         let cell = cell_of(words, RecordNumber(rest / 16), rest % 16, m.blocks);
-        let from = cell.byte(m.bytes);
-        let end = from + part.len();
-        blocks::copy_in(&pool[from..end], part);
+        blocks::copy_block(pool, cell, out, block, n, m.bytes);
         return;
     }
-    blocks::fill_with(part, fill_byte(pointer));
+    blocks::fill_block(out, block, n, fill_byte(pointer), m.bytes);
 }
 
 fn larger(a: u32, b: u32) -> u32
@@ -86,7 +92,7 @@ fn larger(a: u32, b: u32) -> u32
     if a < b { b } else { a }
 }
 
-// The image of the first of h slots, and the longest chain. The output's part from block n on is lent to the block copier.
+// The image of the first of h slots, and the longest chain. Each block goes straight to its place, the last only up to the length.
 pub fn restore_image(
     pool: &[u8],
     words: &[u32],
@@ -112,7 +118,7 @@ pub fn restore_image(
         let traced = trace(slots, bytes, b, h, block);
         let at = block.byte(bytes);
         let end = blocks::least(at + bytes, len);
-        put_block(pool, words, traced.word, &mut out[at..end], m);
+        put_block(pool, words, traced.word, out, block, end - at, m);
         most = larger(most, traced.hops);
         n = n + 1;
     }

@@ -1,66 +1,37 @@
-use native.Mathlib.Omega.{arith}
-use denote.Ref.{now}
-use Rattle.blocks.proofs.Parts.{copied-block}
+use Prim.Native.Nat.{_*_}
+use mathlib.Core.Path.{_≡_}
 use borrow.Author.Needs.{needs}
 use Rattle.blocks.proofs.copy_block.Statement.{statement}
 use Rattle.blocks.proofs.copy_block.Tie as tie
 use Rattle.blocks.proofs.copy_block.Reads as reads
 use Rattle.blocks.proofs.copy_block.Lts as lts
-use Rattle.blocks.proofs.copy_in.Reads as copy-in-reads
+use Rattle.blocks.proofs.copy_part.Reads as copy-part-reads
+use Rattle.numbers.proofs.Block.byte.Reads as Block-byte-reads
+use Rattle.numbers.proofs.Cell.byte.Reads as Cell-byte-reads
 
--- src/lib.rt:120:15
-add-end : tie.Need-add-end
-add-end c = search needs
+-- src/lib.rt:160:21
+byte-requires : tie.Need-byte-requires
+byte-requires c κs = search needs
 
--- src/lib.rt:121:13
-sub-copy-in : tie.Need-sub-copy-in
-sub-copy-in c = search needs
+-- src/lib.rt:160:44
+byte-requires-2 : tie.Need-byte-requires-2
+byte-requires-2 c κs = search needs
 
--- src/lib.rt:121:13
-part-copy-in-start : tie.Need-part-copy-in-start
-part-copy-in-start c = search needs
+-- src/lib.rt:160:5
+copy-part-requires : tie.Need-copy-part-requires
+copy-part-requires c κs = search needs
 
--- src/lib.rt:121:13
-part-copy-in-end : tie.Need-part-copy-in-end
-part-copy-in-end c = search needs
-
--- src/lib.rt:121:31
-sub-copy-in-2 : tie.Need-sub-copy-in-2
-sub-copy-in-2 c = search needs
-
--- src/lib.rt:121:31
-part-copy-in-start-2 : tie.Need-part-copy-in-start-2
-part-copy-in-start-2 c = search needs
-
--- src/lib.rt:121:31
-part-copy-in-end-2 : tie.Need-part-copy-in-end-2
-part-copy-in-end-2 c = search needs
-
--- src/lib.rt:121:5
-copy-in-requires : tie.Need-copy-in-requires
-copy-in-requires c κs = search needs
-
--- src/lib.rt:116:1
+-- src/lib.rt:156:1
 same-length : tie.Need-same-length
 same-length c = search needs
 
--- src/lib.rt:116:1
+-- src/lib.rt:156:1
 returns : tie.Need-returns
-returns c =
-    let a = c .before .before .before .before .before .before .before .args in
-    copied-block (a .from) (a .n) (a .to) (now (a .pool)) (now (a .out)) _ (omega arith) (omega arith) (c .before .before .copy-in .ensures)
+returns c = let a = c .before .before .before .before .before .before .before .before .args in
+    let from : c .before .before .before .before .before .byte .result ≡ a .cell .0 * a .bytes = c .before .before .before .before .before .byte .ensures in
+    let to : c .before .before .before .byte2 .result ≡ a .block .0 * a .bytes = c .before .before .before .byte2 .ensures in
+    rw (from, to) at (c .before .before .copy-part .ensures)
 
 pub copy-block-spec : {M : Type 1} → statement M
 copy-block-spec =
-    tie.close
-    (tie.spec
-    add-end
-    sub-copy-in
-    part-copy-in-start
-    part-copy-in-end
-    sub-copy-in-2
-    part-copy-in-start-2
-    part-copy-in-end-2
-    copy-in-requires
-    same-length
-    returns)
+    tie.close (tie.spec byte-requires byte-requires-2 copy-part-requires same-length returns)

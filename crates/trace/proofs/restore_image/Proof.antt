@@ -14,7 +14,7 @@ use Rattle.laws.proofs.Measures.{parts-enough, parts-few}
 use Rattle.numbers.specs.Measures.{measuresOf}
 use Rattle.shelf.specs.Fits.{Fits}
 use Rattle.trace.specs.Versions.{pointersAt}
-use Rattle.trace.proofs.Images.{fits-end, length-traced, traced-at, image-is, chain-is, part-short}
+use Rattle.trace.proofs.Images.{fits-end, length-traced, traced-at, image-is, chain-is}
 use Rattle.trace.proofs.Restores.{Restoring, restore-start, restore-next, restore-bytes, restore-chain, slots-long}
 use Rattle.trace.proofs.restore_image.Statement.{statement}
 use Rattle.trace.proofs.restore_image.Tie as tie
@@ -89,25 +89,18 @@ add-least c = omega (arith, room (c .before .before), few (c .before .before .be
 least-requires : tie.Need-least-requires Inv-loop μ-loop
 least-requires c κs = search needs
 
--- src/lib.rt:105:45
+-- src/lib.rt:121:63
 sub-put-block : tie.Need-sub-put-block Inv-loop μ-loop
-sub-put-block c = omega (arith, room (c .before .before .before), few (c .before .before .before .before .before), c .before .byte .ensures, c .least .ensures)
+sub-put-block c = omega (arith, room (c .before .before .before .before), few (c .before .before .before .before .before .before), c .before .before .byte .ensures, c .before .least .ensures)
 
--- src/lib.rt:105:45
-part-put-block-start : tie.Need-part-put-block-start Inv-loop μ-loop
-part-put-block-start c = omega (arith, room (c .before .before .before), few (c .before .before .before .before .before), c .before .byte .ensures, c .least .ensures)
-
--- src/lib.rt:105:45
-part-put-block-end : tie.Need-part-put-block-end Inv-loop μ-loop
-part-put-block-end c = omega (arith, c .least .ensures, c .before .before .before .before .loop .inv .long, c .before .before .before .before .before .before .before .before .before .before .before .pre .1 .1 .1)
-
--- src/lib.rt:105:9
+-- src/lib.rt:121:9
 put-block-requires : tie.Need-put-block-requires Inv-loop μ-loop
 put-block-requires c κs = let a = c .before .before .before .before .before .before .before .before .before .before .before .before in (
   a .pre .0,
   (
     subst (λ (p : Pointer). Fits (a .args .m .blocks) (length (a .args .words .now)) p) (sym (c .before .before .before .trace .ensures .ends)) (fits-end _ _ _ (a .pre .0) _ _ _ (a .pre .1 .0 .0) (a .pre .1 .0 .1) _),
-    part-short (a .args .m .bytes) (c .before .before .byte .result) (c .before .least .result) (c .before .before .before .before .before .loop .out) (omega (arith, c .before .least .ensures, c .before .before .before .before .before .loop .inv .long, a .pre .1 .1 .1)) (omega (arith, c .before .least .ensures)),
+    omega (arith, c .before .least .ensures),
+    omega (arith, c .before .least .ensures, c .before .before .byte .ensures, room (c .before .before .before .before), few (c .before .before .before .before .before .before), c .before .before .before .before .before .loop .inv .long, a .pre .1 .1 .1),
   ),
 )
 
@@ -129,7 +122,7 @@ loop-again c = let a = c .before .before .before .before .before .before .before
     let l = c .before .before .before .before .before .before .before .before .before .loop in
     let n : ℕ = c .before .before .before .before .before .before .before .before .before .before .parts-for .result in
     let h : l .n < n = omega arith in
-    restore-next _ _ _ _ _ _ _ _ _ (l .inv) _ _ _ _ _ _ (length-traced _ _ _ (a .pre .0) _ _ _ (a .pre .1 .0 .0) (a .pre .1 .0 .1) n) h (few (c .before .before .before .before .before .before .before .before .before .before)) (a .pre .1 .1 .1)
+    restore-next _ _ _ _ _ _ _ _ _ (l .inv) _ _ _ _ _ _ (length-traced _ _ _ (a .pre .0) _ _ _ (a .pre .1 .0 .0) (a .pre .1 .0 .1) n) h (few (c .before .before .before .before .before .before .before .before .before .before))
     (c .before .before .before .before .before .before .byte .ensures) (c .before .before .before .before .before .least .ensures) (traced-at _ _ _ (a .pre .0) _ _ _ (a .pre .1 .0 .0) (a .pre .1 .0 .1) n (l .n) _ (c .before .before .before .before .before .before .before .trace .ensures .ends) h)
     (c .before .before .before .put-block .ensures) (c .before .before .before .put-block .kept .1 .1 .1 .0) (c .larger .ensures) (c .before .before .before .before .before .before .before .trace .ensures .hop)
 
@@ -163,8 +156,6 @@ restore-image-spec =
     add-least
     least-requires
     sub-put-block
-    part-put-block-start
-    part-put-block-end
     put-block-requires
     larger-requires
     add-n
