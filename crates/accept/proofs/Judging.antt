@@ -7,17 +7,17 @@ use native.Mathlib.Nat.{mul-comm}
 use native.Mathlib.Omega.{arith}
 use lib.ListN.{length, getD}
 use lib.Dec.{eqb, leb, ltb}
-use borrow.Author.Tests.{le-leb, lt-leb, eq-eqb, ne-eqb, lt-ltb, le-ltb}
+use borrow.Author.Tests.{le-leb, lt-leb, leb-true, leb-false, eq-eqb, ne-eqb, eqb-true, eqb-false, lt-ltb, le-ltb}
 use Rattle.model.specs.Image.{withBlanks}
 use Rattle.model.specs.Calls.{BackupAnswer, tillOf, backup, backupAnswer, backupBy, backupIn, backupOf, placeAndFile}
 use Rattle.model.specs.Measures.{Measures}
-use Rattle.model.specs.State.{Outcome, refused, done}
+use Rattle.model.specs.State.{State, Outcome, refused, done}
 use Rattle.model.specs.Table.{shapeOf, stateIn}
 use Rattle.laws.specs.Stores.{Sound, Header}
 use Rattle.laws.proofs.Tills.{last-most}
 use Rattle.tills.specs.declared.Head.{Head}
 use Rattle.tills.specs.Answers.{HeadOf}
-use Rattle.accept.specs.Accept.{mostBytes, Free, Accepted, refusedBackup, Judged, JudgedTill}
+use Rattle.accept.specs.Accept.{mostBytes, Free, Accepted, refusedBackup, tillRefusal, Judged}
 
 -- with the measures as the code read them
 pub bytes-few : (table : List ℕ) → Header table → (m : Measures) → m ≡ shapeOf table .measures → m .blockBytes ≤ 512
@@ -56,24 +56,41 @@ module _ {pool table : List ℕ} (h : Sound pool table) (t : ℕ) where
     unfolding backupOf backupBy backupIn backup shapeOf
     goes-on f = rw (h .is, lt-leb _ _ n, ne-eqb (length image) 0 (λ e. omega (arith, e, some)), le-ltb _ _ few, lt-leb _ _ (f .room), ne-eqb (tillOf (stateIn (shapeOf table) pool table) t .last) 65535 (λ e. omega (arith, e, f .number)))
 
-  module _ (n : t < getD table 0 0) (r : Head) (o : HeadOf pool table t r) where
-    pub told-11 : getD table 1 0 ≤ r .held → JudgedTill pool table t 11
-    told-11 m = record { accepted = λ e. absurd (omega (arith, e)); refusal = λ z image some few. no-slot n image some few (omega (arith, m, o .held)) }
+  -- the state that is read
+  abbrev state : State
+  state = stateIn (shapeOf table) pool table
 
-    pub told-12 : (r .held < getD table 1 0) → r .last ≡ 65535 → JudgedTill pool table t 12
-    told-12 m e = record { accepted = λ q. absurd (omega (arith, q)); refusal = λ z image some few. no-number n image some few (omega (arith, m, o .held)) (sym (o .last) ∙ e) }
+  module _ (r : Head) (o : HeadOf pool table t r) where
+    pub told-11 : getD table 1 0 ≤ r .held → 11 ≡ tillRefusal (shapeOf table) state t
+    unfolding shapeOf
+    told-11 m = rw (le-leb (getD table 1 0) (length (tillOf state t .versions)) (omega (arith, m, o .held)))
 
-    pub told-0 : (r .held < getD table 1 0) → (r .last ≡ 65535 → ⊥) → JudgedTill pool table t 0
-    told-0 m e = record {
-      accepted = λ q. record { room = omega (arith, m, o .held); number = omega (arith, e, o .last, last-most h t n) };
-      refusal = λ z. absurd (z refl);
-    }
+    pub told-12 : (r .held < getD table 1 0) → r .last ≡ 65535 → 12 ≡ tillRefusal (shapeOf table) state t
+    unfolding shapeOf
+    told-12 m e = rw (lt-leb (getD table 1 0) (length (tillOf state t .versions)) (omega (arith, m, o .held)), eq-eqb (tillOf state t .last) 65535 (sym (o .last) ∙ e))
 
-  pub judged : (n : t < getD table 0 0) (image : List ℕ) (some : 0 < length image) (few : length image ≤ mostBytes table) (r : ℕ) → JudgedTill pool table t r → Judged pool table t image r
-  judged n image some few r j = record {
-    accepted = λ e. record { there = n; some = some; few = few; free = j .accepted e };
-    refusal = λ z. j .refusal z image some few;
-  }
+    pub told-0 : (r .held < getD table 1 0) → (r .last ≡ 65535 → ⊥) → 0 ≡ tillRefusal (shapeOf table) state t
+    unfolding shapeOf
+    told-0 m e = rw (lt-leb (getD table 1 0) (length (tillOf state t .versions)) (omega (arith, m, o .held)), ne-eqb (tillOf state t .last) 65535 (λ q. e (o .last ∙ q)))
+
+  module _ (n : t < getD table 0 0) (image : List ℕ) (some : 0 < length image) (few : length image ≤ mostBytes table) where
+    pub judged : (r : ℕ) → r ≡ tillRefusal (shapeOf table) state t → Judged pool table t image r
+    unfolding shapeOf
+    judged r e = rw e (go (leb (getD table 1 0) (length (tillOf state t .versions))) (eqb (tillOf state t .last) 65535) refl refl)
+      where
+        go : (a b : Bool) → leb (getD table 1 0) (length (tillOf state t .versions)) ≡ a → eqb (tillOf state t .last) 65535 ≡ b
+            → Judged pool table t image (cond a 11 (cond b 12 0))
+        go true b f g = record { accepted = λ q. absurd (omega (arith, q)); refusal = λ z. no-slot n image some few (leb-true (getD table 1 0) (length (tillOf state t .versions)) f) }
+        go false true f g = record { accepted = λ q. absurd (omega (arith, q)); refusal = λ z. no-number n image some few (leb-false (getD table 1 0) (length (tillOf state t .versions)) f) (eqb-true (tillOf state t .last) 65535 g) }
+        go false false f g = record {
+          accepted = λ q. record {
+            there = n;
+            some = some;
+            few = few;
+            free = record { room = leb-false (getD table 1 0) (length (tillOf state t .versions)) f; number = omega (arith, eqb-false (tillOf state t .last) 65535 g, last-most h t n) };
+          };
+          refusal = λ z. absurd (z refl);
+        }
 
   pub judged-so : (image : List ℕ) (r : ℕ) → (r ≡ 0 → ⊥) → backupOf pool table t image ≡ refusedBackup r pool table → Judged pool table t image r
   judged-so image r z e = record { accepted = λ q. absurd (z q); refusal = λ q. e }

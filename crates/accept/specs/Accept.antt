@@ -1,8 +1,12 @@
 -- What holds of a backup that is not refused at once.
 use mathlib.Core.Path.{_≡_}
 use mathlib.Core.List.{List}
+use mathlib.Core.Bool.{cond}
 use Prim.Native.Nat.{ℕ, zero, suc, _*_, _≤_, _<_}
 use lib.ListN.{length, getD}
+use lib.Dec.{eqb, leb}
+use Rattle.model.specs.Measures.{Shape}
+use Rattle.model.specs.State.{State}
 use Rattle.model.specs.Calls.{BackupAnswer, tillOf, backupOf}
 use Rattle.model.specs.Table.{shapeOf, stateIn}
 use Rattle.laws.specs.Stores.{Sound}
@@ -30,7 +34,6 @@ pub record Judged (pool table : List ℕ) (t : ℕ) (image : List ℕ) (r : ℕ)
   pub accepted : r ≡ 0 → Accepted pool table t image
   pub refusal : (r ≡ 0 → ⊥) → backupOf pool table t image ≡ refusedBackup r pool table
 
--- the same for a till that is there and an image of a right length
-pub record JudgedTill (pool table : List ℕ) (t : ℕ) (r : ℕ) : Type 0 where
-  pub accepted : r ≡ 0 → Free pool table t
-  pub refusal : (r ≡ 0 → ⊥) → (image : List ℕ) → 0 < length image → length image ≤ mostBytes table → backupOf pool table t image ≡ refusedBackup r pool table
+-- 11, 12, or 0
+abbrev pub tillRefusal : Shape → State → ℕ → ℕ
+tillRefusal s st t = cond (leb (s .capacities .versions) (length (tillOf st t .versions))) 11 (cond (eqb (tillOf st t .last) 65535) 12 0)

@@ -2,12 +2,13 @@
 ghost use mathlib.Core.Path.{_≡_};
 ghost use Prim.Native.Nat.{ℕ, _<_};
 ghost use lib.ListN.{length, getD};
+ghost use Rattle.model.specs.Table.{shapeOf, stateIn};
 ghost use Rattle.laws.specs.Stores.{Sound, Header};
-ghost use Rattle.accept.specs.Accept.{mostBytes, Judged, JudgedTill};
+ghost use Rattle.accept.specs.Accept.{mostBytes, tillRefusal, Judged};
 use numbers::Block;
 
 // The longest image's bytes: where the block past its last one would begin.
-fn most_bytes(table: &[u32]) -> usize
+pub fn most_bytes(table: &[u32]) -> usize
     requires { ⌜ Header (now table) ⌝ }
     ensures { λ r. ⌜ r ≡ mostBytes (now (table .entry)) ⌝ }
 {
@@ -16,10 +17,10 @@ fn most_bytes(table: &[u32]) -> usize
     past.byte(m.bytes)
 }
 
-// Refusals 11 and 12.
-fn till_refusal(pool: &[u8], table: &[u32], till: u32) -> u32
+// Refusals 11 and 12; 0 where there is none.
+pub fn till_refusal(pool: &[u8], table: &[u32], till: u32) -> u32
     requires { ⌜ Sound (now pool) (now table) × (till < getD (now table) 0 0) ⌝ }
-    ensures { λ r. ⌜ JudgedTill (now (pool .entry)) (now (table .entry)) till r ⌝ }
+    ensures { λ r. ⌜ r ≡ tillRefusal (shapeOf (now (table .entry))) (stateIn (shapeOf (now (table .entry))) (now (pool .entry)) (now (table .entry))) till ⌝ }
 {
     let head = tills::till_head(pool, table, till);
     if table[1] <= head.held {

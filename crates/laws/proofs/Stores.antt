@@ -22,6 +22,7 @@ use Rattle.model.specs.Sound.{isSound, ifSound, hasLengths, Store, storeAs, sto
 use Rattle.model.specs.Calls.{emptyTill, tillOf}
 use Rattle.laws.specs.Ranges.{Ranges}
 use Rattle.laws.specs.Stores.{tillAt, recordsFrom, storeRead, Sound, Header}
+use Rattle.laws.proofs.Measures.{sizes}
 use Rattle.laws.proofs.Ranges.{ranges}
 use Rattle.laws.proofs.Fits.{Fit, range-fit, StateFits, state-fits}
 use Rattle.laws.proofs.RoundTrip.{length-till, table-length, Found, store-found}
@@ -97,7 +98,7 @@ module _ (s : Shape) (st : State) where
 -- ---- a sound store
 
 module _ (pool table : List ℕ) where
-  read-or-none : storeOf pool table ≡ none ⊎ storeOf pool table ≡ some (storeRead pool table)
+  pub read-or-none : storeOf pool table ≡ none ⊎ storeOf pool table ≡ some (storeRead pool table)
   unfolding storeOf storeAs ifSound
   read-or-none = go (hasLengths (shapeOf table) pool table) (allOf (sameNumbers (stateToWords (shapeOf table) (stateIn (shapeOf table) pool table)) table ∷ isSound (shapeOf table) (stateIn (shapeOf table) pool table) ∷ []))
     where
@@ -152,3 +153,10 @@ module _ {pool table : List ℕ} (h : Sound pool table) where
         measured = r .measured;
         image = r .image;
       }
+
+  -- where the records' words begin, there is room
+  pub records-room : (at : ℕ) → at ≡ recordsFrom (shapeOf table) → (at ≤ length table) × (at ≤ 1051720)
+  unfolding shapeOf tableWords
+  records-room at e =
+      let (a, b) = sizes (getD table 0 0) (getD table 1 0) (getD table 2 0) (header .tills) (header .versions) (header .blocks) in
+      (omega (arith, e, long), omega (arith, e, b))

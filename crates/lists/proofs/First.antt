@@ -4,6 +4,7 @@ use mathlib.Core.Bool.{Bool, true, false, cond}
 use mathlib.Core.List.{List, [], _∷_}
 use mathlib.Core.Option.{Option, none, some}
 use Prim.Native.Nat.{ℕ, zero, suc, _+_, _<_, suc-le-suc}
+use native.Mathlib.Omega.{arith}
 use native.Mathlib.Nat.{add-zero, suc-add, add-suc, not-suc-le-zero, le-of-suc-le-suc, zero-lt-suc}
 use lib.ListN.{length, getD}
 use Rattle.lists.specs.Lists.{firstFrom}
@@ -39,3 +40,13 @@ first-none f d [] j i l h = absurd (not-suc-le-zero l)
 first-none f d (x ∷ xs) j zero l h = ap (λ (t : Bool). isNone (cond t (some j) (firstFrom f (suc j) xs))) h
 first-none f d (x ∷ xs) j (suc i) l h =
     by-test (λ (o : Option ℕ). isNone o ≡ false) (f x) (λ e. refl) (λ e. first-none f d xs (suc j) i (le-of-suc-le-suc l) h)
+
+-- two searches that answer alike at each place
+pub first-alike : {A B : Type 0} (f : A → Bool) (g : B → Bool) (d : A) (e : B) (i : ℕ) (xs : List A) (ys : List B) → length xs ≡ length ys
+    → ((j : ℕ) → j < length xs → f (getD xs j d) ≡ g (getD ys j e)) → firstFrom f i xs ≡ firstFrom g i ys
+unfolding firstFrom
+first-alike f g d e i [] [] l h = refl
+first-alike f g d e i [] (y ∷ ys) l h = absurd (omega (arith, l))
+first-alike f g d e i (x ∷ xs) [] l h = absurd (omega (arith, l))
+first-alike f g d e i (x ∷ xs) (y ∷ ys) l h =
+    rw (h 0 (omega arith), first-alike f g d e (suc i) xs ys (omega (arith, l)) (λ j k. h (suc j) (omega (arith, k))))

@@ -1,18 +1,20 @@
 -- A part put among parts, and the first found.
-use mathlib.Core.Path.{_≡_, ap, refl, subst}
-use mathlib.Core.Bool.{Bool, true, cond}
+use mathlib.Core.Path.{_≡_, ap, refl, subst, sym, _∙_}
+use mathlib.Core.Bool.{Bool, true, false, cond}
 use mathlib.Core.List.{List, [], _++_, _∷_, append-assoc, map}
-use mathlib.Core.Option.{some}
+use mathlib.Core.Option.{none, some}
 use Prim.Native.Nat.{_*_, _+_, _<_, _≤_, suc, zero, ℕ}
 use native.Mathlib.Nat.{le-of-suc-le-suc, not-suc-le-zero, suc-mul, zero-mul}
 use native.Mathlib.Numerals.{add-one}
 use native.Mathlib.Omega.{arith}
 use lib.ListN.{drop, getD, length, length-drop, set, take}
 use lib.Seq.{drop-at, drop-drop, length-take-le, take-add, take-at}
+use borrow.Author.Tests.{le-ltb, lt-ltb}
 use Rattle.lists.specs.Lists.{firstFrom}
 use Rattle.lists.specs.Rows.{parts}
+use Rattle.lists.specs.Search.{asOption}
 use Rattle.lists.proofs.First.{Lowest, first-lowest}
-use Rattle.lists.proofs.Slices.{drop-next}
+use Rattle.lists.proofs.Slices.{drop-next, drop-end}
 
 pub getD-any {ℓ} : {A : Type ℓ} (l : List A) (k : ℕ) (d e : A) → k < length l → getD l k d ≡ getD l k e
 getD-any [] k d e h = absurd (not-suc-le-zero h)
@@ -51,3 +53,22 @@ first-step f d xs k h = rw (drop-next xs k d h, add-one k)
 pub map-then {ℓ κ μ} : {A : Type ℓ} {B : Type κ} {C : Type μ} (f : A → C) (g : B → C) (h : A → B) → ((x : A) → f x ≡ g (h x)) → (xs : List A) → map f xs ≡ map g (map h xs)
 map-then f g h e [] = refl
 map-then f g h e (x ∷ xs) = rw (e x, map-then f g h e xs)
+
+module _ {A : Type 0} (f : A → Bool) (d : A) (xs : List A) (k : ℕ) where
+  pub first-yes : k < length xs → true ≡ f (getD xs k d) → asOption (length xs) k ≡ firstFrom f k (drop k xs)
+  first-yes h e = rw (lt-ltb k (length xs) h) (sym (first-step f d xs k h ∙ rw (← e)))
+
+  pub first-no : k < length xs → false ≡ f (getD xs k d) → firstFrom f k (drop k xs) ≡ firstFrom f (k + 1) (drop (k + 1) xs)
+  first-no h e = first-step f d xs k h ∙ rw (← e)
+
+  pub first-end : length xs ≤ k → asOption (length xs) k ≡ firstFrom f k (drop k xs)
+  unfolding firstFrom
+  first-end h = rw (le-ltb k (length xs) h, drop-end xs k h)
+
+-- ---- a search's answer
+
+pub as-some : (n k : ℕ) → k < n → asOption n k ≡ some k
+as-some n k h = rw (lt-ltb k n h)
+
+pub as-none : (n k : ℕ) → n ≤ k → asOption n k ≡ none
+as-none n k h = rw (le-ltb k n h)

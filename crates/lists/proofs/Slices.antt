@@ -1,12 +1,12 @@
 -- Parts of a list as a loop or a lent slice takes them.
 use mathlib.Core.Path.{_≡_, refl, sym, ap, _∙_}
 use mathlib.Core.Bool.{Bool, true, false}
-use mathlib.Core.List.{List, [], _∷_, _++_, append-nil}
+use mathlib.Core.List.{List, [], _∷_, _++_, append-assoc, append-nil}
 use Prim.Native.Nat.{ℕ, zero, suc, zero-le, min, _+_, _-_, _≤_, _<_}
 use native.Mathlib.Nat.{sub-zero, suc-sub-suc}
 use native.Mathlib.Numerals.{add-one}
 use native.Mathlib.Omega.{arith}
-use lib.ListN.{length, getD, take, drop, replicate, length-take, length-drop, length-replicate, drop-of-length-le}
+use lib.ListN.{length, getD, take, drop, replicate, length-append, length-take, length-drop, length-replicate, drop-of-length-le}
 use lib.Seq.{drop-cons, drop-nil, drop-length, take-all, take-suc, take-nil, take-take, take-at, drop-at, drop-drop, getD-take, getD-drop, length-take-le}
 use lib.Dec.{leb, eqb}
 use borrow.Author.Tests.{leb-true, leb-false, eq-eqb, ne-eqb}
@@ -65,6 +65,10 @@ module _ {ℓ} {A : Type ℓ} where
   part-part xs a n c k h =
       ap (take k) (drop-take c n (drop a xs)) ∙ take-take k (n - c) (drop c (drop a xs)) (omega (arith, h)) ∙ ap (take k) (drop-drop c a xs)
 
+  -- a part of the front
+  pub part-front : (xs : List A) (n c k : ℕ) → c + k ≤ n → take k (drop c (take n xs)) ≡ take k (drop c xs)
+  part-front xs n c k h = let z : 0 + c ≡ c = omega arith in part-part xs 0 n c k h ∙ ap (λ (i : ℕ). take k (drop i xs)) z
+
   pub part-get : (xs : List A) (a n i : ℕ) (d : A) → i < n → getD (take n (drop a xs)) i d ≡ getD xs (a + i) d
   part-get xs a n i d h = getD-take n (drop a xs) i d h ∙ getD-drop a xs i d
 
@@ -87,6 +91,16 @@ module _ {ℓ} {A : Type ℓ} (p m q ws : List A) (a k : ℕ) (e : ws ≡ p ++ (
 
   pub mid-put : (m′ : List A) → take a ws ++ (m′ ++ drop k (drop a ws)) ≡ p ++ (m′ ++ q)
   mid-put m′ = rw (e, take-at p (m ++ q) a la, drop-at p (m ++ q) a la, drop-at m q k lk)
+
+-- a front, and a piece of k elements that was put behind it
+module _ {ℓ} {A : Type ℓ} where
+  pub front-more : (out b ys : List A) (at k : ℕ) → ys ≡ take at out ++ (b ++ drop (at + k) out) → length ys ≡ length out → at + k ≤ length out → take (at + k) ys ≡ take at out ++ b
+  front-more out b ys at k e l room =
+      let p : length (take at out) ≡ at = length-take-le at out (omega (arith, room)) in
+      let q : length b ≡ k =
+      omega (arith, room, l, ap length e, length-append (take at out) (b ++ drop (at + k) out), length-append b (drop (at + k) out), length-drop (at + k) out, p) in
+      ap (take (at + k)) (e ∙ sym (append-assoc (take at out) b (drop (at + k) out)))
+      ∙ take-at (take at out ++ b) (drop (at + k) out) (at + k) (length-append (take at out) b ∙ omega (arith, p, q))
 
 -- the list is p, then m; the part is m, which goes to the end
 module _ {ℓ} {A : Type ℓ} (p m ws : List A) (a : ℕ) (e : ws ≡ p ++ m) (la : length p ≡ a) where

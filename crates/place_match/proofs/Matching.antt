@@ -27,9 +27,9 @@ use Rattle.laws.proofs.Image.{blocks-next}
 use Rattle.shelf.proofs.Inside.{cell-bytes}
 use Rattle.place_words.specs.Marks.{blanks, isErased, mark, marks}
 use Rattle.place_seek.specs.Seek.{RestFree}
-use Rattle.place_seek.proofs.Seeking.{free-masks}
+use Rattle.shelf.proofs.Free.{free-masks}
 use Rattle.place_words.proofs.Marks.{blanks-div, blanks-mod, mark-bit}
-use Rattle.place_words.proofs.Reading.{blank-word, cell-word, held-word, removed-word}
+use Rattle.shelf.proofs.Row.{blank-word, cell-word, held-word, removed-word}
 use Rattle.place_match.proofs.Blank.{bare-full, bare-not, erased-is}
 
 -- ---- what is left to compare

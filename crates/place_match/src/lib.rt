@@ -14,7 +14,7 @@ ghost use Rattle.model.specs.Place.{stored};
 ghost use Rattle.model.specs.Table.{recordToWords, recordsIn, cellsIn, shelfIn};
 ghost use Rattle.numbers.specs.Measures.{measuresOf};
 ghost use Rattle.shelf.specs.Stored.{Stored};
-ghost use Rattle.place_words.specs.Words.{asOption};
+ghost use Rattle.lists.specs.Search.{asOption};
 ghost use Rattle.place_words.specs.Marks.{mark, marks, isErased, blankMark, blanks, kept};
 ghost use Rattle.place_seek.specs.Seek.{RestFree};
 use numbers::Block;

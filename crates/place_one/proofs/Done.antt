@@ -27,10 +27,11 @@ use Rattle.place_seek.specs.Seek.{taken}
 use Rattle.place_seek.proofs.Free.{free-new, free-same, length-free, named-same}
 use Rattle.place_undo.proofs.Undoing.{undo-past}
 use Rattle.place_words.specs.Marks.{mark, marks}
-use Rattle.place_words.specs.Words.{asOption}
+use Rattle.lists.specs.Search.{asOption}
 use Rattle.place_words.proofs.Marks.{kept-count}
 use Rattle.place_words.proofs.Rowing.{bare-cell}
-use Rattle.place_words.proofs.Reading.{as-none, as-some, cells-below}
+use Rattle.lists.proofs.Puts.{as-none, as-some}
+use Rattle.shelf.proofs.Row.{cells-below}
 use Rattle.place_one.specs.Did.{Did}
 use Rattle.place_one.specs.Ready.{Masked, Ready, Unmatched}
 use Rattle.place_one.proofs.Cases.{bare-pointers, place-bare, place-full, place-share, place-tight, place-write, some-blocks}

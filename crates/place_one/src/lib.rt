@@ -11,7 +11,7 @@ ghost use Rattle.model.specs.Place.{stored};
 ghost use Rattle.model.specs.Table.{recordsIn};
 ghost use Rattle.numbers.specs.Measures.{measuresOf};
 ghost use Rattle.place_seek.specs.Seek.{RestFree};
-ghost use Rattle.place_words.specs.Words.{asOption};
+ghost use Rattle.lists.specs.Search.{asOption};
 ghost use Rattle.runs.specs.Runs.{asRun};
 ghost use Rattle.place_one.specs.Did.{DidSegment};
 ghost use Rattle.place_one.specs.Ready.{Ready, Masked, Unmatched};

@@ -25,7 +25,7 @@ use Rattle.shelf.specs.Stored.{CellsTold, RecordsTold, Stored, Told}
 use Rattle.shelf.proofs.Inside.{cell-put, cells-told, stored-cells}
 use Rattle.shelf.proofs.Read.{count-at, part-length, part-put, records-of, row-part, shelf-read, stored-again, stored-records}
 use Rattle.place_words.specs.Words.{keptCell}
-use Rattle.place_words.proofs.Reading.{count-words}
+use Rattle.shelf.proofs.Row.{count-words}
 use Rattle.place_undo.specs.Undo.{undoIn, undoRecord, undoUpto}
 
 -- ---- low words

@@ -11,7 +11,7 @@ use Rattle.model.specs.Records.{cellOf, cellsOf, isHeld}
 use Rattle.model.specs.State.{Position, Segment, held, nullPosition, blankPosition, removed}
 use Rattle.model.specs.Table.{recordToWords}
 use Rattle.place_words.specs.Words.{keptCell}
-use Rattle.place_words.proofs.Reading.{cell-word, held-word}
+use Rattle.shelf.proofs.Row.{cell-word, held-word}
 
 -- a position's cell, if it is held
 position-cell : (p : Position) (ps : Segment) → cellsOf (p ∷ ps) ≡ keptCell (cond (isHeld p) 1 0) (cellOf p) ++ cellsOf ps

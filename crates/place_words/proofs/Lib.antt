@@ -1,5 +1,4 @@
--- Laws of a record's row, of searches and of a segment's mask.
-pub mod Reading
+-- Laws of a record's row and of a segment's mask.
 pub mod Cells
 pub mod Marks
 pub mod Rowing

@@ -26,7 +26,7 @@ use Rattle.laws.proofs.RoundTrip.{direct-word}
 use Rattle.place_words.specs.Marks.{blankMark, blanks, isErased, mark, marks}
 use Rattle.place_words.specs.Words.{pointerIf}
 use Rattle.place_words.proofs.Marks.{blanks-div, blanks-mod, marks-div, marks-mod}
-use Rattle.place_words.proofs.Reading.{held-word}
+use Rattle.shelf.proofs.Row.{held-word}
 
 -- the counts are lent as the row's end
 module _ (n : ℕ) (seg : Segment) (e : length seg ≡ n) (row : List ℕ) (s : row ≡ recordToWords seg) where

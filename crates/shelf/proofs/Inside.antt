@@ -16,7 +16,7 @@ use Rattle.lists.proofs.Puts.{parts-put}
 use Rattle.lists.proofs.Uses.{uses}
 use Rattle.model.specs.Image.{zeroBlock}
 use Rattle.model.specs.Measures.{Measures, recordWords}
-use Rattle.model.specs.Records.{isHeld, cellOf, namedCells}
+use Rattle.model.specs.Records.{isHeld, cellOf, cellAt, namedCells}
 use Rattle.model.specs.State.{Block, Position, nullPosition, blankPosition, held, removed, Segment, Shelf}
 use Rattle.model.specs.Table.{cellsIn, recordsIn, shelfIn}
 use Rattle.laws.proofs.Named.{inside-any}
@@ -49,6 +49,11 @@ module _ (bytes : ℕ) (pool : List ℕ) (c : ℕ) (some : 0 < bytes) (room : c 
   pub cell-bytes : getD (cellsIn bytes pool) c [] ≡ take bytes (drop (c * bytes) pool)
   unfolding cellsIn
   cell-bytes = chunk-at bytes pool c cell-below
+
+  -- and of a shelf that has these cells
+  pub cell-is : (s : Shelf) → s .cells ≡ cellsIn bytes pool → take bytes (drop (c * bytes) pool) ≡ cellAt s c
+  unfolding cellAt
+  cell-is s e = sym (ap (λ (l : List Block). getD l c []) e ∙ cell-bytes)
 
   -- other bytes in their place
   pub cell-put : (b : List ℕ) → length b ≡ bytes → cellsIn bytes (take (c * bytes) pool ++ (b ++ drop bytes (drop (c * bytes) pool))) ≡ set (cellsIn bytes pool) c b

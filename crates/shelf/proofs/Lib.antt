@@ -2,3 +2,5 @@ pub mod Read
 pub mod Changes
 pub mod Inside
 pub mod Along
+pub mod Row
+pub mod Free

@@ -23,7 +23,6 @@ use Rattle.model.specs.Records.{isHeld, isRemoved, isFree, cellOf, cellsOf, nam
 use Rattle.model.specs.Table.{recordToWords, segmentIn, recordsIn, shapeOf, stateIn, shelfIn, recordsPart}
 use Rattle.model.specs.Calls.{tallyIn, tallyOf}
 use Rattle.laws.proofs.Bounds.{counts-most}
-use Rattle.laws.proofs.Measures.{sizes}
 use Rattle.laws.proofs.RoundTrip.{length-record, segment-back, records-part}
 use Rattle.laws.specs.Stores.{recordsFrom, Sound}
 use Rattle.laws.proofs.Stores.{header, found, fit, fits, long}
@@ -192,12 +191,6 @@ module _ (n w : ℕ) (ew : w ≡ recordWords n) (most : n ≤ 16) (ws : List ℕ
 module _ {pool table : List ℕ} (h : Sound pool table) (at : ℕ) (e : at ≡ recordsFrom (shapeOf table)) where
   abbrev positions : ℕ
   positions = shapeOf table .measures .segmentBlocks
-
-  pub at-in : (at ≤ length table) × (at ≤ 1051720)
-  unfolding shapeOf tableWords
-  at-in =
-      let (a, b) = sizes (getD table 0 0) (getD table 1 0) (getD table 2 0) (header h .tills) (header h .versions) (header h .blocks) in
-      (omega (arith, e, long h), omega (arith, e, b))
 
   lent-is : take (length table - at) (drop at table) ≡ drop (recordsFrom (shapeOf table)) table
   lent-is = tail-all table at ∙ ap (λ (k : ℕ). drop k table) e

@@ -1,17 +1,23 @@
-// Words on parts of lent slices: copied, moved down and cleared.
+// Words on parts of lent slices: copied, moved down and filled.
 ghost use mathlib.Core.Path.{_≡_};
 ghost use mathlib.Core.List.{_++_};
 ghost use Prim.Native.Nat.{ℕ, _+_, _≤_, _<_};
 ghost use lib.ListN.{length, take, drop, replicate};
 
-pub fn clear(part: &mut [u32])
-    ensures { λ _. ⌜ now (part .exit) ≡ replicate (length (now (part .entry))) 0 ⌝ }
+pub fn fill_with(part: &mut [u32], word: u32)
+    ensures { λ _. ⌜ now (part .exit) ≡ replicate (length (now (part .entry))) word ⌝ }
 {
     let mut i: usize = 0;
     while i < part.len() {
-        part[i] = 0;
+        part[i] = word;
         i = i + 1;
     }
+}
+
+pub fn clear(part: &mut [u32])
+    ensures { λ _. ⌜ now (part .exit) ≡ replicate (length (now (part .entry))) 0 ⌝ }
+{
+    fill_with(part, 0);
 }
 
 // The source's words to the front of the destination.

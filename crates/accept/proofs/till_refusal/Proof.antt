@@ -18,15 +18,15 @@ shared-slice-read-if1 c = omega (arith, header (c .before .before .before .befor
 
 -- src/lib.rt:15:9
 returns : tie.Need-returns
-returns c = told-11 (c .before .before .before .before .before .before .pre .0) (c .before .before .before .before .before .before .args .till) (c .before .before .before .before .before .before .pre .1) _ (c .before .before .before .till-head .ensures) (c .if1 .taken)
+returns c = told-11 (c .before .before .before .before .before .before .pre .0) (c .before .before .before .before .before .before .args .till) _ (c .before .before .before .till-head .ensures) (c .if1 .taken)
 
 -- src/lib.rt:18:9
 returns-2 : tie.Need-returns-2
-returns-2 c = told-12 (c .before .before .before .before .before .before .before .before .pre .0) (c .before .before .before .before .before .before .before .before .args .till) (c .before .before .before .before .before .before .before .before .pre .1) _ (c .before .before .before .before .before .till-head .ensures) (omega (arith, c .before .before .if1 .left)) (c .if2 .taken)
+returns-2 c = told-12 (c .before .before .before .before .before .before .before .before .pre .0) (c .before .before .before .before .before .before .before .before .args .till) _ (c .before .before .before .before .before .till-head .ensures) (omega (arith, c .before .before .if1 .left)) (c .if2 .taken)
 
 -- src/lib.rt:9:1
 returns-3 : tie.Need-returns-3
-returns-3 c = told-0 (c .before .before .before .before .before .before .before .before .pre .0) (c .before .before .before .before .before .before .before .before .args .till) (c .before .before .before .before .before .before .before .before .pre .1) _ (c .before .before .before .before .before .till-head .ensures) (omega (arith, c .before .before .if1 .left)) (c .if2 .left)
+returns-3 c = told-0 (c .before .before .before .before .before .before .before .before .pre .0) (c .before .before .before .before .before .before .before .before .args .till) _ (c .before .before .before .before .before .till-head .ensures) (omega (arith, c .before .before .if1 .left)) (c .if2 .left)
 
 pub till-refusal-spec : {M : Type 1} → statement M
 till-refusal-spec =

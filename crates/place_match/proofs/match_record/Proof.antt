@@ -14,7 +14,8 @@ use Rattle.shelf.proofs.Along.{AtRow, at-few, at-length, at-next, at-room, at-r
 use Rattle.shelf.proofs.Inside.{cell-inside, cell-room}
 use Rattle.shelf.proofs.Read.{cells-of, stored-records}
 use Rattle.place_seek.specs.Seek.{RestFree}
-use Rattle.place_words.proofs.Reading.{as-none, cells-below, first-no, first-yes}
+use Rattle.lists.proofs.Puts.{as-none, first-no, first-yes}
+use Rattle.shelf.proofs.Row.{cells-below}
 use Rattle.place_match.proofs.Matching.{none-rest}
 use Rattle.place_match.proofs.match_record.Statement.{statement}
 use Rattle.place_match.proofs.match_record.Tie as tie

@@ -7,7 +7,8 @@ use Rattle.model.specs.Table.{recordsIn}
 use Rattle.numbers.specs.Measures.{measuresOf}
 use Rattle.shelf.proofs.Inside.{few-records}
 use Rattle.shelf.proofs.Read.{count-at, part-length, part-room, records-count, row-part, stored-records}
-use Rattle.place_words.proofs.Reading.{as-none, counts-below}
+use Rattle.lists.proofs.Puts.{as-none}
+use Rattle.shelf.proofs.Row.{counts-below}
 use Rattle.place_one.proofs.Done.{did-share, seg-room}
 use borrow.Author.Needs.{needs}
 use Rattle.place_one.proofs.place_blocks.Statement.{statement}

@@ -9,7 +9,7 @@ use Rattle.lists.specs.Lists.{firstFrom}
 use Rattle.model.specs.Records.{isFree}
 use Rattle.model.specs.Table.{recordsIn}
 use Rattle.shelf.proofs.Along.{AtRow, at-few, at-length, at-next, at-room, at-row, at-start}
-use Rattle.place_words.proofs.Reading.{first-end, first-no, first-yes}
+use Rattle.lists.proofs.Puts.{first-end, first-no, first-yes}
 use Rattle.place_seek.proofs.free_record.Statement.{statement}
 use Rattle.place_seek.proofs.free_record.Tie as tie
 

@@ -1,6 +1,6 @@
 use native.Mathlib.Omega.{arith}
 use denote.Ref.{now}
-use Rattle.place_seek.proofs.Seeking.{row-by, row-not-held, row-not-whole}
+use Rattle.shelf.proofs.Free.{row-by, row-not-held, row-not-whole}
 use borrow.Author.Needs.{needs}
 use Rattle.place_seek.proofs.row_free.Statement.{statement}
 use Rattle.place_seek.proofs.row_free.Tie as tie

@@ -8,7 +8,7 @@ use denote.Ref.{now}
 use Rattle.model.specs.Records.{namedCells}
 use Rattle.model.specs.Table.{recordsIn}
 use Rattle.shelf.proofs.Along.{AtRow, at-few, at-length, at-next, at-room, at-row, at-sized, at-start}
-use Rattle.place_words.proofs.Reading.{cells-below}
+use Rattle.shelf.proofs.Row.{cells-below}
 use Rattle.place_seek.specs.Seek.{taken}
 use Rattle.place_seek.proofs.Seeking.{named-done, named-step}
 use Rattle.place_seek.proofs.take_all.Statement.{statement}

@@ -1,7 +1,7 @@
 use native.Mathlib.Omega.{arith}
 use mathlib.Core.Path.{_∙_}
-use Rattle.laws.proofs.Stores.{header}
-use Rattle.tally.proofs.Cases.{at-in, rows-read, tally-read}
+use Rattle.laws.proofs.Stores.{header, records-room}
+use Rattle.tally.proofs.Cases.{rows-read, tally-read}
 use borrow.Author.Needs.{needs}
 use Rattle.tally.proofs.tally_store.Statement.{statement}
 use Rattle.tally.proofs.tally_store.Tie as tie
@@ -21,15 +21,15 @@ records-at-requires c κs = header (c .before .before .before .pre)
 
 -- src/lib.rt:93:16
 mul-tally-rows : tie.Need-mul-tally-rows
-mul-tally-rows c = let (p, q) = at-in (c .before .before .before .before .pre) _ (c .records-at .ensures) in omega (arith, p, q)
+mul-tally-rows c = let (p, q) = records-room (c .before .before .before .before .pre) _ (c .records-at .ensures) in omega (arith, p, q)
 
 -- src/lib.rt:93:16
 sub-tally-rows : tie.Need-sub-tally-rows
-sub-tally-rows c = at-in (c .before .before .before .before .pre) _ (c .records-at .ensures) .0
+sub-tally-rows c = records-room (c .before .before .before .before .pre) _ (c .records-at .ensures) .0
 
 -- src/lib.rt:93:16
 part-tally-rows-start : tie.Need-part-tally-rows-start
-part-tally-rows-start c = at-in (c .before .before .before .before .pre) _ (c .records-at .ensures) .0
+part-tally-rows-start c = records-room (c .before .before .before .before .pre) _ (c .records-at .ensures) .0
 
 -- src/lib.rt:93:16
 part-tally-rows-end : tie.Need-part-tally-rows-end

@@ -1,23 +1,14 @@
--- Laws for reading a record's words, and of a search among them.
-use mathlib.Core.Path.{_∙_, _≡_, refl, sym}
-use mathlib.Core.Bool.{Bool, false, true}
+-- Laws for reading a record's words.
+use mathlib.Core.Path.{_∙_, _≡_, refl}
 use mathlib.Core.List.{List, map}
-use mathlib.Core.Option.{none, some}
-use Prim.Native.Nat.{_+_, _<_, _≤_, suc, ℕ}
+use Prim.Native.Nat.{_+_, _<_, suc, ℕ}
 use native.Mathlib.Omega.{arith}
 use lib.ListN.{List·getD-append, List·getD-map, drop, getD, length, length-map, take}
 use lib.Seq.{drop-at, drop-drop, getD-append-add, take-all}
-use borrow.Author.Tests.{le-ltb, lt-ltb}
-use Rattle.lists.specs.Lists.{firstFrom}
 use Rattle.lists.specs.Masks.{maskOf}
-use Rattle.lists.proofs.Puts.{first-step}
-use Rattle.lists.proofs.Slices.{drop-end}
 use Rattle.model.specs.Records.{cellOf, countOf, isBlankPosition, isHeld, isRemoved}
 use Rattle.model.specs.State.{Segment, nullPosition}
 use Rattle.model.specs.Table.{recordToWords}
-use Rattle.place_words.specs.Words.{asOption}
-
--- ---- a row's words
 
 module _ (seg : Segment) where
   pub held-word : getD (recordToWords seg) 0 0 ≡ maskOf isHeld seg
@@ -60,24 +51,3 @@ cells-below n l seg e f row s i h = rw (s, cell-word seg i (omega arith)) (f i)
 pub counts-below : (n l : ℕ) (seg : Segment) → length seg ≡ n → ((i : ℕ) → countOf (getD seg i nullPosition) < l)
     → (row : List ℕ) → row ≡ recordToWords seg → (i : ℕ) → i < n → getD row (3 + n + i) 0 < l
 counts-below n l seg e f row s i h = rw (s, count-word seg n e i) (f i)
-
--- ---- the first that passes a test
-
-module _ {A : Type 0} (f : A → Bool) (d : A) (xs : List A) (k : ℕ) where
-  pub first-yes : k < length xs → true ≡ f (getD xs k d) → asOption (length xs) k ≡ firstFrom f k (drop k xs)
-  first-yes h e = rw (lt-ltb k (length xs) h) (sym (first-step f d xs k h ∙ rw (← e)))
-
-  pub first-no : k < length xs → false ≡ f (getD xs k d) → firstFrom f k (drop k xs) ≡ firstFrom f (k + 1) (drop (k + 1) xs)
-  first-no h e = first-step f d xs k h ∙ rw (← e)
-
-  pub first-end : length xs ≤ k → asOption (length xs) k ≡ firstFrom f k (drop k xs)
-  unfolding firstFrom
-  first-end h = rw (le-ltb k (length xs) h, drop-end xs k h)
-
--- ---- a search's answer
-
-pub as-some : (n k : ℕ) → k < n → asOption n k ≡ some k
-as-some n k h = rw (lt-ltb k n h)
-
-pub as-none : (n k : ℕ) → n ≤ k → asOption n k ≡ none
-as-none n k h = rw (le-ltb k n h)
