@@ -1,0 +1,3 @@
+-- What the loops over a message need, and its padding.
+pub mod Loops
+pub mod Ends
