@@ -2,7 +2,7 @@
 ghost use mathlib.Core.Bool.{true, false};
 ghost use mathlib.Core.Path.{_≡_};
 ghost use Prim.Native.Nat.{ℕ, _+_, _*_, _/_, _%_, _^_, _≤_, _<_};
-ghost use lib.ListN.{length};
+ghost use lib.ListN.{length, getD};
 ghost use Rattle.lists.specs.Tells.{Tells};
 ghost use Rattle.lists.specs.Lists.{allZero};
 ghost use Rattle.lists.specs.Rows.{chunks};
@@ -94,22 +94,9 @@ fn positions_form(row: &[u32], n: usize) -> bool
     true
 }
 
-// Whether a record that holds no position has none removed and none blank.
-fn in_use(helds: u32, removeds: u32, blanks: u32) -> bool
-    ensures { λ r. ⌜ Tells r (helds ≡ 0 → (removeds ≡ 0) × (blanks ≡ 0)) ⌝ }
-{
-    if helds != 0 {
-        return true;
-    }
-    if removeds != 0 {
-        return false;
-    }
-    blanks == 0
-}
-
-// Whether a record's words are in order.
-fn record_form(row: &[u32], n: usize) -> bool
-    requires { ⌜ (length (now row) ≡ recordWords n) × (n ≤ 16) ⌝ }
+// Whether the words of a record that holds a position are in order.
+fn held_form(row: &[u32], n: usize) -> bool
+    requires { ⌜ (length (now row) ≡ recordWords n) × (n ≤ 16) × (getD (now row) 0 0 ≡ 0 → ⊥) ⌝ }
     ensures { λ r. ⌜ Tells r (RecordForm n (now (row .entry))) ⌝ }
 {
     let helds = row[0];
@@ -125,10 +112,18 @@ fn record_form(row: &[u32], n: usize) -> bool
     if past <= blanks {
         return false;
     }
-    if !in_use(helds, removeds, blanks) {
-        return false;
-    }
     positions_form(row, n)
+}
+
+// Whether a record's words are in order. One that holds no position is free: all its words are zero, which one pass tells.
+fn record_form(row: &[u32], n: usize) -> bool
+    requires { ⌜ (length (now row) ≡ recordWords n) × (n ≤ 16) ⌝ }
+    ensures { λ r. ⌜ Tells r (RecordForm n (now (row .entry))) ⌝ }
+{
+    if row[0] == 0 {
+        return zeros(row);
+    }
+    held_form(row, n)
 }
 
 // Whether the words of all records are.
