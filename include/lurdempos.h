@@ -6,8 +6,8 @@
  * calls, nothing is allocated, and no call reads or writes past the lengths
  * given. A buffer's length counts its elements: bytes of a pool, image, stream
  * or output, words of a table. A buffer of length 0 needs a pointer that is not
- * null. The pool, the table, the image, the stream and the output of one call
- * must not overlap. A call needs less than 512 KiB of stack.
+ * null. The buffers of one call must not overlap. A call needs less than 512 KiB
+ * of stack.
  *
  * Every answer begins with a refusal. 0 is an accepted call. A refused call
  * answers 0 in every other field and alters no buffer; a refused turn record
@@ -16,7 +16,9 @@
  *    1  a capacity outside its range (lurdempos_table_length has the ranges)
  *    2  lay out: pool or table of another length than needed
  *    3  till number not below the tills
- *    4  image empty, or longer than block_bytes * blocks per image
+ *    4  image empty, or longer than block_bytes * blocks per image; a message
+ *       of a till that sends only what is lacking whose lists do not fit the
+ *       length or each other, or that has a mark other than 0 and 1
  *    5  output shorter than the version; than the stream that a version is
  *       written as, or the image that a stream is read as
  *   10  pool and table are not a sound store
@@ -26,6 +28,9 @@
  *   16  a segment to be placed finds no run
  *   17  a version number never given: 0, or above the till's last given
  *   18  a version number given before and no longer held: it was retired
+ *   19  a segment that was sent and has another fingerprint, or a last one, sent
+ *       or had, with a byte other than zero after the image's length
+ *   20  a segment that was not sent and that the box does not have
  *   24  a stream too short or too long
  *   25  a stream with a length of 0 or above 65,536
  *   26  a stream with a bit on a null or missing block, or a byte other than
@@ -63,6 +68,8 @@ extern "C" {
 #define LURDEMPOS_NO_RUN 16
 #define LURDEMPOS_NEVER_GIVEN 17
 #define LURDEMPOS_NO_LONGER_HELD 18
+#define LURDEMPOS_OTHER_SEGMENT 19
+#define LURDEMPOS_NO_SEGMENT 20
 #define LURDEMPOS_STREAM_SIZE 24
 #define LURDEMPOS_STREAM_LENGTH 25
 #define LURDEMPOS_STREAM_BITS 26
@@ -71,6 +78,9 @@ extern "C" {
 /* The bytes that the longest stream has: that of an image of 65,536 bytes
  * without a block of zeros. */
 #define LURDEMPOS_LONGEST_STREAM 65668
+
+/* The bytes of a fingerprint. */
+#define LURDEMPOS_FINGERPRINT 20
 
 /* The words that a table of these capacities has. */
 struct lurdempos_table_length_answer {
@@ -129,6 +139,20 @@ struct lurdempos_write_stream_answer {
 struct lurdempos_read_stream_answer {
     uint32_t refusal;
     uint32_t length;
+};
+
+struct lurdempos_offer_answer {
+    uint32_t refusal;
+};
+
+/* A SHA-1. Its 20 bytes are those of the five words, the highest byte of each
+ * first. */
+struct lurdempos_digest {
+    uint32_t h0;
+    uint32_t h1;
+    uint32_t h2;
+    uint32_t h3;
+    uint32_t h4;
 };
 
 /* A turn record: the tills present, 1 to 16; the mask of those waiting, bit t
@@ -232,6 +256,37 @@ struct lurdempos_write_stream_answer lurdempos_write_stream(
 struct lurdempos_read_stream_answer lurdempos_read_stream(
     const uint8_t *stream, size_t stream_bytes, uint8_t *output,
     size_t output_bytes);
+
+/* The first message of a till that sends only what the box lacks: 20 bytes, the
+ * SHA-1, of each segment of its image, the last segment filled up with zeros.
+ * Each mark becomes 1 if the box has that segment, else 0: zeros, or what a
+ * record has that no position was removed from and that has no cell of 255s.
+ * There are as many marks as fingerprints, at least one, and no more than the
+ * longest image has segments. It changes nothing but the marks.
+ * Refusals: 10, 3, 4. */
+struct lurdempos_offer_answer lurdempos_offer(
+    const uint8_t *pool, size_t pool_bytes, const uint32_t *table,
+    size_t table_words, uint32_t till, const uint8_t *fingerprints,
+    size_t fingerprints_bytes, uint8_t *marks, size_t marks_bytes);
+
+/* The second message: the image's length, all fingerprints, a mark for each
+ * segment, 1 if it follows and else 0, and those segments one after the other,
+ * each in full. One that does not follow is taken, by its fingerprint, from
+ * zeros, from the lowest that was sent before it in this call or from the lowest
+ * record, in this order. The image so put together is kept as lurdempos_backup
+ * keeps one.
+ * Refusals: 10, 3, 4, 11, 12, then, at the first segment that has either, 19
+ * before 20, then 14 and 16 as in a backup. */
+struct lurdempos_backup_answer lurdempos_backup_sent(
+    uint8_t *pool, size_t pool_bytes, uint32_t *table, size_t table_words,
+    uint32_t till, uint32_t length, const uint8_t *fingerprints,
+    size_t fingerprints_bytes, const uint8_t *marks, size_t marks_bytes,
+    const uint8_t *segments, size_t segments_bytes);
+
+/* The SHA-1 (RFC 3174) of a message, for a till's fingerprints. It needs no
+ * store and refuses nothing. */
+struct lurdempos_digest lurdempos_sha1(const uint8_t *message,
+                                       size_t message_bytes);
 
 /* A turn of tills that wait for one line; it has nothing to do with a store.
  * Serves the first waiting till after the last one, round the circle, if one

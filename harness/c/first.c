@@ -1,6 +1,6 @@
 /*
- * A first image kept and restored, moved as a stream, and two turns on the
- * line, from C (and, since it compiles as both, from C++). Prints what the calls answer; ends with status 1 at the first
+ * A first image kept and restored, moved as a stream, the next sent without
+ * what the box has, and two turns on the line, from C (and, since it compiles as both, from C++). Prints what the calls answer; ends with status 1 at the first
  * answer that is not as expected.
  */
 #include "lurdempos.h"
@@ -78,6 +78,69 @@ static int moved(size_t words, const uint8_t *image, uint32_t length)
         && read.length == 0;
 }
 
+static void print_of(const uint8_t *segment, size_t bytes, uint8_t *print)
+{
+    struct lurdempos_digest d = lurdempos_sha1(segment, bytes);
+    uint32_t words[5] = {d.h0, d.h1, d.h2, d.h3, d.h4};
+    int i;
+
+    for (i = 0; i < LURDEMPOS_FINGERPRINT; i++)
+        print[i] = (uint8_t)(words[i / 4] >> (24 - 8 * (i % 4)));
+}
+
+/* Till 0's version 1 is a segment of 512 letters, its next image that segment
+ * and one more letter. The box has the first and asks for the second; without
+ * it, and with another one in its place, it refuses. */
+static int sent(size_t words)
+{
+    static uint8_t image[2 * 512], output[1024];
+    uint8_t prints[2 * LURDEMPOS_FINGERPRINT], marks[2] = {7, 7};
+    uint8_t none[2] = {0, 0}, second[2] = {0, 1};
+    struct lurdempos_offer_answer offered;
+    struct lurdempos_backup_answer backup;
+    struct lurdempos_restore_answer restored;
+
+    memset(image, 'b', 512);
+    image[512] = 'z';
+    backup = lurdempos_backup(pool, sizeof pool, table, words, 0, image, 512);
+    if (!expect("backup", backup.refusal, LURDEMPOS_ACCEPTED))
+        return 0;
+    print_of(image, 512, prints);
+    print_of(image + 512, 512, prints + LURDEMPOS_FINGERPRINT);
+    offered = lurdempos_offer(pool, sizeof pool, table, words, 0, prints, 39,
+                              marks, 2);
+    if (!expect("offer, part of a fingerprint", offered.refusal,
+                LURDEMPOS_IMAGE_LENGTH)
+        || marks[0] != 7 || marks[1] != 7)
+        return 0;
+    offered = lurdempos_offer(pool, sizeof pool, table, words, 0, prints,
+                              sizeof prints, marks, 2);
+    if (!expect("offer", offered.refusal, LURDEMPOS_ACCEPTED) || marks[0] != 1
+        || marks[1] != 0)
+        return 0;
+    backup = lurdempos_backup_sent(pool, sizeof pool, table, words, 0, 513,
+                                   prints, sizeof prints, none, 2, image, 0);
+    if (!expect("backup of what is sent, one lacking", backup.refusal,
+                LURDEMPOS_NO_SEGMENT))
+        return 0;
+    backup = lurdempos_backup_sent(pool, sizeof pool, table, words, 0, 513,
+                                   prints, sizeof prints, second, 2, image, 512);
+    if (!expect("backup of what is sent, another segment", backup.refusal,
+                LURDEMPOS_OTHER_SEGMENT)
+        || backup.version != 0)
+        return 0;
+    backup = lurdempos_backup_sent(pool, sizeof pool, table, words, 0, 513,
+                                   prints, sizeof prints, second, 2,
+                                   image + 512, 512);
+    if (!expect("backup of what is sent", backup.refusal, LURDEMPOS_ACCEPTED)
+        || backup.version != 2)
+        return 0;
+    restored = lurdempos_restore(pool, sizeof pool, table, words, 0, 2, output,
+                                 sizeof output);
+    return expect("restore", restored.refusal, LURDEMPOS_ACCEPTED)
+        && restored.length == 513 && memcmp(image, output, 513) == 0;
+}
+
 int main(void)
 {
     uint8_t image[500], output[512];
@@ -148,6 +211,8 @@ int main(void)
     listing = lurdempos_listing(pool, sizeof pool, table, words, 1);
     if (!expect("listing", listing.refusal, LURDEMPOS_ACCEPTED)
         || listing.oldest != 1 || listing.newest != 1 || listing.last != 2)
+        return 1;
+    if (!sent(words))
         return 1;
     pool[0] ^= 1;
     table[0] = 17;

@@ -8,8 +8,8 @@ use lib.Dec.{eqb}
 use borrow.Author.Tests.{eqb-true, eqb-false}
 use Rattle.model.specs.Measures.{Shape}
 use Rattle.model.specs.State.{State}
-use Rattle.history.specs.Calls.{Call, callLayout, callBackup, callRestore, callRetire, callListing, callTally, callWriteStream, Buffers, refusalOf, answerOf, buffersAfter, refusedLayout, stateAfter, refusalIn, isAccepted}
-use Rattle.history.specs.View.{TillView, viewAt, isOnTill, tillNamed, answerShown, changed}
+use Rattle.history.specs.Calls.{Call, callLayout, callBackup, callRestore, callRetire, callListing, callTally, callWriteStream, callOffer, callBackupSent, Buffers, refusalOf, answerOf, buffersAfter, refusedLayout, stateAfter, refusalIn, isAccepted}
+use Rattle.history.specs.View.{TillView, viewAt, isOnTill, tillNamed, answerShown, changed, IsPlain}
 use Rattle.history.proofs.Steps.{Left, left-one, accepted-same, refusal-in}
 use Rattle.history.proofs.Frame.{frame-own}
 use Rattle.history.proofs.Local.{HasRoom}
@@ -32,13 +32,15 @@ changed-none bytes (callRetire t v) ok w e = absurd (false≢true (sym e))
 changed-none bytes (callListing t) ok w e = refl
 changed-none bytes callTally ok w e = refl
 changed-none bytes (callWriteStream t v output) ok w e = refl
+changed-none bytes (callOffer t fs ms) ok w e = refl
+changed-none bytes (callBackupSent t n fs ms ss) ok w e = refl
 
 module _ (s : Shape) (u : ℕ) where
-  -- the histories: calls of one are on till `u` and accepted; no backup of both is answered 14 or 16
+  -- the histories: calls of one are on till `u` and accepted; no backup of both is answered 14 or 16, and no second message of §5 is in both
   abbrev pub Differ : Buffers → Buffers → List Item → Type 0
   Differ b b′ [] = Unit {0}
   Differ b b′ (both c ∷ items) =
-      (refusedLayout b c × refusedLayout b′ c) × (HasRoom c (answerOf b c) × HasRoom c (answerOf b′ c)) × Differ (buffersAfter b c) (buffersAfter b′ c) items
+      (refusedLayout b c × refusedLayout b′ c) × (HasRoom c (answerOf b c) × HasRoom c (answerOf b′ c) × IsPlain c) × Differ (buffersAfter b c) (buffersAfter b′ c) items
   Differ b b′ (first c ∷ items) = (tillNamed c ≡ u) × (refusedLayout b c × (refusalOf b c ≡ 0)) × Differ (buffersAfter b c) b′ items
   Differ b b′ (second c ∷ items) = (tillNamed c ≡ u) × (refusedLayout b′ c × (refusalOf b′ c ≡ 0)) × Differ b (buffersAfter b′ c) items
 
@@ -54,7 +56,7 @@ module _ (s : Shape) (u : ℕ) where
   Off st st′ = (t : ℕ) → (t ≡ u → ⊥) → viewAt (s .measures .blockBytes) st t ≡ viewAt (s .measures .blockBytes) st′ t
 
   module _ (b b′ : Buffers) (st st′ : State) (l : Left s b st) (l′ : Left s b′ st′) (o : Off st st′) (c : Call)
-      (room : HasRoom c (answerOf b c)) (room′ : HasRoom c (answerOf b′ c)) where
+      (room : HasRoom c (answerOf b c)) (room′ : HasRoom c (answerOf b′ c)) (plain : IsPlain c) where
     answers-agree : isOnTill c ≡ true → (tillNamed c ≡ u → ⊥) → answerOf b c ≡ answerOf b′ c
     answers-agree on ne =
         answer-shown s b st l c on room ∙ ap (λ (w : TillView). answerShown s w c) (o (tillNamed c) ne) ∙ sym (answer-shown s b′ st′ l′ c on room′)
@@ -65,13 +67,13 @@ module _ (s : Shape) (u : ℕ) where
     own-both ne true on =
         let ok : isAccepted s st c ≡ isAccepted s st′ c =
         sym (accepted-same s b st c l) ∙ ap (λ (n : ℕ). eqb n 0) (sym (refusal-in b c) ∙ ap refusalIn (answers-agree on ne) ∙ refusal-in b′ c) ∙ accepted-same s b′ st′ c l′ in
-        frame-own s (l .fit .proper) st (l .sound) c
+        frame-own s (l .fit .proper) st (l .sound) c plain
         ∙ ap₂ (changed (s .measures .blockBytes) c) ok (o (tillNamed c) ne)
-        ∙ sym (frame-own s (l′ .fit .proper) st′ (l′ .sound) c)
+        ∙ sym (frame-own s (l′ .fit .proper) st′ (l′ .sound) c plain)
     own-both ne false on =
-        frame-own s (l .fit .proper) st (l .sound) c ∙ changed-none (s .measures .blockBytes) c (isAccepted s st c) (viewAt (s .measures .blockBytes) st (tillNamed c)) on
+        frame-own s (l .fit .proper) st (l .sound) c plain ∙ changed-none (s .measures .blockBytes) c (isAccepted s st c) (viewAt (s .measures .blockBytes) st (tillNamed c)) on
         ∙ o (tillNamed c) ne
-        ∙ sym (frame-own s (l′ .fit .proper) st′ (l′ .sound) c ∙ changed-none (s .measures .blockBytes) c (isAccepted s st′ c) (viewAt (s .measures .blockBytes) st′ (tillNamed c)) on)
+        ∙ sym (frame-own s (l′ .fit .proper) st′ (l′ .sound) c plain ∙ changed-none (s .measures .blockBytes) c (isAccepted s st′ c) (viewAt (s .measures .blockBytes) st′ (tillNamed c)) on)
 
     off-both : Off (stateAfter s st c) (stateAfter s st′ c)
     off-both t ne = go (eqb t (tillNamed c)) refl
@@ -88,9 +90,9 @@ module _ (s : Shape) (u : ℕ) where
   pub histories-agree : (items : List Item) (b b′ : Buffers) (st st′ : State) → Left s b st → Left s b′ st′ → Off st st′ → Differ b b′ items → Agree b b′ items
   histories-agree [] b b′ st st′ l l′ o d = tt
   histories-agree (both c ∷ items) b b′ st st′ l l′ o d = (
-    answers-agree b b′ st st′ l l′ o c (d .1 .0) (d .1 .1),
+    answers-agree b b′ st st′ l l′ o c (d .1 .0) (d .1 .1) (d .1 .2),
     histories-agree items (buffersAfter b c) (buffersAfter b′ c) (stateAfter s st c) (stateAfter s st′ c) (left-one s b st c l (d .0 .0)) (left-one s b′ st′ c l′ (d .0 .1))
-        (off-both b b′ st st′ l l′ o c (d .1 .0) (d .1 .1)) (d .2),
+        (off-both b b′ st st′ l l′ o c (d .1 .0) (d .1 .1) (d .1 .2)) (d .2),
   )
   histories-agree (first c ∷ items) b b′ st st′ l l′ o d =
       histories-agree items (buffersAfter b c) b′ (stateAfter s st c) st′ (left-one s b st c l (d .1 .0)) l′ (λ t ne. other-after s b st c l t (λ q. ne (q ∙ d .0)) ∙ o t ne) (d .2)

@@ -11,15 +11,18 @@ use lib.Dec.{eqb, leb, ltb}
 use borrow.Author.Tests.{le-leb, le-ltb, lt-leb, lt-ltb, leb-true, leb-false}
 use Rattle.lists.proofs.Tests.{by-test}
 use Rattle.model.specs.Measures.{Shape}
-use Rattle.model.specs.Image.{Era}
+use Rattle.model.specs.Image.{Era, withBlanks}
 use Rattle.model.specs.State.{State}
 use Rattle.model.specs.Trace.{longestChain}
 use Rattle.laws.proofs.Tills.{not-held-some}
-use Rattle.model.specs.Calls.{tillOf, heldFrom, backupBy, restoreOf, restoreRefusal, retireOf, listingOf, listingRefusal, RestoreAnswer, ListingAnswer, retire, backup, notHeld}
-use Rattle.history.specs.Calls.{Call, callBackup, callRestore, callRetire, callListing, Buffers, Answer, laidOut, backedUp, restored, retired, listed, tallied, streamed, answerOf, refusalIn}
-use Rattle.history.specs.Keeper.{Kept, KeptTill, Keeper, noTill, keptTill, filed, fed, keptFrom, oldestKept, newestKept}
+use Rattle.model.specs.Sound.{storeOf}
+use Rattle.model.specs.Calls.{tillOf, heldFrom, BackupAnswer, backupBy, restoreOf, restoreRefusal, retireOf, listingOf, listingRefusal, RestoreAnswer, ListingAnswer, retire, backup, notHeld}
+use Rattle.history.specs.Calls.{Call, callBackup, callBackupSent, callRestore, callRetire, callListing, Buffers, Answer, laidOut, backedUp, restored, retired, listed, tallied, streamed, offered, answerOf, refusalIn}
+use Rattle.history.specs.Keeper.{Kept, KeptTill, Keeper, noTill, keptTill, filed, imageSent, comesTo, fed, keptFrom, oldestKept, newestKept}
 use Rattle.history.specs.View.{VersionView, TillView, viewOf, viewAt, isOnTill, tillNamed, chainShown, shownFrom, oldestShown, newestShown, restoreShown, retireShown, answerShown}
+use Rattle.sent.specs.Sent.{backupSentBy, backupSentOf}
 use Rattle.history.specs.Demand.{Restores, Answers}
+use Rattle.history.proofs.Sent.{accepted-is}
 use Rattle.history.proofs.Local.{Roomy, HasRoom, answer-in}
 use Rattle.history.proofs.Shown.{from-same, chain-is}
 use Rattle.history.proofs.Chains.{chain-most}
@@ -35,6 +38,7 @@ unrestored (retired n l) = restoreRefusal n []
 unrestored (listed a) = restoreRefusal 0 []
 unrestored (tallied a) = restoreRefusal 0 []
 unrestored (streamed a) = restoreRefusal 0 []
+unrestored (offered a) = restoreRefusal 0 []
 
 unlisted : Answer → ListingAnswer
 unlisted (laidOut n) = listingRefusal n
@@ -44,6 +48,7 @@ unlisted (retired n l) = listingRefusal n
 unlisted (listed a) = a
 unlisted (tallied a) = listingRefusal 0
 unlisted (streamed a) = listingRefusal 0
+unlisted (offered a) = listingRefusal 0
 
 -- a version's number, or a length
 numberIn : Answer → ℕ
@@ -54,6 +59,7 @@ numberIn (retired n l) = l
 numberIn (listed a) = 0
 numberIn (tallied a) = 0
 numberIn (streamed a) = 0
+numberIn (offered a) = 0
 
 -- The law: a call on a till answers what the till's view says, 14 and 16 apart.
 pub answer-shown : (s : Shape) (b : Buffers) (st : State) → Left s b st → (call : Call) → isOnTill call ≡ true → HasRoom call (answerOf b call)
@@ -257,6 +263,21 @@ module _ (s : Shape) (b : Buffers) (st : State) (k : Keeper) (l : Left s b st) (
       go n [] a = unfold retireShown refusalIn in refl
       go n (w ∷ ws) a = absurd a
 
+  backup-last : (era : Era) (t : ℕ) (image : List ℕ) → backupBy era (b .pool) (b .table) t image .refusal ≡ 0
+      → backupBy era (b .pool) (b .table) t image .version ≡ keptTill (fed k (callBackup era t image) true) t .last
+  backup-last era t image e =
+      let g = backup-given era t image e in
+      g .0 ∙ ap suc (last-is t) ∙ sym (fed-last era t image (omega (arith, leb-false (s .capacities .tills) t (g .1), z .many)))
+
+  sent-last : (t n : ℕ) (fs ms ss : List ℕ) → backupSentOf (b .pool) (b .table) t n fs ms ss .refusal ≡ 0
+      → backupSentOf (b .pool) (b .table) t n fs ms ss .version ≡ keptTill (fed k (comesTo (storeOf (b .pool) (b .table)) (callBackupSent t n fs ms ss)) true) t .last
+  unfolding comesTo
+  sent-last t n fs ms ss e =
+      let same : backupSentOf (b .pool) (b .table) t n fs ms ss ≡ backupBy withBlanks (b .pool) (b .table) t (imageSent (storeOf (b .pool) (b .table)) t n fs ms ss) =
+      unfold backupSentOf backupSentBy backupBy in accepted-is (storeOf (b .pool) (b .table)) (b .pool) (b .table) t n fs ms ss (unfold backupSentOf backupSentBy in e) in
+      ap (λ (a : BackupAnswer). a .version) same
+      ∙ backup-last withBlanks t (imageSent (storeOf (b .pool) (b .table)) t n fs ms ss) (sym (ap (λ (a : BackupAnswer). a .refusal) same) ∙ e)
+
   pub answers : Answers (s .measures .blockBytes) st k b
   unfolding listingRefusal
   answers = record {
@@ -271,9 +292,8 @@ module _ (s : Shape) (b : Buffers) (st : State) (k : Keeper) (l : Left s b st) (
           agree-newest (s .measures .blockBytes) (keptTill k t .versions) (shown t .versions) (unfold shown in z .tills t .1),
           last-is t,
         )));
-    backup = λ era t image e.
-        let g = backup-given era t image e in
-        g .0 ∙ ap suc (last-is t) ∙ sym (fed-last era t image (omega (arith, leb-false (s .capacities .tills) t (g .1), z .many)));
+    backup = backup-last;
+    backupSent = sent-last;
     goes = retire-goes;
     notHeld = retire-not;
     retire = retire-given;

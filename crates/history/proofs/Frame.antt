@@ -1,6 +1,6 @@
--- The frame law: a call changes what its own till shows, as a function of what that till showed and the call's arguments, and no other till's. For
--- any measures whose blocks and segments are not empty.
-use mathlib.Core.Path.{_≡_, refl}
+-- The frame law: a call changes what its own till shows, as a function of what that till showed and the call's arguments (a second message of §5 as the
+-- backup that it comes to), and no other till's. For any measures whose blocks and segments are not empty.
+use mathlib.Core.Path.{_≡_, refl, ap, _∙_}
 use mathlib.Core.Bool.{true}
 use mathlib.Core.List.{List}
 use Prim.Native.Nat.{ℕ}
@@ -8,15 +8,17 @@ use native.Mathlib.Omega.{arith}
 use lib.Dec.{eqb}
 use borrow.Author.Tests.{ne-eqb}
 use Rattle.model.specs.Measures.{Shape}
-use Rattle.model.specs.Image.{Era}
+use Rattle.model.specs.Image.{Era, withBlanks}
 use Rattle.model.specs.State.{State, Outcome, refused, done}
 use Rattle.model.specs.Sound.{isSound}
 use Rattle.model.specs.Calls.{backup, retire, After}
 use Rattle.laws.proofs.Fits.{Proper}
 use Rattle.laws.proofs.Backup.{backup-filed}
 use Rattle.laws.proofs.Retire.{retire-done}
-use Rattle.history.specs.Calls.{Call, callLayout, callBackup, callRestore, callRetire, callListing, callTally, callWriteStream, stateOr, stateAfter, outcomeRefusal, answerIn, refusalIn, isAccepted}
-use Rattle.history.specs.View.{viewAt, tillNamed, changed}
+use Rattle.history.specs.Calls.{Call, callLayout, callBackup, callRestore, callRetire, callListing, callTally, callWriteStream, callOffer, callBackupSent, stateOr, stateAfter, outcomeRefusal, answerIn, refusalIn, isAccepted}
+use Rattle.history.specs.Keeper.{imageSent}
+use Rattle.history.specs.View.{viewAt, tillNamed, changed, IsPlain}
+use Rattle.history.proofs.Sent.{here, sent-alike}
 use Rattle.history.proofs.Filing.{filed-own, filed-other, retired-own, retired-other}
 use Rattle.history.proofs.Numbered.{Numbered, backup-numbered, retire-numbered}
 
@@ -36,17 +38,19 @@ module _ (s : Shape) (pr : Proper (s .measures)) (st : State) (h : isSound s st 
   retire-own t v (done a) g q = retired-own s st t v a (retire-done s t v st a h q)
 
   -- the till that the call is on
-  pub frame-own : (call : Call)
+  pub frame-own : (call : Call) → IsPlain call
       → viewAt (s .measures .blockBytes) (stateAfter s st call) (tillNamed call)
       ≡ changed (s .measures .blockBytes) call (isAccepted s st call) (viewAt (s .measures .blockBytes) st (tillNamed call))
   unfolding stateAfter changed isAccepted answerIn refusalIn tillNamed
-  frame-own (callLayout c) = refl
-  frame-own (callBackup era t image) = backup-own era t image (backup era s st t image) (backup-numbered era s st t image) refl
-  frame-own (callRestore t v output) = refl
-  frame-own (callRetire t v) = retire-own t v (retire s st t v) (retire-numbered s st t v) refl
-  frame-own (callListing t) = refl
-  frame-own callTally = refl
-  frame-own (callWriteStream t v output) = refl
+  frame-own (callLayout c) p = refl
+  frame-own (callBackup era t image) p = backup-own era t image (backup era s st t image) (backup-numbered era s st t image) refl
+  frame-own (callRestore t v output) p = refl
+  frame-own (callRetire t v) p = retire-own t v (retire s st t v) (retire-numbered s st t v) refl
+  frame-own (callListing t) p = refl
+  frame-own callTally p = refl
+  frame-own (callWriteStream t v output) p = refl
+  frame-own (callOffer t fs ms) p = refl
+  frame-own (callBackupSent t n fs ms ss) p = absurd p
 
   backup-other : (era : Era) (t : ℕ) (image : List ℕ) (u : ℕ) → (u ≡ t → ⊥) → (o : Outcome After) → backup era s st t image ≡ o
       → viewAt (s .measures .blockBytes) (stateOr st o) u ≡ viewAt (s .measures .blockBytes) st u
@@ -71,3 +75,8 @@ module _ (s : Shape) (pr : Proper (s .measures)) (st : State) (h : isSound s st 
   frame-other (callListing t) u ne = refl
   frame-other callTally u ne = refl
   frame-other (callWriteStream t v output) u ne = refl
+  frame-other (callOffer t fs ms) u ne = refl
+  frame-other (callBackupSent t n fs ms ss) u ne =
+      let image : List ℕ = imageSent (here s st) t n fs ms ss in
+      ap (λ (x : State). viewAt (s .measures .blockBytes) x u) (sent-alike s st t n fs ms ss .0)
+      ∙ backup-other withBlanks t image u ne (backup withBlanks s st t image) refl

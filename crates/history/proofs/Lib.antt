@@ -3,6 +3,7 @@ pub mod Traced
 pub mod Shown
 pub mod Filing
 pub mod Numbered
+pub mod Sent
 pub mod Reach
 pub mod Frame
 pub mod Steps

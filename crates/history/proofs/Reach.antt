@@ -1,17 +1,19 @@
 -- The states that calls reach are sound.
-use mathlib.Core.Path.{_≡_, refl}
+use mathlib.Core.Path.{_≡_, refl, sym, subst}
 use mathlib.Core.Bool.{true}
 use Prim.Native.Nat.{ℕ}
 use mathlib.Core.List.{List}
 use Rattle.model.specs.Measures.{Shape}
-use Rattle.model.specs.Image.{Era}
+use Rattle.model.specs.Image.{Era, withBlanks}
 use Rattle.model.specs.State.{State, Outcome, refused, done}
 use Rattle.model.specs.Sound.{isSound}
 use Rattle.model.specs.Calls.{backup, retire, After}
 use Rattle.laws.proofs.Fits.{Proper}
 use Rattle.laws.proofs.Backup.{backup-sound}
 use Rattle.laws.proofs.Retire.{retire-sound}
-use Rattle.history.specs.Calls.{Call, callLayout, callBackup, callRestore, callRetire, callListing, callTally, callWriteStream, stateOr, stateAfter}
+use Rattle.history.specs.Calls.{Call, callLayout, callBackup, callRestore, callRetire, callListing, callTally, callWriteStream, callOffer, callBackupSent, stateOr, stateAfter}
+use Rattle.history.specs.Keeper.{imageSent}
+use Rattle.history.proofs.Sent.{here, sent-alike}
 
 module _ (s : Shape) (pr : Proper (s .measures)) (st : State) (h : isSound s st ≡ true) where
   backup-good : (era : Era) (t : ℕ) (image : List ℕ) (o : Outcome After) → backup era s st t image ≡ o → isSound s (stateOr st o) ≡ true
@@ -33,3 +35,7 @@ module _ (s : Shape) (pr : Proper (s .measures)) (st : State) (h : isSound s st 
   sound-after (callListing t) = h
   sound-after callTally = h
   sound-after (callWriteStream t v output) = h
+  sound-after (callOffer t fs ms) = h
+  sound-after (callBackupSent t n fs ms ss) =
+      subst (λ (x : State). isSound s x ≡ true) (sym (sent-alike s st t n fs ms ss .0))
+      (let image : List ℕ = imageSent (here s st) t n fs ms ss in backup-good withBlanks t image (backup withBlanks s st t image) refl)

@@ -11,13 +11,21 @@ use Rattle.model.specs.State.{Shelf, Version, Outcome, refused, done}
 use Rattle.model.specs.Sound.{Store, storeOf}
 use Rattle.model.specs.Calls.{layoutOf, backup, backupIn, backupBy, backupAnswer, restore, restoreFrom, restoreIn, restoreOf, restoreRefusal, RestoreAnswer, heldFrom, tillOf, retire, retireIn, retireOf, retireAnswer, listingIn, listingOf, listingRefusal, listTill, ListingAnswer, tallyIn, tallyOf, After, Lookup, found, missing, lookUp}
 use Rattle.laws.proofs.Empty.{layout-refused}
+use Rattle.sha1.specs.Sha1.{sha1}
+use Rattle.sent.specs.Sent.{OfferAnswer, offer, offerAnswer, offerIn, offerOf, backupSent, backupSentIn, backupSentBy, backupSentOf}
 use Rattle.stream.specs.Stream.{StreamAnswer}
 use Rattle.stream.specs.Version.{writeStreamOf}
 use Rattle.stream_laws.proofs.Theorems.{claims}
-use Rattle.history.specs.Calls.{Call, callLayout, callBackup, callRestore, callRetire, callListing, callTally, callWriteStream, Buffers, refusalOf, buffersAfter, Answer, laidOut, backedUp, restored, retired, listed, tallied, streamed, answerOf}
+use Rattle.history.specs.Calls.{Call, callLayout, callBackup, callRestore, callRetire, callListing, callTally, callWriteStream, callOffer, callBackupSent, Buffers, refusalOf, buffersAfter, Answer, laidOut, backedUp, restored, retired, listed, tallied, streamed, offered, answerOf}
 
 same-buffers : (b : Buffers) (pool table : List ℕ) → pool ≡ b .pool → table ≡ b .table → record { pool = pool; table = table } ≡ b
 same-buffers b pool table p q = λ i. record { pool = p i; table = q i }
+
+backup-alters : (b : Buffers) (s : Shape) (o : Outcome After) → ¬ (backupAnswer (b .pool) (b .table) s o .refusal ≡ 0)
+    → record { pool = backupAnswer (b .pool) (b .table) s o .pool; table = backupAnswer (b .pool) (b .table) s o .table } ≡ b
+unfolding backupAnswer
+backup-alters b s (refused n) h = refl
+backup-alters b s (done a) h = absurd (h refl)
 
 -- no buffer is altered
 pub alters-nothing : (b : Buffers) (call : Call) → ¬ (refusalOf b call ≡ 0) → buffersAfter b call ≡ b
@@ -26,15 +34,10 @@ alters-nothing b (callLayout c) h =
     unfold layoutOf in (let r = layout-refused _ _ _ (b .pool) (b .table) h in same-buffers b _ _ (r .0) (r .1))
 alters-nothing b (callBackup era t image) h = unfold backupBy in go (storeOf (b .pool) (b .table)) h
   where
-    one : (s : Shape) (o : Outcome After) → ¬ (backupAnswer (b .pool) (b .table) s o .refusal ≡ 0)
-        → record { pool = backupAnswer (b .pool) (b .table) s o .pool; table = backupAnswer (b .pool) (b .table) s o .table } ≡ b
-    one s (refused n) h = unfold backupAnswer in refl
-    one s (done a) h = unfold backupAnswer in absurd (h refl)
-
     go : (o : Option Store) → ¬ (backupIn era o (b .pool) (b .table) t image .refusal ≡ 0)
         → record { pool = backupIn era o (b .pool) (b .table) t image .pool; table = backupIn era o (b .pool) (b .table) t image .table } ≡ b
     go none h = unfold backupIn in refl
-    go (some x) h = unfold backupIn in one (x .shape) (backup era (x .shape) (x .state) t image) h
+    go (some x) h = unfold backupIn in backup-alters b (x .shape) (backup era (x .shape) (x .state) t image) h
 alters-nothing b (callRestore t v output) h = refl
 alters-nothing b (callRetire t v) h = unfold retireOf in go (storeOf (b .pool) (b .table)) h
   where
@@ -50,6 +53,13 @@ alters-nothing b (callRetire t v) h = unfold retireOf in go (storeOf (b .pool) (
 alters-nothing b (callListing t) h = refl
 alters-nothing b callTally h = refl
 alters-nothing b (callWriteStream t v output) h = refl
+alters-nothing b (callOffer t fs ms) h = refl
+alters-nothing b (callBackupSent t n fs ms ss) h = unfold backupSentOf backupSentBy in go (storeOf (b .pool) (b .table)) h
+  where
+    go : (o : Option Store) → ¬ (backupSentIn sha1 o (b .pool) (b .table) t n fs ms ss .refusal ≡ 0)
+        → record { pool = backupSentIn sha1 o (b .pool) (b .table) t n fs ms ss .pool; table = backupSentIn sha1 o (b .pool) (b .table) t n fs ms ss .table } ≡ b
+    go none h = unfold backupSentIn in refl
+    go (some x) h = unfold backupSentIn in backup-alters b (x .shape) (backupSent sha1 (x .shape) (x .state) t n fs ms ss) h
 
 -- the answer of a refusal
 unfoldable pub refusedWith : ℕ → Call → Answer
@@ -60,6 +70,8 @@ refusedWith n (callRetire t v) = retired n 0
 refusedWith n (callListing t) = listed (record { refusal = n; oldest = 0; newest = 0; last = 0 })
 refusedWith n callTally = tallied (record { refusal = n; cells = 0; records = 0; counts = 0 })
 refusedWith n (callWriteStream t v output) = streamed (record { refusal = n; length = 0; output = output })
+refusedWith n (callOffer t fs ms) = offered (record { refusal = n; marks = ms })
+refusedWith n (callBackupSent t bytes fs ms ss) = backedUp n 0
 
 abbrev ZeroRestore : List ℕ → RestoreAnswer → Type 0
 ZeroRestore output r = ¬ (r .refusal ≡ 0) → r ≡ record { refusal = r .refusal; length = 0; hops = 0; output = output }
@@ -84,20 +96,33 @@ unfolding listingIn listingRefusal listTill
 listing-zero t none = λ h. refl
 listing-zero t (some x) = by-test ZeroListing (leb (x .shape .capacities .tills) t) (λ e h. refl) (λ e h. absurd (h refl))
 
+backup-zero : (b : Buffers) (s : Shape) (o : Outcome After) → ¬ (backupAnswer (b .pool) (b .table) s o .refusal ≡ 0)
+    → backedUp (backupAnswer (b .pool) (b .table) s o .refusal) (backupAnswer (b .pool) (b .table) s o .version) ≡ backedUp (backupAnswer (b .pool) (b .table) s o .refusal) 0
+unfolding backupAnswer
+backup-zero b s (refused n) h = refl
+backup-zero b s (done a) h = absurd (h refl)
+
+abbrev SameMarks : List ℕ → OfferAnswer → Type 0
+SameMarks ms r = ¬ (r .refusal ≡ 0) → r ≡ record { refusal = r .refusal; marks = ms }
+
+offer-zero : (t : ℕ) (fs ms : List ℕ) (o : Option Store) → SameMarks ms (offerIn sha1 o t fs ms)
+unfolding offerIn
+offer-zero t fs ms none = λ h. refl
+offer-zero t fs ms (some x) = go (offer sha1 (x .shape) (x .state) t fs ms)
+  where
+    go : (o : Outcome (List ℕ)) → SameMarks ms (offerAnswer ms o)
+    go (refused n) = unfold offerAnswer in (λ h. refl)
+    go (done marks) = unfold offerAnswer in (λ h. absurd (h refl))
+
 pub answers-number-only : (b : Buffers) (call : Call) → ¬ (refusalOf b call ≡ 0) → answerOf b call ≡ refusedWith (refusalOf b call) call
 unfolding refusalOf answerOf refusedWith
 answers-number-only b (callLayout c) h = refl
 answers-number-only b (callBackup era t image) h = unfold backupBy in go (storeOf (b .pool) (b .table)) h
   where
-    one : (s : Shape) (o : Outcome After) → ¬ (backupAnswer (b .pool) (b .table) s o .refusal ≡ 0)
-        → backedUp (backupAnswer (b .pool) (b .table) s o .refusal) (backupAnswer (b .pool) (b .table) s o .version) ≡ backedUp (backupAnswer (b .pool) (b .table) s o .refusal) 0
-    one s (refused n) h = unfold backupAnswer in refl
-    one s (done a) h = unfold backupAnswer in absurd (h refl)
-
     go : (o : Option Store) → ¬ (backupIn era o (b .pool) (b .table) t image .refusal ≡ 0)
         → backedUp (backupIn era o (b .pool) (b .table) t image .refusal) (backupIn era o (b .pool) (b .table) t image .version) ≡ backedUp (backupIn era o (b .pool) (b .table) t image .refusal) 0
     go none h = unfold backupIn in refl
-    go (some x) h = unfold backupIn in one (x .shape) (backup era (x .shape) (x .state) t image) h
+    go (some x) h = unfold backupIn in backup-zero b (x .shape) (backup era (x .shape) (x .state) t image) h
 answers-number-only b (callRestore t v output) h = unfold restoreOf in ap restored (restore-zero t v output (storeOf (b .pool) (b .table)) h)
 answers-number-only b (callRetire t v) h = unfold retireOf in go (storeOf (b .pool) (b .table)) h
   where
@@ -120,3 +145,11 @@ answers-number-only b (callWriteStream t v output) h =
     let a : StreamAnswer = writeStreamOf (b .pool) (b .table) t v output in
     let z = claims .writeCareful (b .pool) (b .table) t v output .refused h in
     ap₂ (λ (n : ℕ) (l : List ℕ). streamed (record { refusal = a .refusal; length = n; output = l })) (z .0) (z .1)
+answers-number-only b (callOffer t fs ms) h = unfold offerOf in ap offered (offer-zero t fs ms (storeOf (b .pool) (b .table)) h)
+answers-number-only b (callBackupSent t n fs ms ss) h = unfold backupSentOf backupSentBy in go (storeOf (b .pool) (b .table)) h
+  where
+    go : (o : Option Store) → ¬ (backupSentIn sha1 o (b .pool) (b .table) t n fs ms ss .refusal ≡ 0)
+        → backedUp (backupSentIn sha1 o (b .pool) (b .table) t n fs ms ss .refusal) (backupSentIn sha1 o (b .pool) (b .table) t n fs ms ss .version)
+        ≡ backedUp (backupSentIn sha1 o (b .pool) (b .table) t n fs ms ss .refusal) 0
+    go none h = unfold backupSentIn in refl
+    go (some x) h = unfold backupSentIn in backup-zero b (x .shape) (backupSent sha1 (x .shape) (x .state) t n fs ms ss) h

@@ -13,8 +13,10 @@ use Rattle.model.specs.Calls.{emptyState, layoutOf, backup, backupIn, backupBy,
 use Rattle.laws.proofs.Fits.{Fit, range-fit}
 use Rattle.laws.proofs.RoundTrip.{round-trip}
 use Rattle.laws.proofs.Empty.{empty-sound, layout-refused, layout-accepted}
+use Rattle.sha1.specs.Sha1.{sha1}
+use Rattle.sent.specs.Sent.{offerIn, offerOf, backupSent, backupSentIn, backupSentBy, backupSentOf}
 use Rattle.stream.specs.Version.{longestOutput, writeRestored, writeVersion, writeStreamOf}
-use Rattle.history.specs.Calls.{Call, callLayout, callBackup, callRestore, callRetire, callListing, callTally, callWriteStream, Buffers, refusalOf, buffersAfter, buffersAfterAll, laidOut, backedUp, restored, retired, listed, tallied, streamed, answerOf, answersOf, refusalIn, refusedLayout, refusedLayouts, stateOr, stateAfter, stateAfterAll, outcomeRefusal, outcomeNumber, answerIn, answersIn, isAccepted}
+use Rattle.history.specs.Calls.{Call, callLayout, callBackup, callRestore, callRetire, callListing, callTally, callWriteStream, callOffer, callBackupSent, Buffers, refusalOf, buffersAfter, buffersAfterAll, laidOut, backedUp, restored, retired, listed, tallied, streamed, offered, answerOf, answersOf, refusalIn, refusedLayout, refusedLayouts, stateOr, stateAfter, stateAfterAll, outcomeRefusal, outcomeNumber, answerIn, answersIn, isAccepted}
 use Rattle.history.specs.Demand.{laidOutIn}
 use Rattle.history.proofs.Reach.{sound-after}
 
@@ -57,6 +59,10 @@ left-one s b st call e r = record { fit = e .fit; pool = words call r .0; table 
     words (callListing t) r = unfold buffersAfter stateAfter in (e .pool, e .table)
     words callTally r = unfold buffersAfter stateAfter in (e .pool, e .table)
     words (callWriteStream t v output) r = unfold buffersAfter stateAfter in (e .pool, e .table)
+    words (callOffer t fs ms) r = unfold buffersAfter stateAfter in (e .pool, e .table)
+    words (callBackupSent t n fs ms ss) r =
+        unfold buffersAfter stateAfter backupSentOf backupSentBy backupSentIn in
+        rw (left-store s b st e) (backup-words s b st (backupSent sha1 s st t n fs ms ss) (e .pool) (e .table))
 
 pub left-all : (s : Shape) (calls : List Call) (b : Buffers) (st : State) → Left s b st → refusedLayouts b calls → Left s (buffersAfterAll b calls) (stateAfterAll s st calls)
 unfolding buffersAfterAll stateAfterAll
@@ -71,6 +77,12 @@ left-laid s pool table h =
 
 -- ---- what is answered
 
+backup-answer : (s : Shape) (b : Buffers) (o : Outcome After)
+    → backedUp (backupAnswer (b .pool) (b .table) s o .refusal) (backupAnswer (b .pool) (b .table) s o .version) ≡ backedUp (outcomeRefusal o) (outcomeNumber o)
+unfolding backupAnswer outcomeRefusal outcomeNumber
+backup-answer s b (refused n) = refl
+backup-answer s b (done a) = refl
+
 -- what a call answers on the buffers is what it answers on the state
 pub answer-same : (s : Shape) (b : Buffers) (st : State) (call : Call) → Left s b st → answerOf b call ≡ answerIn s st call
 unfolding answerOf answerIn
@@ -78,11 +90,7 @@ answer-same s b st (callLayout c) e = ap₂ (λ (pool table : List ℕ). laidOut
 answer-same s b st (callBackup era t image) e =
     unfold backupBy in
     (ap (λ (o : Option Store). backedUp (backupIn era o (b .pool) (b .table) t image .refusal) (backupIn era o (b .pool) (b .table) t image .version)) (left-store s b st e)
-    ∙ (unfold backupIn in go (backup era s st t image)))
-  where
-    go : (o : Outcome After) → backedUp (backupAnswer (b .pool) (b .table) s o .refusal) (backupAnswer (b .pool) (b .table) s o .version) ≡ backedUp (outcomeRefusal o) (outcomeNumber o)
-    go (refused n) = unfold backupAnswer outcomeRefusal outcomeNumber in refl
-    go (done a) = unfold backupAnswer outcomeRefusal outcomeNumber in refl
+    ∙ (unfold backupIn in backup-answer s b (backup era s st t image)))
 answer-same s b st (callRestore t v output) e = unfold restoreOf restoreIn in ap (λ (o : Option Store). restored (restoreIn o t v output)) (left-store s b st e)
 answer-same s b st (callRetire t v) e =
     unfold retireOf in
@@ -96,6 +104,11 @@ answer-same s b st (callListing t) e = unfold listingOf in ap (λ (o : Option St
 answer-same s b st callTally e = unfold tallyOf in ap (λ (o : Option Store). tallied (tallyIn o)) (left-store s b st e)
 answer-same s b st (callWriteStream t v output) e =
     unfold writeStreamOf writeVersion restoreOf restoreIn in ap (λ (o : Option Store). streamed (writeRestored (restoreIn o t v longestOutput) output)) (left-store s b st e)
+answer-same s b st (callOffer t fs ms) e = unfold offerOf in ap (λ (o : Option Store). offered (offerIn sha1 o t fs ms)) (left-store s b st e)
+answer-same s b st (callBackupSent t n fs ms ss) e =
+    unfold backupSentOf backupSentBy in
+    (ap (λ (o : Option Store). backedUp (backupSentIn sha1 o (b .pool) (b .table) t n fs ms ss .refusal) (backupSentIn sha1 o (b .pool) (b .table) t n fs ms ss .version)) (left-store s b st e)
+    ∙ (unfold backupSentIn in backup-answer s b (backupSent sha1 s st t n fs ms ss)))
 
 pub answers-same : (s : Shape) (calls : List Call) (b : Buffers) (st : State) → Left s b st → refusedLayouts b calls → answersOf b calls ≡ answersIn s st calls
 unfolding answersOf answersIn
@@ -113,6 +126,8 @@ refusal-in b (callRetire t v) = refl
 refusal-in b (callListing t) = refl
 refusal-in b callTally = refl
 refusal-in b (callWriteStream t v output) = refl
+refusal-in b (callOffer t fs ms) = refl
+refusal-in b (callBackupSent t n fs ms ss) = refl
 
 pub accepted-same : (s : Shape) (b : Buffers) (st : State) (call : Call) → Left s b st → eqb (refusalOf b call) 0 ≡ isAccepted s st call
 unfolding isAccepted

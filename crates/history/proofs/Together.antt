@@ -8,8 +8,8 @@ use Rattle.model.specs.Measures.{Shape}
 use Rattle.model.specs.State.{Shelf, Version, State}
 use Rattle.model.specs.Trace.{imageOf}
 use Rattle.model.specs.Calls.{emptyState, tillOf}
-use Rattle.history.specs.Calls.{Call, callLayout, callBackup, callRestore, callRetire, callListing, callTally, callWriteStream, Buffers, buffersAfter, buffersAfterAll, answerOf, refusedLayout, stateAfter, stateAfterAll}
-use Rattle.history.specs.View.{VersionView, TillView, viewVersions, viewOf, viewAt, chainShown, isOnTill, tillNamed, answerShown}
+use Rattle.history.specs.Calls.{Call, callLayout, callBackup, callRestore, callRetire, callListing, callTally, callWriteStream, callOffer, callBackupSent, Buffers, buffersAfter, buffersAfterAll, answerOf, refusedLayout, stateAfter, stateAfterAll}
+use Rattle.history.specs.View.{VersionView, TillView, viewVersions, viewOf, viewAt, chainShown, isOnTill, tillNamed, answerShown, IsPlain}
 use Rattle.history.specs.Demand.{laidOutIn}
 use Rattle.history.specs.Together.{IsBackupRestoreOrRetire, HeldVersion, heldVersions, heldBy, SameTills, OrderFree, EitherOrder}
 use Rattle.history.proofs.Shown.{chain-is}
@@ -38,6 +38,19 @@ no-layout b (callRetire t v) h = tt
 no-layout b (callListing t) h = tt
 no-layout b callTally h = tt
 no-layout b (callWriteStream t v output) h = tt
+no-layout b (callOffer t fs ms) h = tt
+no-layout b (callBackupSent t n fs ms ss) h = tt
+
+is-plain : (call : Call) → IsBackupRestoreOrRetire call → IsPlain call
+is-plain (callLayout c) h = tt
+is-plain (callBackup era t image) h = tt
+is-plain (callRestore t v output) h = tt
+is-plain (callRetire t v) h = tt
+is-plain (callListing t) h = tt
+is-plain callTally h = tt
+is-plain (callWriteStream t v output) h = tt
+is-plain (callOffer t fs ms) h = tt
+is-plain (callBackupSent t n fs ms ss) h = absurd h
 
 module _ (s : Shape) where
   -- stores whose tills show the same
@@ -66,7 +79,7 @@ module _ (s : Shape) where
       shown-same (buffersAfter (buffersAfter b c) d) (buffersAfter (buffersAfter b d) c) (stateAfter s (stateAfter s st c) d) (stateAfter s (stateAfter s st d) c)
       (left-one s (buffersAfter b c) (stateAfter s st c) d (left-one s b st c l (no-layout b c kc)) (no-layout (buffersAfter b c) d kd))
       (left-one s (buffersAfter b d) (stateAfter s st d) c (left-one s b st d l (no-layout b d kd)) (no-layout (buffersAfter b d) c kc))
-      (order-free s b st c d l apart (no-layout b c kc) (no-layout b d kd) (cd .0) (cd .1) (dc .0) (dc .1))
+      (order-free s b st c d (is-plain c kc) (is-plain d kd) l apart (no-layout b c kc) (no-layout b d kd) (cd .0) (cd .1) (dc .0) (dc .1))
 
 -- §10, for every setting and every list of calls.
 pub either-order : EitherOrder

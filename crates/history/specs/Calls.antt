@@ -12,6 +12,8 @@ use Rattle.model.specs.Table.{stateToWords, stateToBytes}
 use Rattle.model.specs.Calls.{layoutOf, backupBy, restoreOf, retireOf, listingOf, tallyOf, backup, restore, retire, listingIn, tallyIn, RestoreAnswer, ListingAnswer, TallyAnswer, After}
 use Rattle.stream.specs.Stream.{StreamAnswer}
 use Rattle.stream.specs.Version.{writeVersion, writeStreamOf}
+use Rattle.sha1.specs.Sha1.{sha1}
+use Rattle.sent.specs.Sent.{OfferAnswer, offerIn, offerOf, backupSent, backupSentOf}
 
 -- A call with its arguments, any of them; a backup was made before blank blocks were known, or with them. Table length takes no buffer and is no call
 -- of the list.
@@ -23,6 +25,8 @@ pub data Call : Type 0 where
   callListing : (till : ℕ) → Call
   callTally : Call
   callWriteStream : (till version : ℕ) (output : List ℕ) → Call
+  callOffer : (till : ℕ) (fingerprints marks : List ℕ) → Call
+  callBackupSent : (till bytes : ℕ) (fingerprints marks segments : List ℕ) → Call
 
 -- the two buffers
 pub record Buffers : Type 0 where
@@ -38,6 +42,8 @@ refusalOf b (callRetire t v) = retireOf (b .pool) (b .table) t v .refusal
 refusalOf b (callListing t) = listingOf (b .pool) (b .table) t .refusal
 refusalOf b callTally = tallyOf (b .pool) (b .table) .refusal
 refusalOf b (callWriteStream t v output) = writeStreamOf (b .pool) (b .table) t v output .refusal
+refusalOf b (callOffer t fs ms) = offerOf (b .pool) (b .table) t fs ms .refusal
+refusalOf b (callBackupSent t n fs ms ss) = backupSentOf (b .pool) (b .table) t n fs ms ss .refusal
 
 -- the buffers after a call
 unfoldable pub buffersAfter : Buffers → Call → Buffers
@@ -48,12 +54,14 @@ buffersAfter b (callRetire t v) = record { pool = retireOf (b .pool) (b .table) 
 buffersAfter b (callListing t) = b
 buffersAfter b callTally = b
 buffersAfter b (callWriteStream t v output) = b
+buffersAfter b (callOffer t fs ms) = b
+buffersAfter b (callBackupSent t n fs ms ss) = record { pool = backupSentOf (b .pool) (b .table) t n fs ms ss .pool; table = backupSentOf (b .pool) (b .table) t n fs ms ss .table }
 
 unfoldable pub buffersAfterAll : Buffers → List Call → Buffers
 buffersAfterAll b [] = b
 buffersAfterAll b (c ∷ cs) = buffersAfterAll (buffersAfter b c) cs
 
--- what a call answers; a restore's has the output too, and so has a stream's
+-- what a call answers; a restore's has the output too, and so has a stream's; an offer's has the marks
 pub data Answer : Type 0 where
   laidOut : (refusal : ℕ) → Answer
   backedUp : (refusal version : ℕ) → Answer
@@ -62,6 +70,7 @@ pub data Answer : Type 0 where
   listed : (answer : ListingAnswer) → Answer
   tallied : (answer : TallyAnswer) → Answer
   streamed : (answer : StreamAnswer) → Answer
+  offered : (answer : OfferAnswer) → Answer
 
 unfoldable pub answerOf : Buffers → Call → Answer
 answerOf b (callLayout c) = laidOut (layoutOf c (b .pool) (b .table) .refusal)
@@ -71,6 +80,8 @@ answerOf b (callRetire t v) = retired (retireOf (b .pool) (b .table) t v .refusa
 answerOf b (callListing t) = listed (listingOf (b .pool) (b .table) t)
 answerOf b callTally = tallied (tallyOf (b .pool) (b .table))
 answerOf b (callWriteStream t v output) = streamed (writeStreamOf (b .pool) (b .table) t v output)
+answerOf b (callOffer t fs ms) = offered (offerOf (b .pool) (b .table) t fs ms)
+answerOf b (callBackupSent t n fs ms ss) = backedUp (backupSentOf (b .pool) (b .table) t n fs ms ss .refusal) (backupSentOf (b .pool) (b .table) t n fs ms ss .version)
 
 -- the number of the refusal that an answer carries, or 0
 unfoldable pub refusalIn : Answer → ℕ
@@ -81,6 +92,7 @@ refusalIn (retired n l) = n
 refusalIn (listed a) = a .refusal
 refusalIn (tallied a) = a .refusal
 refusalIn (streamed a) = a .refusal
+refusalIn (offered a) = a .refusal
 
 -- the answers of a list of calls, each with the buffers as the last one left them
 unfoldable pub answersOf : Buffers → List Call → List Answer
@@ -96,6 +108,8 @@ refusedLayout b (callRetire t v) = Unit {0}
 refusedLayout b (callListing t) = Unit {0}
 refusedLayout b callTally = Unit {0}
 refusedLayout b (callWriteStream t v output) = Unit {0}
+refusedLayout b (callOffer t fs ms) = Unit {0}
+refusedLayout b (callBackupSent t n fs ms ss) = Unit {0}
 
 abbrev pub refusedLayouts : Buffers → List Call → Type 0
 refusedLayouts b [] = Unit {0}
@@ -115,6 +129,8 @@ stateAfter s st (callRetire t v) = stateOr st (retire s st t v)
 stateAfter s st (callListing t) = st
 stateAfter s st callTally = st
 stateAfter s st (callWriteStream t v output) = st
+stateAfter s st (callOffer t fs ms) = st
+stateAfter s st (callBackupSent t n fs ms ss) = stateOr st (backupSent sha1 s st t n fs ms ss)
 
 unfoldable pub stateAfterAll : Shape → State → List Call → State
 stateAfterAll s st [] = st
@@ -137,6 +153,8 @@ answerIn s st (callRetire t v) = retired (outcomeRefusal (retire s st t v)) (out
 answerIn s st (callListing t) = listed (listingIn (some (record { shape = s; state = st })) t)
 answerIn s st callTally = tallied (tallyIn (some (record { shape = s; state = st })))
 answerIn s st (callWriteStream t v output) = streamed (writeVersion s st t v output)
+answerIn s st (callOffer t fs ms) = offered (offerIn sha1 (some (record { shape = s; state = st })) t fs ms)
+answerIn s st (callBackupSent t n fs ms ss) = backedUp (outcomeRefusal (backupSent sha1 s st t n fs ms ss)) (outcomeNumber (backupSent sha1 s st t n fs ms ss))
 
 unfoldable pub answersIn : Shape → State → List Call → List Answer
 answersIn s st [] = []

@@ -17,8 +17,9 @@ use Rattle.model.specs.Sound.{storeOf, nextPointers}
 use Rattle.model.specs.Calls.{layoutOf, backupBy, restoreOf, RestoreAnswer, retireOf, listingOf, ListingAnswer, tallyOf, emptyState, tillOf, heldFrom, notHeld}
 use Rattle.stream.specs.Stream.{StreamAnswer, streamOf, readStream}
 use Rattle.stream.specs.Version.{writeStreamOf}
-use Rattle.history.specs.Calls.{Call, callBackup, Buffers, buffersAfterAll, answersOf, refusedLayouts, stateAfterAll, answersIn}
-use Rattle.history.specs.Keeper.{Kept, Keeper, freshKeeper, keptTill, fed, fedAll, keptFrom, oldestKept, newestKept}
+use Rattle.sent.specs.Sent.{backupSentOf}
+use Rattle.history.specs.Calls.{Call, callBackup, callBackupSent, Buffers, buffersAfterAll, answersOf, refusedLayouts, stateAfterAll, answersIn}
+use Rattle.history.specs.Keeper.{Kept, Keeper, freshKeeper, keptTill, comesTo, fed, fedAll, keptFrom, oldestKept, newestKept}
 
 -- the pointers of a till's version of that number; `nextPointers` gives those of the first version of a list
 unfoldable pub pointersHeld : State → ℕ → ℕ → List Pointer
@@ -98,6 +99,10 @@ module _ (bytes : ℕ) (st : State) (k : Keeper) (b : Buffers) where
     -- "an accepted backup the keeper's new last number"
     pub backup : (era : Era) (t : ℕ) (image : List ℕ) → backupBy era (b .pool) (b .table) t image .refusal ≡ 0
         → backupBy era (b .pool) (b .table) t image .version ≡ keptTill (fed k (callBackup era t image) true) t .last
+    -- and so does an accepted second message of §5, which the keeper is fed as the backup of the image put together
+    pub backupSent : (t bytes : ℕ) (fingerprints marks segments : List ℕ) → backupSentOf (b .pool) (b .table) t bytes fingerprints marks segments .refusal ≡ 0
+        → backupSentOf (b .pool) (b .table) t bytes fingerprints marks segments .version
+        ≡ keptTill (fed k (comesTo (storeOf (b .pool) (b .table)) (callBackupSent t bytes fingerprints marks segments)) true) t .last
     -- a held version "now goes", whichever it is
     pub goes : (t v : ℕ) (x : Kept) (newer : List Kept) → IsKept t v x newer → retireOf (b .pool) (b .table) t v .refusal ≡ 0
     -- and one not held is refused, of a till that is there with 17 or 18 as the keeper's last number says

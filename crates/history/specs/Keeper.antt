@@ -2,11 +2,17 @@
 use Prim.Native.Nat.{ℕ, suc}
 use mathlib.Core.Bool.{Bool, true, false, cond, not}
 use mathlib.Core.List.{List, [], _∷_, _++_}
+use mathlib.Core.Option.{Option, none, some}
 use lib.ListN.{getD, set, replicate}
 use lib.Dec.{eqb}
 use Rattle.lists.specs.Lists.{keep}
 use Rattle.model.specs.Measures.{Capacities}
-use Rattle.history.specs.Calls.{Call, callLayout, callBackup, callRestore, callRetire, callListing, callTally, callWriteStream, Buffers, buffersAfter, refusalOf}
+use Rattle.model.specs.State.{Outcome, refused, done}
+use Rattle.model.specs.Image.{withBlanks}
+use Rattle.model.specs.Sound.{Store, storeOf}
+use Rattle.sha1.specs.Sha1.{sha1}
+use Rattle.sent.specs.Sent.{made}
+use Rattle.history.specs.Calls.{Call, callLayout, callBackup, callRestore, callRetire, callListing, callTally, callWriteStream, callOffer, callBackupSent, Buffers, buffersAfter, refusalOf}
 
 -- a held version: its number, its whole image, and the number of its till's newest version when it was taken, 0 if none was held
 pub record Kept : Type 0 where
@@ -49,7 +55,30 @@ filed t image = record { last = suc (t .last); versions = t .versions ++ (record
 unfoldable pub struckOut : KeptTill → ℕ → KeptTill
 struckOut t v = record { last = t .last; versions = keep (λ (x : Kept). not (eqb (x .number) v)) (t .versions) }
 
--- Fed the arguments of a call and whether it was accepted, and nothing out of pool or table.
+-- ---- §5: "the image so put together is backed up"
+
+unfoldable pub imageOr : Outcome (List ℕ) → List ℕ
+imageOr (refused n) = []
+imageOr (done image) = image
+
+-- the image that a second message is put together to, by the store; none where it is refused before that
+unfoldable pub imageSent : Option Store → ℕ → ℕ → List ℕ → List ℕ → List ℕ → List ℕ
+imageSent none t bytes fingerprints marks segments = []
+imageSent (some store) t bytes fingerprints marks segments = imageOr (made sha1 (store .shape) (store .state) t bytes fingerprints marks segments)
+
+-- what the keeper is fed for a call: a second message is the backup of that image, every other call is itself
+unfoldable pub comesTo : Option Store → Call → Call
+comesTo o (callLayout c) = callLayout c
+comesTo o (callBackup era t image) = callBackup era t image
+comesTo o (callRestore t v output) = callRestore t v output
+comesTo o (callRetire t v) = callRetire t v
+comesTo o (callListing t) = callListing t
+comesTo o callTally = callTally
+comesTo o (callWriteStream t v output) = callWriteStream t v output
+comesTo o (callOffer t fs ms) = callOffer t fs ms
+comesTo o (callBackupSent t n fs ms ss) = callBackup withBlanks t (imageSent o t n fs ms ss)
+
+-- Fed the arguments of a call and whether it was accepted, and nothing out of pool or table but the image of §5. No second message comes here.
 unfoldable pub fed : Keeper → Call → Bool → Keeper
 fed k (callLayout c) ok = k
 fed k (callBackup era t image) true = set k t (filed (keptTill k t) image)
@@ -60,10 +89,12 @@ fed k (callRetire t v) false = k
 fed k (callListing t) ok = k
 fed k callTally ok = k
 fed k (callWriteStream t v output) ok = k
+fed k (callOffer t fs ms) ok = k
+fed k (callBackupSent t n fs ms ss) ok = k
 
 unfoldable pub fedAll : Keeper → Buffers → List Call → Keeper
 fedAll k b [] = k
-fedAll k b (c ∷ cs) = fedAll (fed k c (eqb (refusalOf b c) 0)) (buffersAfter b c) cs
+fedAll k b (c ∷ cs) = fedAll (fed k (comesTo (storeOf (b .pool) (b .table)) c) (eqb (refusalOf b c) 0)) (buffersAfter b c) cs
 
 -- the kept version of that number and the newer ones; [] where none is held
 unfoldable pub keptFrom : ℕ → List Kept → List Kept

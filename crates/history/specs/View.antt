@@ -13,7 +13,8 @@ use Rattle.model.specs.Turn.{turnsTo}
 use Rattle.model.specs.Trace.{imageOf}
 use Rattle.model.specs.Calls.{tillOf, notHeld, RestoreAnswer, restoreRefusal, listingRefusal}
 use Rattle.stream.specs.Version.{longestOutput, writeRestored}
-use Rattle.history.specs.Calls.{Call, callLayout, callBackup, callRestore, callRetire, callListing, callTally, callWriteStream, Answer, laidOut, backedUp, restored, retired, listed, tallied, streamed}
+use Rattle.sent.specs.Sent.{OfferAnswer}
+use Rattle.history.specs.Calls.{Call, callLayout, callBackup, callRestore, callRetire, callListing, callTally, callWriteStream, callOffer, callBackupSent, Answer, laidOut, backedUp, restored, retired, listed, tallied, streamed, offered}
 use Rattle.history.specs.Kinds.{Kind, zeroKind, blankKind, directKind, indirectKind, kindOf, kindAt, hopsOfKind}
 
 -- A version as its till shows it: number, length, image, what each pointer is and where an indirect one leads.
@@ -59,6 +60,8 @@ tillNamed (callRetire t v) = t
 tillNamed (callListing t) = t
 tillNamed callTally = 0
 tillNamed (callWriteStream t v output) = t
+tillNamed (callOffer t fs ms) = t
+tillNamed (callBackupSent t n fs ms ss) = t
 
 -- a new version's pointer for a block
 unfoldable pub newKind : Era → Block → Kind
@@ -105,7 +108,8 @@ dropVersion n (w ∷ x ∷ ws) =
 unfoldable pub shownWithout : TillView → ℕ → TillView
 shownWithout w n = record { last = w .last; versions = dropVersion n (w .versions) }
 
--- What the till shows after a call that was accepted or refused: a function of what it showed before and of the call's arguments.
+-- What the till shows after a call that was accepted or refused: a function of what it showed before and of the call's arguments. What a second message
+-- of §5 leaves is that of the backup it comes to.
 unfoldable pub changed : ℕ → Call → Bool → TillView → TillView
 changed bytes (callLayout c) ok w = w
 changed bytes (callBackup era t image) true w = shownWith era bytes w image
@@ -116,8 +120,22 @@ changed bytes (callRetire t v) false w = w
 changed bytes (callListing t) ok w = w
 changed bytes callTally ok w = w
 changed bytes (callWriteStream t v output) ok w = w
+changed bytes (callOffer t fs ms) ok w = w
+changed bytes (callBackupSent t n fs ms ss) ok w = w
 
--- ---- what a call on a till answers, from what the till shows; 14 and 16, which depend on the shared shelf, apart
+-- the calls whose arguments say what they make of their till: all but the second message of §5
+abbrev pub IsPlain : Call → Type 0
+IsPlain (callLayout c) = Unit {0}
+IsPlain (callBackup era t image) = Unit {0}
+IsPlain (callRestore t v output) = Unit {0}
+IsPlain (callRetire t v) = Unit {0}
+IsPlain (callListing t) = Unit {0}
+IsPlain callTally = Unit {0}
+IsPlain (callWriteStream t v output) = Unit {0}
+IsPlain (callOffer t fs ms) = Unit {0}
+IsPlain (callBackupSent t n fs ms ss) = ⊥
+
+-- ---- what a call on a till answers, from what the till shows; 14 and 16, which depend on the shared shelf, apart, and the messages of §5, which do too
 
 abbrev pub isOnTill : Call → Bool
 isOnTill (callLayout c) = false
@@ -127,6 +145,8 @@ isOnTill (callRetire t v) = true
 isOnTill (callListing t) = true
 isOnTill callTally = false
 isOnTill (callWriteStream t v output) = true
+isOnTill (callOffer t fs ms) = false
+isOnTill (callBackupSent t n fs ms ss) = false
 
 unfoldable pub shownFrom : ℕ → List VersionView → List VersionView
 shownFrom n [] = []
@@ -167,3 +187,5 @@ answerShown s w (callListing t) =
 answerShown s w callTally = tallied (record { refusal = 0; cells = 0; records = 0; counts = 0 })
 answerShown s w (callWriteStream t v output) =
     streamed (writeRestored (cond (leb (s .capacities .tills) t) (restoreRefusal 3 longestOutput) (restoreShown (notHeld (w .last) v) (shownFrom v (w .versions)) longestOutput)) output)
+answerShown s w (callOffer t fs ms) = offered (record { refusal = 0; marks = ms })
+answerShown s w (callBackupSent t n fs ms ss) = backedUp 0 0

@@ -11,6 +11,9 @@ ghost use Rattle.stream.specs.Stream.{readStream};
 ghost use Rattle.stream.specs.Version.{writeStreamOf};
 ghost use Rattle.stream_write.specs.Answers.{streamWritten};
 ghost use Rattle.stream_read.specs.Answers.{streamRead};
+ghost use Rattle.sha1.specs.Sha1.{digest};
+ghost use Rattle.sent.specs.Sent.{offerOf, backupSentOf};
+ghost use Rattle.sent_offer.specs.Offer.{offered};
 ghost use Rattle.dispatcher.specs.Turns.{turnOf};
 ghost use Rattle.lurdempos.specs.Boundary.{theEight};
 use backup::BackedUp;
@@ -21,6 +24,7 @@ use layout::TableLength;
 use numbers::Measures;
 use restore::Restored;
 use retire::Retired;
+use sha1::Digest;
 use stream_read::StreamRead;
 use stream_write::StreamWritten;
 use tally::Tally;
@@ -28,6 +32,11 @@ use tills::Listing;
 
 #[repr(C)]
 pub struct LaidOut {
+    pub refusal: u32,
+}
+
+#[repr(C)]
+pub struct Offered {
     pub refusal: u32,
 }
 
@@ -161,6 +170,42 @@ pub extern "C" fn lurdempos_read_stream(stream: &[u8], output: &mut [u8]) -> Str
     ensures { λ r. ⌜ streamRead r (now (output .exit)) ≡ readStream (now (stream .entry)) (now (output .entry)) ⌝ }
 {
     stream_read::read_stream(stream, output)
+}
+
+#[no_mangle]
+pub extern "C" fn lurdempos_offer(
+    pool: &[u8],
+    table: &[u32],
+    till: u32,
+    fingerprints: &[u8],
+    marks: &mut [u8],
+) -> Offered
+    ensures { λ r. ⌜ offered (r .refusal) (now (marks .exit)) ≡ offerOf (now (pool .entry)) (now (table .entry)) till (now (fingerprints .entry)) (now (marks .entry)) ⌝ }
+{
+    let refusal = store::offer(pool, table, till, fingerprints, marks);
+    Offered { refusal: refusal }
+}
+
+#[no_mangle]
+pub extern "C" fn lurdempos_backup_sent(
+    pool: &mut [u8],
+    table: &mut [u32],
+    till: u32,
+    length: u32,
+    fingerprints: &[u8],
+    marks: &[u8],
+    segments: &[u8],
+) -> BackedUp
+    ensures { λ r. ⌜ backedUpAnswer r (now (pool .exit)) (now (table .exit)) ≡ backupSentOf (now (pool .entry)) (now (table .entry)) till length (now (fingerprints .entry)) (now (marks .entry)) (now (segments .entry)) ⌝ }
+{
+    store::backup_sent(pool, table, till, length, fingerprints, marks, segments)
+}
+
+#[no_mangle]
+pub extern "C" fn lurdempos_sha1(message: &[u8]) -> Digest
+    ensures { λ r. ⌜ r ≡ digest (now (message .entry)) ⌝ }
+{
+    sha1_message::sha1(message)
 }
 
 // The record comes and goes by value; between, it is kept here and lent to the dispatcher for the turn.

@@ -11,6 +11,7 @@ use Rattle.model.specs.Calls.{BackupAnswer, backupBy, backupIn, backupOf, Listi
 use Rattle.laws.specs.Stores.{Sound}
 use Rattle.stream.specs.Stream.{streamRefusal}
 use Rattle.stream.specs.Version.{writeRestored, writeStreamOf}
+use Rattle.sent.specs.Sent.{OfferAnswer, offerIn, offerOf, backupSentIn, backupSentBy, backupSentOf}
 use Rattle.laws.proofs.Stores.{sound-if, none-if}
 
 module _ (pool table : List ℕ) (r : Bool) (e : r ≡ isSome (storeOf pool table)) where
@@ -43,3 +44,12 @@ module _ (pool table : List ℕ) (r : Bool) (e : r ≡ isSome (storeOf pool tabl
   pub backup-10 : not r ≡ true → (t : ℕ) (image : List ℕ) → record { refusal = 10; version = 0; pool = pool; table = table } ≡ backupOf pool table t image
   unfolding backupOf backupBy backupIn
   backup-10 n t image = rw (no-store n)
+
+  pub offer-10 : not r ≡ true → (t : ℕ) (fingerprints marks : List ℕ) → record { refusal = 10; marks = marks } ≡ offerOf pool table t fingerprints marks
+  unfolding offerOf offerIn
+  offer-10 n t fingerprints marks = rw (no-store n)
+
+  pub sent-10 : not r ≡ true → (t bytes : ℕ) (fingerprints marks segments : List ℕ)
+      → record { refusal = 10; version = 0; pool = pool; table = table } ≡ backupSentOf pool table t bytes fingerprints marks segments
+  unfolding backupSentOf backupSentBy backupSentIn
+  sent-10 n t bytes fingerprints marks segments = rw (no-store n)

@@ -9,6 +9,8 @@ ghost use Rattle.retire.specs.Answers.{retireAnswer};
 ghost use Rattle.tally.specs.Answers.{tallyAnswer};
 ghost use Rattle.stream.specs.Version.{writeStreamOf};
 ghost use Rattle.stream_write.specs.Answers.{streamWritten};
+ghost use Rattle.sent.specs.Sent.{offerOf, backupSentOf};
+ghost use Rattle.sent_offer.specs.Offer.{offered};
 use backup::BackedUp;
 use layout::Capacities;
 use layout::TableLength;
@@ -112,4 +114,35 @@ pub fn write_stream(
         };
     }
     stream_version::write_version(pool, table, till, version, output)
+}
+
+// The first message of a till that sends only what the box lacks: the marks of what it has. The answer is the refusal, or 0.
+pub fn offer(pool: &[u8], table: &[u32], till: u32, fingerprints: &[u8], marks: &mut [u8]) -> u32
+    ensures { λ r. ⌜ offered r (now (marks .exit)) ≡ offerOf (now (pool .entry)) (now (table .entry)) till (now (fingerprints .entry)) (now (marks .entry)) ⌝ }
+{
+    if !audit::sound(pool, table) {
+        return 10;
+    }
+    sent_offer::offer_segments(pool, table, till, fingerprints, marks)
+}
+
+// The second: the length, all fingerprints, the marks of the segments that follow, and these.
+pub fn backup_sent(
+    pool: &mut [u8],
+    table: &mut [u32],
+    till: u32,
+    length: u32,
+    fingerprints: &[u8],
+    marks: &[u8],
+    segments: &[u8],
+) -> BackedUp
+    ensures { λ r. ⌜ backedUpAnswer r (now (pool .exit)) (now (table .exit)) ≡ backupSentOf (now (pool .entry)) (now (table .entry)) till length (now (fingerprints .entry)) (now (marks .entry)) (now (segments .entry)) ⌝ }
+{
+    if !audit::sound(pool, table) {
+        return BackedUp {
+            refusal: 10,
+            version: 0,
+        };
+    }
+    sent_backup::back_up_sent(pool, table, till, length, fingerprints, marks, segments)
 }

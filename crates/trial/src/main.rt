@@ -49,6 +49,7 @@ fn trial(pool: &mut [u8], table: &mut [u32], counts: &mut [u64]) {
     trial_refusals::measures(counts);
     trial_refusals::layouts(pool, table, counts);
     trial_refusals::last_number(counts);
+    trial_refusals::sent::messages(counts);
     histories(20, pool, table, counts);
     tell::report(counts);
 }
@@ -56,6 +57,6 @@ fn trial(pool: &mut [u8], table: &mut [u32], counts: &mut [u64]) {
 fn main() {
     let mut pool = [0u8; 4096];
     let mut table = [0u32; 600];
-    let mut counts = [0u64; 36];
+    let mut counts = [0u64; 59];
     trial(&mut pool, &mut table, &mut counts);
 }

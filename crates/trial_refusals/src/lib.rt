@@ -1,4 +1,6 @@
-// Refusals that no drawn call meets: capacities out of range, buffers of another length, a till whose numbers have run out.
+// Refusals that no drawn call meets: capacities out of range, buffers of another length, a till whose numbers have run out, messages that do not hold together.
+pub mod sent;
+
 ghost use Prim.Native.Nat.{_≤_};
 use layout::Capacities;
 use numbers::Measures;

@@ -1,39 +1,46 @@
-// The counters: at n stands how many calls got the number n (0: accepted), from 20 on the things named here.
+// The counters: at n stands how many calls got the number n (0: accepted), from 40 on the things named here.
 ghost use mathlib.Core.Path.{_≡_};
 ghost use lib.ListN.{getD};
 
-pub const LENGTHS: usize = 20;
+pub const LENGTHS: usize = 40;
 
-pub const LAYOUTS: usize = 21;
+pub const LAYOUTS: usize = 41;
 
-pub const BACKUPS: usize = 22;
+pub const BACKUPS: usize = 42;
 
-pub const RESTORES: usize = 23;
+pub const RESTORES: usize = 43;
 
-pub const RETIRES: usize = 24;
+pub const RETIRES: usize = 44;
 
-pub const LISTINGS: usize = 25;
+pub const LISTINGS: usize = 45;
 
-pub const TALLIES: usize = 26;
+pub const TALLIES: usize = 46;
 
-pub const CALLS: usize = 27;
+pub const CALLS: usize = 47;
 
-pub const VERSIONS: usize = 28;
+pub const VERSIONS: usize = 48;
 
-pub const BYTES: usize = 29;
+pub const BYTES: usize = 49;
 
-pub const CHAIN: usize = 30;
+pub const CHAIN: usize = 50;
 
-pub const WRONG_BYTES: usize = 31;
+pub const WRONG_BYTES: usize = 51;
 
-pub const WRONG_ANSWERS: usize = 32;
+pub const WRONG_ANSWERS: usize = 52;
 
-pub const ALTERED: usize = 33;
+pub const ALTERED: usize = 53;
 
 // Retired with an older one held: the newest, or one between.
-pub const NEWEST: usize = 34;
+pub const NEWEST: usize = 54;
 
-pub const BETWEEN: usize = 35;
+pub const BETWEEN: usize = 55;
+
+// First messages, and the segments of both: had by the box, or sent.
+pub const OFFERS: usize = 56;
+
+pub const HAD: usize = 57;
+
+pub const SENT: usize = 58;
 
 pub fn count_at(counts: &[u64], at: usize) -> u64
     ensures { λ r. ⌜ r ≡ getD (now (counts .entry)) at 0 ⌝ }
@@ -77,6 +84,6 @@ pub fn expect_unaltered(counts: &mut [u64], ok: bool) {
 pub fn answered(counts: &mut [u64], kind: usize, refusal: u32, expected: u32) {
     add(counts, CALLS, 1);
     add_if(counts, refusal == 0, kind);
-    add_if(counts, refusal < 20, refusal as usize);
+    add_if(counts, refusal < 40, refusal as usize);
     add_if(counts, refusal != expected, WRONG_ANSWERS);
 }

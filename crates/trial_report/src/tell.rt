@@ -34,6 +34,8 @@ fn refusals(counts: &[u64]) {
     line(b"refused with 16:", counts::count_at(counts, 16));
     line(b"refused with 17:", counts::count_at(counts, 17));
     line(b"refused with 18:", counts::count_at(counts, 18));
+    line(b"refused with 19:", counts::count_at(counts, 19));
+    line(b"refused with 20:", counts::count_at(counts, 20));
 }
 
 fn retires(counts: &[u64]) {
@@ -45,6 +47,15 @@ fn retires(counts: &[u64]) {
         b"retired from between two held:",
         counts::count_at(counts, counts::BETWEEN),
     );
+}
+
+fn segments(counts: &[u64]) {
+    line(
+        b"first messages accepted:",
+        counts::count_at(counts, counts::OFFERS),
+    );
+    line(b"segments had:", counts::count_at(counts, counts::HAD));
+    line(b"segments sent:", counts::count_at(counts, counts::SENT));
 }
 
 fn accepted(counts: &[u64]) {
@@ -103,6 +114,7 @@ fn verdict(counts: &[u64]) {
 pub fn report(counts: &[u64]) {
     accepted(counts);
     retires(counts);
+    segments(counts);
     refusals(counts);
     verdict(counts);
 }

@@ -37,8 +37,28 @@ fn draw_image(c: Capacities, d: Dice, image: &mut [u8]) -> usize {
     bytes
 }
 
+// By one call, or by both messages.
+fn back_up_image(
+    c: Capacities,
+    messages: bool,
+    till: u32,
+    image: &[u8],
+    pool: &mut [u8],
+    table: &mut [u32],
+    images: &mut [u8],
+    notes: &mut [u32],
+    counts: &mut [u64],
+) {
+    if messages {
+        trial_sent::back_up(c, till, image, pool, table, images, notes, counts);
+    } else {
+        trial_calls::back_up(c, till, image, pool, table, images, notes, counts);
+    }
+}
+
 fn back_up_first(
     c: Capacities,
+    messages: bool,
     till: u32,
     bytes: usize,
     image: &[u8],
@@ -52,8 +72,9 @@ fn back_up_first(
         counts::expect(counts, false);
         return;
     }
-    trial_calls::back_up(
+    back_up_image(
         c,
+        messages,
         till,
         &image[0..bytes],
         pool,
@@ -64,6 +85,7 @@ fn back_up_first(
     );
 }
 
+// One time in three by messages.
 fn back_up(
     c: Capacities,
     d: Dice,
@@ -77,6 +99,7 @@ fn back_up(
     let bytes = draw_image(c, d, &mut image);
     back_up_first(
         c,
+        d.pick(4, 3) == 0,
         till_of(c, d),
         bytes,
         &image,

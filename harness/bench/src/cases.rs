@@ -4,8 +4,8 @@ use keeper::closings::{Shop, LENGTH};
 use keeper::dense::Dense;
 use std::fmt;
 use std::rc::Rc;
-use terms::{Calls, Capacities};
-use twin::Twin;
+use terms::{Calls, Capacities, Sending, FINGERPRINT};
+use twin::{fingerprint_of, Twin};
 
 const SEED: u64 = 1;
 
@@ -22,10 +22,28 @@ pub enum What {
     LayOut,
     Listing,
     Tally,
-    Restore { version: u32, room: usize },
-    WriteStream { version: u32 },
-    Retire { till: u32, version: u32 },
-    Backup { image: Vec<u8> },
+    Restore {
+        version: u32,
+        room: usize,
+    },
+    WriteStream {
+        version: u32,
+    },
+    Retire {
+        till: u32,
+        version: u32,
+    },
+    Backup {
+        image: Vec<u8>,
+    },
+    /// Of the pool.
+    Sha1,
+    Offer {
+        fingerprints: Vec<u8>,
+    },
+    Sent {
+        sending: Sending,
+    },
 }
 
 /// One line of the table. All calls are of till 0, but for a retire that names another one.
@@ -47,6 +65,15 @@ impl Kept {
     fn backup(&mut self, till: usize, image: &[u8]) {
         let [refusal, _] = Twin.backup(&mut self.pool, &mut self.table, till as u32, image);
         assert_eq!(refusal, 0, "a backup in making the {} store", self.name);
+    }
+
+    /// What till 0 sends for an image: its fingerprints, and the message with what the store lacks.
+    fn messages(&self, image: &[u8]) -> (Vec<u8>, Sending) {
+        let whole = Sending::whole(image, self.capacities.segment_bytes(), fingerprint_of);
+        let mut marks = vec![0; whole.marks.len()];
+        assert_eq!(Twin.offer(&self.pool, &self.table, 0, &whole.fingerprints, &mut marks), [0]);
+        let sending = whole.lacking(&marks);
+        (whole.fingerprints, sending)
     }
 
     /// 64 closings of so many tills but one of till 0, so that it has room for one more.
@@ -100,7 +127,8 @@ fn page_cases() -> Vec<Vec<Case>> {
     let fill = Fill { tills: 16, length: 65_536, changes: 2 };
     let (full, long) = Kept::of_dense("full", Capacities::LARGEST, fill);
     let mut of_full = of_store(&full, &long[..LENGTH], true);
-    of_full.push(Case { store: full, what: What::Backup { image: long }, passes: None });
+    let more = [What::Backup { image: long }, What::Sha1];
+    of_full.extend(more.map(|what| Case { store: full.clone(), what, passes: None }));
     vec![of_store(&empty, &closing, false), of_store(&typical, &closing, false), of_full]
 }
 
@@ -125,6 +153,7 @@ fn small_cases() -> Vec<Vec<Case>> {
 fn of_store(store: &Rc<Kept>, closing: &[u8], targets: bool) -> Vec<Case> {
     let backup = What::Backup { image: closing.to_vec() };
     let restore = |version| What::Restore { version, room: 65_536 };
+    let (fingerprints, sending) = store.messages(closing);
     let all = [
         (What::TableLength, None),
         (What::LayOut, None),
@@ -137,6 +166,8 @@ fn of_store(store: &Rc<Kept>, closing: &[u8], targets: bool) -> Vec<Case> {
         (What::Retire { till: 0, version: 2 }, Some(5.0)),
         (What::Retire { till: 1, version: 32 }, Some(5.0)),
         (backup, Some(12.0)),
+        (What::Offer { fingerprints }, None),
+        (What::Sent { sending }, None),
     ];
     let case =
         |(what, passes): (What, Option<f64>)| Case { store: store.clone(), what, passes: passes.filter(|_| targets) };
@@ -157,11 +188,17 @@ impl What {
             What::Retire { till: 0, .. } => "retire of the oldest".into(),
             What::Retire { .. } => "retire of the middle of 64".into(),
             What::Backup { image } => format!("backup of {}", image.len()),
+            What::Sha1 => "SHA-1 of the pool".into(),
+            What::Offer { fingerprints } => format!("offer of {} segments", fingerprints.len() / FINGERPRINT),
+            What::Sent { sending } => {
+                let sent = sending.marks.iter().filter(|&&mark| mark == 1).count();
+                format!("backup of {}, {sent} of {} segments sent", sending.length, sending.marks.len())
+            }
         }
     }
 
     pub fn writes(&self) -> bool {
-        matches!(self, What::LayOut | What::Retire { .. } | What::Backup { .. })
+        matches!(self, What::LayOut | What::Retire { .. } | What::Backup { .. } | What::Sent { .. })
     }
 }
 
@@ -178,6 +215,14 @@ impl Case {
             What::WriteStream { version } => store.write_stream(pool, table, 0, *version, output)[0],
             What::Retire { till, version } => store.retire(pool, table, *till, *version)[0],
             What::Backup { image } => store.backup(pool, table, 0, image)[0],
+            What::Sha1 => {
+                std::hint::black_box(store.sha1(pool));
+                0
+            }
+            What::Offer { fingerprints } => {
+                store.offer(pool, table, 0, fingerprints, &mut output[..fingerprints.len() / FINGERPRINT])[0]
+            }
+            What::Sent { sending } => store.backup_sent(pool, table, 0, sending.message())[0],
         }
     }
 }

@@ -4,10 +4,12 @@
 //! `bench [ROUNDS] [--write]`: with `--write` the run is put into docs/PERFORMANCE.md too.
 //! `bench --backups [--write]`: the same for the tool's backups.
 //! `bench --erased`: only what chips that erase to 255 take.
+//! `bench --line [--write]`: only what a till puts on the line, with the picture.
 
 mod backups;
 mod cases;
 mod erased;
+mod line;
 mod picture;
 mod space;
 mod timing;
@@ -18,6 +20,7 @@ use std::{env, fs, io};
 /// What stands before a run in docs/PERFORMANCE.md, and after it.
 const STORE_FROM: &str = "<!-- the latest run -->\n";
 const BACKUPS_FROM: &str = "<!-- the latest run of backups -->\n";
+const LINE_FROM: &str = "<!-- the line -->\n";
 const TO: &str = "<!-- its end -->\n";
 
 fn main() -> io::Result<()> {
@@ -32,10 +35,14 @@ fn main() -> io::Result<()> {
     }
     let (report, from) = if has("--backups") {
         (backups::report()?, BACKUPS_FROM)
+    } else if has("--line") {
+        let closings = line::closings();
+        fs::write(docs("line.svg"), line::svg(&closings))?;
+        (line::table(&closings), LINE_FROM)
     } else {
         let rounds = words.iter().find_map(|word| word.parse().ok()).unwrap_or(25);
         let days = space::days();
-        fs::write(docs("space.svg"), picture::svg(&days))?;
+        fs::write(docs("space.svg"), space::svg(&days))?;
         let space = format!("## Space\n\n{}\n### Erased memory\n\n{}", space::table(&days), erased::report());
         (format!("{}\n{space}", time_report(rounds)), STORE_FROM)
     };

@@ -1,5 +1,6 @@
 //! Space: what the store keeps against whole images, closing by closing.
 
+use crate::picture::{Chart, Curve};
 use keeper::closings::{Shop, LENGTH};
 use lurdempos::{Capacities, Store};
 use std::fmt::Write;
@@ -48,6 +49,26 @@ pub fn days() -> Vec<Day> {
         assert!(store.image(till, version).is_ok_and(|restored| restored == image));
     }
     days
+}
+
+/// Bytes against closings, each tick ten times the one below.
+pub fn svg(days: &[Day]) -> String {
+    let curve = |bytes: fn(&Day) -> usize, colour, name| {
+        let values: Vec<f64> = days.iter().map(|day| bytes(day) as f64).collect();
+        let last = format!("{:.2} MB", values.last().copied().unwrap_or(0.0) / 1e6);
+        Curve { values, colour, name, last }
+    };
+    let chart = Chart {
+        title: "What 16 tills keep: whole images, and cells of the store",
+        below: "closings of each till",
+        up: |bytes| (bytes.log10() - 4.0) / 4.0,
+        ticks: vec![(1e4, "10 kB"), (1e5, "100 kB"), (1e6, "1 MB"), (1e7, "10 MB"), (1e8, "100 MB")],
+        curves: vec![
+            curve(|day| day.images, "#b3452c", "whole images"),
+            curve(Day::kept, "#1f5fa8", "the store's cells"),
+        ],
+    };
+    chart.svg()
 }
 
 /// The table, every eighth day.

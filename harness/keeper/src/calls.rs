@@ -1,10 +1,11 @@
 //! A call with its arguments, and random lists of calls.
 
 use crate::images::Images;
+use crate::messages::Messages;
 use crate::whole::Till;
-use crate::{Keeper, Random};
+use crate::{Course, Keeper, Random};
 use std::fmt;
-use terms::{Capacities, BLOCK, BLOCK_BYTES, LAST_NUMBER, LONGEST_STREAM, SEGMENT, SEGMENT_BLOCKS};
+use terms::{Capacities, Sending, BLOCK, BLOCK_BYTES, LAST_NUMBER, LONGEST_STREAM, SEGMENT, SEGMENT_BLOCKS};
 
 #[derive(Clone)]
 pub enum Call {
@@ -37,6 +38,17 @@ pub enum Call {
         version: u32,
         room: usize,
     },
+    /// The first message, with room for so many marks.
+    Offer {
+        till: u32,
+        fingerprints: Vec<u8>,
+        room: usize,
+    },
+    /// The second message.
+    Sent {
+        till: u32,
+        sending: Sending,
+    },
 }
 
 impl fmt::Debug for Call {
@@ -52,6 +64,13 @@ impl fmt::Debug for Call {
             Call::Tally => write!(f, "tally"),
             Call::WriteStream { till, version, room } => {
                 write!(f, "stream till {till}, version {version}, room {room}")
+            }
+            Call::Offer { till, fingerprints, room } => {
+                write!(f, "offer till {till}, {} bytes of fingerprints, room {room}", fingerprints.len())
+            }
+            Call::Sent { till, sending: Sending { length, fingerprints, marks, segments } } => {
+                let (prints, segments) = (fingerprints.len(), segments.len());
+                write!(f, "sent till {till}, length {length}, {prints} bytes, marks {marks:?}, {segments} bytes")
             }
         }
     }
@@ -125,7 +144,8 @@ impl List {
         List { capacities, style, habit, images: Images::new(random, capacities, style.kinds) }
     }
 
-    pub fn next(&self, random: &mut Random, keeper: &Keeper) -> Call {
+    pub fn next(&self, random: &mut Random, course: &Course) -> Call {
+        let keeper = course.keeper();
         let number = random.below(self.capacities.tills as usize) as u32;
         let till = &keeper.tills()[number as usize];
         let wrong = random.percent(4);
@@ -138,10 +158,12 @@ impl List {
             9 => self.refused_lay_out(random),
             10..=26 => self.restore(random, till_number, till, wrong),
             27..=29 => self.stream(random, till_number, till, wrong),
+            30..=32 => self.offer(random, course, till_number, till, wrong),
             _ if random.percent(retire) => {
                 let version = self.retired_version(random, till, wrong);
                 Call::Retire { till: till_number, version }
             }
+            33..=52 => self.sent(random, course, till_number, till, wrong),
             _ => Call::Backup { till: till_number, image: self.image(random, keeper, till, wrong) },
         }
     }
@@ -191,6 +213,24 @@ impl List {
             _ => length,
         };
         Call::WriteStream { till: number, version, room }
+    }
+
+    fn offer(&self, random: &mut Random, course: &Course, number: u32, till: &Till, wrong: bool) -> Call {
+        let image = self.image(random, course.keeper(), till, false);
+        let wrong = wrong || random.percent(10);
+        let (fingerprints, room) = self.with_messages(course, |messages| messages.offer(random, &image, wrong));
+        Call::Offer { till: number, fingerprints, room }
+    }
+
+    fn sent(&self, random: &mut Random, course: &Course, number: u32, till: &Till, wrong: bool) -> Call {
+        let image = self.image(random, course.keeper(), till, false);
+        let sending = self.with_messages(course, |messages| messages.sent(random, &image, wrong));
+        Call::Sent { till: number, sending }
+    }
+
+    fn with_messages<T>(&self, course: &Course, make: impl FnOnce(&Messages) -> T) -> T {
+        let print = |segment: &[u8]| course.print(segment);
+        make(&Messages { capacities: self.capacities, stock: &course.stock(), print: &print })
     }
 
     /// The store's capacities but for one of them.

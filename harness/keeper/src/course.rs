@@ -3,10 +3,12 @@
 
 use crate::calls::stream_length;
 use crate::events::Events;
+use crate::expected::Expected;
+use crate::stock::Stock;
 use crate::words::Words;
 use crate::{Call, Keeper};
 use std::collections::BTreeSet;
-use terms::{Backup, Calls, Capacities, Refusal, LAST_NUMBER};
+use terms::{fingerprint, Backup, Calls, Capacities, Fingerprint};
 
 /// What outputs are filled with before they are lent.
 const UNTOUCHED: u8 = 0xa5;
@@ -19,7 +21,7 @@ pub struct Lane {
 }
 
 pub struct Course {
-    capacities: Capacities,
+    pub(crate) capacities: Capacities,
     lanes: Vec<Lane>,
     /// Who makes the backups from before blank blocks were known, in the buffers of every store.
     earlier: Option<Backup>,
@@ -76,26 +78,51 @@ impl Course {
         (&self.pool, &self.table)
     }
 
+    /// A segment's fingerprint, by the last of the stores.
+    pub fn print(&self, segment: &[u8]) -> Fingerprint {
+        fingerprint(self.lanes[self.lanes.len() - 1].store.sha1(segment))
+    }
+
+    /// What the store has of segments that are told by their fingerprints.
+    pub fn stock(&self) -> Stock {
+        Stock::of(&self.pool, &self.table, &|segment: &[u8]| self.print(segment))
+    }
+
     /// Makes one call of all stores and compares. Answers the refusal's number.
     pub fn call(&mut self, call: &Call) -> [u32; 4] {
+        let expected = self.expected(call);
         let mut answers: Vec<Answer> = self.lanes.iter_mut().map(|lane| answer_by(self.earlier, lane, call)).collect();
         let (first, output) = answers.swap_remove(0);
         for (other, other_output) in &answers {
             assert_eq!(first, *other, "{}: answers differ", self.place(call));
             assert!(output == *other_output, "{}: outputs differ", self.place(call));
         }
+        if let (Call::Sent { till, .. }, Ok(image)) = (call, &expected) {
+            self.as_a_full_backup(call, *till, image, first);
+        }
         let accepted = first[0] == 0;
         self.met.insert((letter(call), first[0]));
         self.made += 1;
         self.accepted += accepted as usize;
-        if accepted && matches!(call, Call::Backup { .. } | Call::Earlier { .. } | Call::Retire { .. }) {
+        if accepted && changes(call) {
             self.events += self.events_of(call);
             self.pool.copy_from_slice(&self.lanes[0].pool);
             self.table.copy_from_slice(&self.lanes[0].table);
         }
         self.lanes_agree(call);
-        self.judge(call, first, &output);
+        self.judge(call, first, &output, expected);
         first
+    }
+
+    /// The image that a message makes, backed up on a copy of the store before it: the answer, every byte and every word
+    /// are those that the message left.
+    fn as_a_full_backup(&self, call: &Call, till: u32, image: &[u8], answer: [u32; 4]) {
+        for lane in &self.lanes {
+            let (mut pool, mut table) = (self.pool.clone(), self.table.clone());
+            let full = lane.store.backup(&mut pool, &mut table, till, image);
+            assert_eq!(full, answer[..2], "{}: another answer than a full backup's", self.place(call));
+            assert!(pool == lane.pool && table == lane.table, "{}: another store", self.place(call));
+        }
     }
 
     /// What an accepted backup or retire has done, with the table before it still at hand.
@@ -108,7 +135,7 @@ impl Course {
                 (events.shared, events.shared_with_blanks) = (0, 0);
                 events += Events::taken_over(&self.table, self.capacities, till as usize, version);
             }
-            Call::Backup { till, .. } => {
+            Call::Backup { till, .. } | Call::Sent { till, .. } => {
                 events += Events::turned(&self.table, after, self.capacities, till as usize);
             }
             _ => {}
@@ -129,10 +156,9 @@ impl Course {
     }
 
     /// The answer and output are what the keeper knows, which then follows the call.
-    fn judge(&mut self, call: &Call, answer: [u32; 4], output: &[u8]) {
-        let expected = self.refusal(call);
-        let left_open = expected.is_none() && matches!(call, Call::Backup { .. } | Call::Earlier { .. });
-        let number = expected.map_or(0, Refusal::number);
+    fn judge(&mut self, call: &Call, answer: [u32; 4], output: &[u8], expected: Expected) {
+        let left_open = expected.is_ok() && files(call);
+        let number = expected.as_ref().map_or_else(|refusal| refusal.number(), |_| 0);
         let fits = answer[0] == number || left_open && [14, 16].contains(&answer[0]);
         assert!(fits, "{}: answered {}, the keeper has {number}", self.place(call), answer[0]);
         if answer[0] != 0 {
@@ -140,9 +166,10 @@ impl Course {
             assert!(output.iter().all(|&byte| byte == UNTOUCHED), "{}: output altered", self.place(call));
             return;
         }
+        let written = expected.expect("the call was accepted");
         match call {
-            Call::Backup { till, image } | Call::Earlier { till, image } => {
-                self.keeper.file(*till, image, matches!(call, Call::Backup { .. }));
+            Call::Backup { till, .. } | Call::Earlier { till, .. } | Call::Sent { till, .. } => {
+                self.keeper.file(*till, &written, !matches!(call, Call::Earlier { .. }));
                 assert_eq!(answer[1], self.keeper.tills()[*till as usize].last, "{}", self.place(call));
             }
             Call::Retire { till, version } => {
@@ -160,6 +187,7 @@ impl Course {
                 let cells = cells.filter(|cell| cell.iter().any(|&byte| byte != 0)).count();
                 assert_eq!(answer[1] as usize, cells, "{}", self.place(call));
             }
+            Call::Offer { .. } => assert!(output == written, "{}: other marks", self.place(call)),
             Call::TableLength(_) | Call::LayOut(_) => {}
         }
     }
@@ -187,46 +215,16 @@ impl Course {
             assert!(read == image, "{}: another image", self.place(call));
         }
     }
-
-    /// The refusal that the keeper expects. Of a backup's, 14 and 16 are beyond it.
-    fn refusal(&self, call: &Call) -> Option<Refusal> {
-        match call {
-            Call::TableLength(capacities) => (!capacities.in_range()).then_some(Refusal::Capacity),
-            Call::LayOut(capacities) if !capacities.in_range() => Some(Refusal::Capacity),
-            Call::LayOut(_) => Some(Refusal::Lengths),
-            Call::Tally => None,
-            Call::Listing { till } => self.keeper.till(*till).is_none().then_some(Refusal::NoSuchTill),
-            Call::Backup { till, image } | Call::Earlier { till, image } => self.backup_refusal(*till, image.len()),
-            Call::Restore { till, version, room } => too_short(self.image(*till, *version), *room, <[u8]>::len),
-            Call::WriteStream { till, version, room } => too_short(self.image(*till, *version), *room, stream_length),
-            Call::Retire { till, version } => self.image(*till, *version).err(),
-        }
-    }
-
-    /// The image that the keeper has under these numbers, or why it has none.
-    fn image(&self, till: u32, version: u32) -> Result<&[u8], Refusal> {
-        let till = self.keeper.till(till).ok_or(Refusal::NoSuchTill)?;
-        till.image(version).ok_or(till.missing(version))
-    }
-
-    fn backup_refusal(&self, till: u32, length: usize) -> Option<Refusal> {
-        let Some(till) = self.keeper.till(till) else { return Some(Refusal::NoSuchTill) };
-        if length == 0 || length > self.capacities.image_bytes() {
-            Some(Refusal::ImageLength)
-        } else if till.held.len() == self.capacities.versions as usize {
-            Some(Refusal::TillFull)
-        } else {
-            (till.last == LAST_NUMBER).then_some(Refusal::NumbersSpent)
-        }
-    }
 }
 
-/// The refusal of a call that writes an image, in a form of so many bytes, to so much room.
-fn too_short(image: Result<&[u8], Refusal>, room: usize, bytes: fn(&[u8]) -> usize) -> Option<Refusal> {
-    match image {
-        Ok(image) => (room < bytes(image)).then_some(Refusal::ShortOutput),
-        Err(refusal) => Some(refusal),
-    }
+/// Whether an accepted call changes the store.
+fn changes(call: &Call) -> bool {
+    files(call) || matches!(call, Call::Retire { .. })
+}
+
+/// Whether it files an image.
+fn files(call: &Call) -> bool {
+    matches!(call, Call::Backup { .. } | Call::Earlier { .. } | Call::Sent { .. })
 }
 
 /// A store laid out in buffers that were not all zero.
@@ -277,6 +275,11 @@ fn answer_by(earlier: Option<Backup>, lane: &mut Lane, call: &Call) -> Answer {
             output.resize(*room, UNTOUCHED);
             store.write_stream(pool, table, *till, *version, &mut output).to_vec()
         }
+        Call::Offer { till, fingerprints, room } => {
+            output.resize(*room, UNTOUCHED);
+            store.offer(pool, table, *till, fingerprints, &mut output).to_vec()
+        }
+        Call::Sent { till, sending } => store.backup_sent(pool, table, *till, sending.message()).to_vec(),
         Call::Retire { till, version } => store.retire(pool, table, *till, *version).to_vec(),
         Call::Listing { till } => store.listing(pool, table, *till).to_vec(),
         Call::Tally => store.tally(pool, table).to_vec(),
@@ -296,5 +299,7 @@ fn letter(call: &Call) -> char {
         Call::Listing { .. } => 'i',
         Call::Tally => 't',
         Call::WriteStream { .. } => 's',
+        Call::Offer { .. } => 'f',
+        Call::Sent { .. } => 'm',
     }
 }

@@ -62,6 +62,21 @@ impl<'a> Words<'a> {
         self.table[self.records_at + place / 16 * self.record_words + 3 + place % 16] as usize
     }
 
+    /// The segments of the records that can match: in use, none of their positions removed, no cell of 255s.
+    pub fn segments(&self, pool: &[u8], bytes: usize) -> Vec<Vec<u8>> {
+        let cell = |record: &[u32], i: usize| &pool[bytes * record[3 + i] as usize..][..bytes];
+        let is_held = |record: &[u32], i: usize| record[0] >> i & 1 == 1;
+        let of_255s = |record: &[u32], i: usize| is_held(record, i) && cell(record, i).iter().all(|&byte| byte == 255);
+        let can_match =
+            |record: &&[u32]| record[0] != 0 && record[1] == 0 && !(0..self.positions).any(|i| of_255s(record, i));
+        let block = |record: &[u32], i: usize| match (is_held(record, i), record[2] >> i & 1) {
+            (true, _) => cell(record, i).to_vec(),
+            (false, blank) => vec![255 * blank as u8; bytes],
+        };
+        let records = self.table[self.records_at..].chunks(self.record_words).filter(can_match);
+        records.map(|record| (0..self.positions).flat_map(|i| block(record, i)).collect()).collect()
+    }
+
     /// The cells that positions name.
     pub fn named(&self) -> BTreeSet<usize> {
         let records = self.table[self.records_at..].chunks(self.record_words);

@@ -13,9 +13,11 @@ struct Scene {
     prepare: fn(&Bench),
 }
 
-const SCENES: [Scene; 11] = [
+const SCENES: [Scene; 13] = [
     Scene { name: "init", line: "init new --tills 2 --blocks 16 --cells 64 --records 8", file: "new", prepare: |_| {} },
     Scene { name: "backup", line: "backup s 0 image", file: "s", prepare: |_| {} },
+    Scene { name: "backup-sent", line: "backup-sent s 0 message", file: "s", prepare: message },
+    Scene { name: "offer", line: "offer s 0 prints out", file: "out", prepare: message },
     Scene { name: "retire", line: "retire s 0 1", file: "s", prepare: |_| {} },
     Scene { name: "rotate", line: "backup s 0 image --rotate", file: "s", prepare: filled },
     Scene { name: "retire-keep", line: "retire s 0 --keep 1", file: "s", prepare: |_| {} },
@@ -40,6 +42,13 @@ const SCENES: [Scene; 11] = [
 /// Till 0 holds as many versions as it can.
 fn filled(bench: &Bench) {
     ["AB", "BA"].iter().for_each(|text| assert_eq!(bench.fed("backup s 0 -", &letters(text)).status, Some(0)));
+}
+
+/// The messages of a till whose image has one segment that the store has.
+fn message(bench: &Bench) {
+    for line in ["fingerprints s image prints", "offer s 0 prints marks", "sent s image marks message"] {
+        bench.run(line).accepted();
+    }
 }
 
 impl Scene {

@@ -1,6 +1,6 @@
 //! The calls with answers as bare numbers, so that one test can be put to the proved store and to the twin.
 
-use crate::{Capacities, Listing, Refusal, Restored, Tally};
+use crate::{Capacities, Listing, Message, Refusal, Restored, Tally};
 
 /// The calls on lent buffers. An answer is the refusal's number, 0 if the call is accepted, then the page's fields.
 pub trait Calls {
@@ -15,6 +15,12 @@ pub trait Calls {
     fn write_stream(&self, pool: &[u8], table: &[u32], till: u32, version: u32, output: &mut [u8]) -> [u32; 2];
     /// Reads a stream into an image. It needs no store.
     fn read_stream(&self, stream: &[u8], output: &mut [u8]) -> [u32; 2];
+    /// Marks with 1, else 0, each segment that the store has, by their fingerprints.
+    fn offer(&self, pool: &[u8], table: &[u32], till: u32, fingerprints: &[u8], marks: &mut [u8]) -> [u32; 1];
+    /// Files the image that a message and the store make together.
+    fn backup_sent(&self, pool: &mut [u8], table: &mut [u32], till: u32, message: Message) -> [u32; 2];
+    /// The five words of a message's SHA-1. It needs no store.
+    fn sha1(&self, message: &[u8]) -> [u32; 5];
     /// A turn of a record of tills, marks of those waiting and last till, which stands apart from any store. Answers the
     /// refusal, 1 if a till is served, that till, and the record after it.
     fn turn(&self, record: [u32; 3]) -> [u32; 6];

@@ -108,6 +108,16 @@ impl Capacities {
         self.block_bytes as usize * self.blocks as usize
     }
 
+    /// Bytes of a segment.
+    pub fn segment_bytes(self) -> usize {
+        self.block_bytes as usize * self.segment_blocks as usize
+    }
+
+    /// Segments of the longest image.
+    pub fn segments(self) -> usize {
+        self.blocks.div_ceil(self.segment_blocks) as usize
+    }
+
     /// Words of a segment record.
     pub fn record_words(self) -> usize {
         3 + 2 * self.segment_blocks as usize

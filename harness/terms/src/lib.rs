@@ -3,10 +3,12 @@
 mod calls;
 mod capacities;
 mod refusal;
+mod sending;
 
 pub use calls::{numbers, Backup, Calls, Fields};
 pub use capacities::{Capacities, BASE, BLOCK_BYTES, LONGEST_IMAGE, SEGMENT_BLOCKS};
 pub use refusal::Refusal;
+pub use sending::{fingerprint, Fingerprint, Message, Sending, FINGERPRINT, LONGEST_MESSAGE, MOST_SEGMENTS};
 
 /// Bytes of a block of the page's measures.
 pub const BLOCK: usize = BASE[0] as usize;

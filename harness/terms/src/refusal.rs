@@ -19,6 +19,8 @@ pub enum Refusal {
     NoRun = 16,
     NeverGiven = 17,
     NoLongerHeld = 18,
+    OtherSegment = 19,
+    NoSegment = 20,
     StreamSize = 24,
     StreamLength = 25,
     StreamBits = 26,
@@ -26,7 +28,7 @@ pub enum Refusal {
 }
 
 impl Refusal {
-    pub const ALL: [Refusal; 16] = [
+    pub const ALL: [Refusal; 18] = [
         Refusal::Capacity,
         Refusal::Lengths,
         Refusal::NoSuchTill,
@@ -39,6 +41,8 @@ impl Refusal {
         Refusal::NoRun,
         Refusal::NeverGiven,
         Refusal::NoLongerHeld,
+        Refusal::OtherSegment,
+        Refusal::NoSegment,
         Refusal::StreamSize,
         Refusal::StreamLength,
         Refusal::StreamBits,
@@ -61,7 +65,7 @@ impl Refusal {
             Refusal::Capacity => "a capacity outside its range",
             Refusal::Lengths => "in laying out, pool or table of another length than needed",
             Refusal::NoSuchTill => "till number not below the tills",
-            Refusal::ImageLength => "image empty, or longer than block size × blocks per image",
+            Refusal::ImageLength => "image empty, or longer than block size × blocks per image, or lists of a message that do not fit",
             Refusal::ShortOutput => "output shorter than the version, its stream or a stream's image",
             Refusal::Unsound => "pool and table are not a sound store",
             Refusal::TillFull => "the till holds its full number of versions",
@@ -70,6 +74,10 @@ impl Refusal {
             Refusal::NoRun => "a segment to be placed finds no run",
             Refusal::NeverGiven => "a version number that is 0 or above the till's last given",
             Refusal::NoLongerHeld => "a version number given before and no longer held",
+            Refusal::OtherSegment => {
+                "a sent segment with another fingerprint, or a sent or had one with a byte other than zero after the length"
+            }
+            Refusal::NoSegment => "a segment neither sent nor had",
             Refusal::StreamSize => "a stream too short or too long",
             Refusal::StreamLength => "a stream with a length of 0 or above 65,536",
             Refusal::StreamBits => {
@@ -97,7 +105,7 @@ mod tests {
         for refusal in Refusal::ALL {
             assert_eq!(Refusal::from_number(refusal.number()), Some(refusal));
         }
-        for number in [0, 6, 7, 8, 9, 13, 15, 19, 23, 28, u32::MAX] {
+        for number in [0, 6, 7, 8, 9, 13, 15, 21, 23, 28, u32::MAX] {
             assert_eq!(Refusal::from_number(number), None);
         }
     }

@@ -2,9 +2,9 @@
 
 use crate::arguments::Named;
 use crate::names::{quoted, shown};
-use crate::words::counted;
+use crate::words::{bytes, counted};
 use crate::{image, numbers, table, Failure};
-use lurdempos::{Capacities, Listing, Refusal, Store, LAST_NUMBER, LONGEST_IMAGE};
+use lurdempos::{Capacities, Listing, Message, Refusal, Store, FINGERPRINT, LAST_NUMBER, LONGEST_IMAGE, MOST_SEGMENTS};
 use std::collections::HashSet;
 use std::path::Path;
 
@@ -54,6 +54,29 @@ impl<'a> Call<'a> {
             Refusal::Capacity | Refusal::Lengths | Refusal::ShortOutput | Refusal::NoTurn => unforeseen(),
             // Streams are read before there is a call.
             Refusal::StreamSize | Refusal::StreamLength | Refusal::StreamBits => unforeseen(),
+            Refusal::OtherSegment | Refusal::NoSegment => return self.message_refused(refusal, "the message"),
+        };
+        Failure::refused(refusal, here, advice)
+    }
+
+    /// The same for a till's second message, where the till must offer its fingerprints again.
+    pub fn message_refused(&self, refusal: Refusal, name: &str) -> Failure {
+        let again = format!("`lurdempos offer {} {} FINGERPRINTS OUT`", quoted(self.file), self.till);
+        let (here, advice) = match refusal {
+            Refusal::TillFull => {
+                let advice =
+                    format!("retire its oldest first: `{}`; then begin anew with {again}.", self.retire_oldest());
+                (self.till_full().0, advice)
+            }
+            Refusal::NoSegment => {
+                let here = format!("{name} leaves out a segment that this store does not have, or no longer");
+                (here, format!("begin anew with {again}, and send all segments that it does not mark."))
+            }
+            _ => {
+                let here =
+                    format!("{name} has a segment that is not what its fingerprint tells, or the image ends within it");
+                (here, format!("it was altered on its way, or is of two images: begin anew with {again}."))
+            }
         };
         Failure::refused(refusal, here, advice)
     }
@@ -216,6 +239,41 @@ pub fn stream_refused(refusal: Refusal, name: &str, stream: &[u8]) -> Failure {
         _ => (format!("{name} ends before its last block, or goes on behind it"), AGAIN),
     };
     Failure::refused(refusal, here, advice.into())
+}
+
+/// What was offered are no fingerprints, or not as many as an image of this store can have.
+pub fn no_fingerprints(file: &Path, store: &Store, name: &str, length: usize) -> Failure {
+    let capacities = store.capacities();
+    let (segment, most) = (capacities.segment_bytes(), capacities.segments());
+    let has = match length {
+        0 => format!("nothing came from {name}"),
+        _ if length > FINGERPRINT * MOST_SEGMENTS => format!("{name} has more than {}", bytes(length - 1)),
+        _ => format!("{name} has {}", bytes(length)),
+    };
+    let here = format!("{has}; there are {FINGERPRINT} for each {segment} of an image, 1 to {most} times");
+    let advice = format!(
+        "see that they came over whole, and were made for this store's segments, as `lurdempos fingerprints {} IMAGE OUT` \
+         makes them.",
+        quoted(file)
+    );
+    Failure::refused(Refusal::ImageLength, here, advice)
+}
+
+/// What was sent is no message for this store, or not a whole one.
+pub fn no_message(file: &Path, store: &Store, name: &str, message: Message) -> Failure {
+    let capacities = store.capacities();
+    let (most, segment, length) = (capacities.image_bytes(), capacities.segment_bytes(), message.length);
+    let here = if (1..=most).contains(&(length as usize)) {
+        format!("what follows the length of {length} in {name} is not what an image cut into segments of {segment} bytes has")
+    } else {
+        format!("{name} begins with a length of {length}, this store takes 1 to {most}")
+    };
+    let advice = format!(
+        "see that it came over whole and alone, and was made for this store's segments, as \
+         `lurdempos sent {} IMAGE MARKS OUT` makes it.",
+        quoted(file)
+    );
+    Failure::refused(Refusal::ImageLength, here, advice)
 }
 
 /// The file has the form of a store's, but what is in it is no sound store.

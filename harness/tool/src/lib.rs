@@ -22,6 +22,7 @@ mod manual;
 mod memory;
 mod names;
 mod numbers;
+mod outlet;
 mod outline;
 mod output;
 mod palette;

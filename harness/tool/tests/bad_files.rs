@@ -6,7 +6,7 @@ use lurdempos::{Capacities, Store};
 use std::fs;
 
 /// Every command on the file `s`.
-const LINES: [&str; 21] = [
+const LINES: [&str; 28] = [
     "backup s 0 image",
     "backup s 0 -",
     "restore s 0 1 out",
@@ -19,6 +19,13 @@ const LINES: [&str; 21] = [
     "diff s 0 1 2",
     "export s 0 1 out",
     "export s 0 1 -",
+    "fingerprints s image out",
+    "offer s 0 image out",
+    "offer s 0 - -",
+    "sent s image image out",
+    "backup-sent s 0 image",
+    "backup-sent s 0 -",
+    "backup-sent s 0 image --dry-run",
     "export-all s out",
     "grow s out",
     "list s",

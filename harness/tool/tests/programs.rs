@@ -5,7 +5,7 @@ use common::{letters, Bench, Run};
 use std::process::Command;
 
 /// Every command that answers, in an order in which all succeed.
-const LINES: [&str; 21] = [
+const LINES: [&str; 26] = [
     "init n --tills 1",
     "backup s 0 image",
     "backup s 0 image --unless-same",
@@ -14,6 +14,11 @@ const LINES: [&str; 21] = [
     "restore s 0 newest out",
     "export s 0 newest stream",
     "import s 1 stream",
+    "fingerprints s image prints",
+    "offer s 1 prints marks",
+    "sent s image marks message",
+    "backup-sent s 1 message --dry-run",
+    "backup-sent s 1 message",
     "verify s 0 newest other",
     "verify s 0 newest image",
     "diff s 0 1 2",

@@ -3,7 +3,7 @@
 mod common;
 use common::Bench;
 
-const COMMANDS: [&str; 16] = [
+const COMMANDS: [&str; 20] = [
     "init",
     "backup",
     "restore",
@@ -16,6 +16,10 @@ const COMMANDS: [&str; 16] = [
     "map",
     "export",
     "import",
+    "fingerprints",
+    "offer",
+    "sent",
+    "backup-sent",
     "export-all",
     "grow",
     "salvage",
@@ -53,7 +57,7 @@ fn no_command() {
 }
 
 /// Wrong lines, and what is said about them.
-const WRONG: [(&str, &str); 51] = [
+const WRONG: [(&str, &str); 61] = [
     ("init", "FILE is missing"),
     ("init n m", "one argument too many: m"),
     ("init n --till 3", "unknown option --till"),
@@ -82,6 +86,16 @@ const WRONG: [(&str, &str); 51] = [
     ("export s 0 1 - --json", "--json and a stream cannot go to one output"),
     ("import s 0", "IN is missing"),
     ("import s 0 image --force", "unknown option --force"),
+    ("fingerprints s image", "OUT is missing"),
+    ("fingerprints s image s", "is the store itself"),
+    ("fingerprints s image - --json", "--json and fingerprints cannot go to one output"),
+    ("offer s 0 image", "OUT is missing"),
+    ("offer s 0 image - --json", "--json and marks cannot go to one output"),
+    ("offer - 0 image out", "FILE has to be a file"),
+    ("sent s image", "MARKS is missing"),
+    ("sent s image marks s", "is the store itself"),
+    ("backup-sent s 0", "MESSAGE is missing"),
+    ("backup-sent s 0 image --rotate", "unknown option --rotate"),
     ("export-all s", "FOLDER is missing"),
     ("salvage s", "FOLDER is missing"),
     ("grow s", "NEW is missing"),

@@ -1,13 +1,15 @@
 //! Any pool and table, sound or not: both stores give the same answers and leave the same buffers.
 
 use keeper::course::{answer, Lane};
+use keeper::messages::Messages;
+use keeper::stock::Stock;
 use keeper::trial::letters;
 use keeper::words::Words;
 use keeper::{Call, Random};
 use lurdempos::Proved;
 use std::collections::BTreeSet;
 use terms::{Capacities, LONGEST_STREAM};
-use twin::Twin;
+use twin::{fingerprint_of, Twin};
 
 /// What one round of calls was answered.
 pub type Refusals = BTreeSet<u32>;
@@ -48,12 +50,17 @@ pub fn each_call(random: &mut Random, pool: &[u8], table: &[u32]) -> Vec<Call> {
         of_letters(random, capacities.block_bytes)
     };
     image.truncate(capacities.image_bytes());
+    let stock = Stock::of(pool, table, &fingerprint_of);
+    let messages = Messages { capacities, stock: &stock, print: &fingerprint_of };
+    let (fingerprints, room) = messages.offer(random, &image, false);
     vec![
         Call::Tally,
         Call::Listing { till },
         Call::Restore { till, version, room: capacities.image_bytes() },
         Call::WriteStream { till, version, room: LONGEST_STREAM },
         Call::Retire { till, version },
+        Call::Offer { till, fingerprints, room },
+        Call::Sent { till, sending: messages.sent(random, &image, false) },
         Call::Backup { till, image },
     ]
 }

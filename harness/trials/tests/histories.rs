@@ -39,6 +39,8 @@ fn every_refusal() -> BTreeSet<(char, u32)> {
         ('i', &[0, 3]),
         ('t', &[0]),
         ('s', &[0, 3, 5, 17, 18]),
+        ('f', &[0, 3, 4]),
+        ('m', &[0, 3, 4, 11, 14, 16, 19, 20]),
     ];
     wanted.into_iter().flat_map(|(call, numbers)| numbers.iter().map(move |&number| (call, number))).collect()
 }

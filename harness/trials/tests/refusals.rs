@@ -2,8 +2,9 @@
 
 use keeper::trial::{self, Trial};
 use std::collections::BTreeSet;
-use terms::{Calls, Capacities, Refusal, BASE, BLOCK_BYTES, SEGMENT_BLOCKS};
+use terms::{Calls, Capacities, Refusal, Sending, BASE, BLOCK_BYTES, SEGMENT_BLOCKS};
 use trials::stores;
+use twin::fingerprint_of;
 
 const TILL: usize = 8;
 
@@ -186,6 +187,124 @@ fn streams(store: &dyn Calls) -> Vec<(u32, u32)> {
     cases
 }
 
+/// The first message 10, 3, 4; marks that are refused stay as they were.
+fn offers(store: &dyn Calls) -> Vec<(u32, u32)> {
+    // Images of 17 blocks have three segments.
+    let mut one = Trial::new(store, Capacities::new(2, 2, 17, 4, 20));
+    let offer = |one: &Trial, till: u32, prints: usize, count: usize| {
+        let mut marks = vec![9; count];
+        let [refusal] = store.offer(&one.pool, &one.table, till, &vec![1; prints], &mut marks);
+        assert!(marks.iter().all(|&mark| mark == if refusal == 0 { 0 } else { 9 }), "marks after {refusal}");
+        refusal
+    };
+    let mut cases = vec![(offer(&one, 0, 20, 1), 0), (offer(&one, 1, 60, 3), 0)];
+    for (prints, count) in [(0, 0), (0, 1), (19, 0), (19, 1), (21, 1), (39, 1), (39, 2), (59, 3), (61, 3)] {
+        cases.push((offer(&one, 0, prints, count), 4));
+        cases.push((offer(&one, 2, prints, count), 3));
+    }
+    for (prints, count) in [(80, 4), (80, 3), (60, 4), (60, 2), (20, 2), (20, 0), (40, 1), (20_000, 1_000)] {
+        cases.push((offer(&one, 1, prints, count), 4));
+    }
+    cases.extend([(offer(&one, 2, 20, 1), 3), (offer(&one, u32::MAX, 20, 1), 3)]);
+    one.pool[0] = 1;
+    cases.extend([(offer(&one, 0, 20, 1), 10), (offer(&one, 2, 20, 1), 10), (offer(&one, 0, 0, 0), 10)]);
+    cases
+}
+
+/// The second message as `change` leaves it, of which all segments follow.
+fn changed(image: &[u8], change: impl Fn(&mut Sending)) -> Sending {
+    let mut sending = Sending::whole(image, 512, fingerprint_of);
+    change(&mut sending);
+    sending
+}
+
+/// Messages that are refused with 4: the length, the marks, the fingerprints, the segments.
+fn misfits() -> Vec<Sending> {
+    let whole = trial::letters("ABCDEFGHIJ", 64);
+    let changes: [fn(&mut Sending); 19] = [
+        |sending| sending.length = 0,
+        |sending| sending.length = 512,
+        |sending| sending.length = 1_025,
+        |sending| sending.length = 1_537,
+        |sending| sending.length = u32::MAX,
+        |sending| sending.marks[0] = 2,
+        |sending| sending.marks[1] = 255,
+        |sending| (sending.marks[0], sending.marks[1]) = (0, 2),
+        |sending| sending.marks[0] = 0,
+        |sending| sending.marks.push(0),
+        |sending| sending.marks.truncate(1),
+        |sending| sending.marks.clear(),
+        |sending| sending.fingerprints.truncate(39),
+        |sending| sending.fingerprints.truncate(20),
+        |sending| sending.fingerprints.extend([1; 20]),
+        |sending| sending.segments.truncate(1_023),
+        |sending| sending.segments.truncate(512),
+        |sending| sending.segments.push(0),
+        |sending| sending.segments.clear(),
+    ];
+    let mut all: Vec<Sending> = changes.map(|change| changed(&whole, change)).into();
+    // Nothing at all, and an image with one byte too many.
+    all.push(Sending::default());
+    all.push(Sending::whole(&[7; 17 * 64 + 1], 512, fingerprint_of));
+    all
+}
+
+/// The second message 10, 3, 4, 11, 12, then 19 and 20 at the first segment that has either, then 14 before 16.
+fn messages(store: &dyn Calls) -> Vec<(u32, u32)> {
+    let mut cases = Vec::new();
+    let mut one = Trial::new(store, Capacities::new(2, 2, 17, 2, 9));
+    let make = |one: &mut Trial, till, sending: &Sending| {
+        let before = (one.pool.clone(), one.table.clone());
+        let answer = store.backup_sent(&mut one.pool, &mut one.table, till, sending.message());
+        let stays = answer[1] == 0 && before == (one.pool.clone(), one.table.clone());
+        assert!(answer[0] == 0 || stays, "altered though refused with {}", answer[0]);
+        answer[0]
+    };
+    let small = changed(&letters("A"), |_| {});
+    let other = changed(&letters("B"), |sending| sending.fingerprints[0] ^= 1);
+    let unknown = changed(&letters("B"), |sending| (sending.marks[0], sending.segments) = (0, vec![]));
+    for sending in misfits() {
+        cases.push((make(&mut one, 0, &sending), 4));
+        cases.push((make(&mut one, 2, &sending), 3));
+    }
+    one.table[TILL] = 65_533;
+    cases.push((make(&mut one, 0, &other), 19));
+    cases.push((make(&mut one, 0, &unknown), 20));
+    cases.extend([(make(&mut one, 0, &small), 0), (make(&mut one, 0, &small), 0)]);
+    for sending in [&small, &other, &unknown] {
+        cases.push((make(&mut one, 0, sending), 11));
+        cases.push((make(&mut one, 2, sending), 3));
+    }
+    misfits().iter().for_each(|sending| cases.push((make(&mut one, 0, sending), 4)));
+    cases.push((store.retire(&mut one.pool, &mut one.table, 0, 65_534)[0], 0));
+    [&small, &other, &unknown].into_iter().for_each(|sending| cases.push((make(&mut one, 0, sending), 12)));
+
+    // Eight cells are left, and one record: 19 and 20 of a later segment come before 14 and 16 of an earlier one.
+    let large = |text: &str, change: fn(&mut Sending)| changed(&letters(text), change);
+    let wrong: fn(&mut Sending) = |sending| sending.fingerprints[39] ^= 1;
+    let lacking: fn(&mut Sending) = |sending| {
+        sending.marks[1] = 0;
+        sending.segments.truncate(512);
+    };
+    for (text, refusal) in [("abcdefghabcdefghi", 14), ("abcdefghbcdefghi", 14), ("abcdefgh", 0)] {
+        if refusal != 0 {
+            cases.push((make(&mut one, 1, &large(text, wrong)), 19));
+        }
+        if text.len() == 16 {
+            cases.push((make(&mut one, 1, &large(text, lacking)), 20));
+        }
+        cases.push((make(&mut one, 1, &large(text, |_| {})), refusal));
+    }
+    let mut one = Trial::new(store, Capacities::new(1, 4, 24, 2, 10));
+    cases.push((make(&mut one, 0, &large("ABCDEFGHabcdefghx", wrong)), 19));
+    cases.push((make(&mut one, 0, &large("ABCDEFGHabcdefgh", lacking)), 20));
+    cases.push((make(&mut one, 0, &large("ABCDEFGHabcdefghx", |_| {})), 16));
+    one.pool[64 * 9] = 1;
+    [&small, &other, &unknown].into_iter().for_each(|sending| cases.push((make(&mut one, 0, sending), 10)));
+    misfits().iter().for_each(|sending| cases.push((make(&mut one, 2, sending), 10)));
+    cases
+}
+
 /// Turn 27: the till count, a mark, the last till.
 fn turns(store: &dyn Calls) -> Vec<(u32, u32)> {
     let refused = [[0, 0, 0], [17, 0, 0], [u32::MAX, 0, 0], [3, 8, 0], [3, 1 << 31, 0], [3, 0, 3], [3, 0, u32::MAX]];
@@ -200,6 +319,8 @@ fn every_number() {
     met.extend(numbers(backups));
     met.extend(numbers(others));
     met.extend(numbers(streams));
+    met.extend(numbers(offers));
+    met.extend(numbers(messages));
     met.extend(numbers(turns));
     let all: BTreeSet<u32> = Refusal::ALL.iter().map(|refusal| refusal.number()).chain([0]).collect();
     assert_eq!(met, all);

@@ -1,7 +1,7 @@
 //! The twin's calls with answers as bare numbers.
 
 use crate::Era;
-use terms::{numbers, Calls, Capacities};
+use terms::{numbers, Calls, Capacities, Message};
 
 /// The twin, where a test can be put to more than one store.
 pub struct Twin;
@@ -50,6 +50,18 @@ impl Calls for Twin {
 
     fn read_stream(&self, stream: &[u8], output: &mut [u8]) -> [u32; 2] {
         numbers(crate::read_stream(stream, output))
+    }
+
+    fn offer(&self, pool: &[u8], table: &[u32], till: u32, fingerprints: &[u8], marks: &mut [u8]) -> [u32; 1] {
+        numbers(crate::offer(pool, table, till, fingerprints, marks))
+    }
+
+    fn backup_sent(&self, pool: &mut [u8], table: &mut [u32], till: u32, message: Message) -> [u32; 2] {
+        numbers(crate::backup_sent(pool, table, till, message))
+    }
+
+    fn sha1(&self, message: &[u8]) -> [u32; 5] {
+        crate::sha1(message)
     }
 
     fn turn(&self, mut record: [u32; 3]) -> [u32; 6] {

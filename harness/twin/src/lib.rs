@@ -8,6 +8,8 @@ mod line;
 mod place;
 mod rows;
 mod runs;
+mod sent;
+mod sha1;
 mod sound;
 mod stream;
 mod sweep;
@@ -20,6 +22,9 @@ pub use era::Era;
 use layout::{Layout, Place, Pointer, Record, HEADER, SLOT_HEAD, TILL_HEAD};
 pub use line::take_turn;
 use rows::Rows;
+pub use sent::{backup_sent, offer};
+pub use sha1::{fingerprint_of, sha1};
+use sound::Found;
 pub use stream::{read_stream, stream_of, write_stream};
 use terms::{Capacities, Listing, Refusal, Restored, Tally, LAST_NUMBER};
 use trace::End;
@@ -71,18 +76,37 @@ pub fn backup(pool: &mut [u8], table: &mut [u32], till: u32, image: &[u8]) -> Re
 
 /// The same by the rule of an era.
 pub fn backup_by(era: Era, pool: &mut [u8], table: &mut [u32], till: u32, image: &[u8]) -> Result<u32, Refusal> {
-    let sound::Found { layout, mut occupied } = sound::check(pool, table)?;
-    let till = layout.till(till)?;
-    if image.is_empty() || image.len() > layout.bytes * layout.blocks {
+    let found = sound::check(pool, table)?;
+    let till = found.layout.till(till)?;
+    if image.is_empty() || image.len() > found.layout.bytes * found.layout.blocks {
         return Err(Refusal::ImageLength);
     }
-    let (last, held) = (layout.till_of(table, till).last(), layout.till_of(table, till).held());
-    if held == layout.versions {
+    room_in(&found.layout, table, till)?;
+    file(found, era, pool, table, till, image)
+}
+
+/// Whether a till can take one more version.
+fn room_in(layout: &Layout, table: &[u32], till: usize) -> Result<(), Refusal> {
+    let till = layout.till_of(table, till);
+    if till.held() == layout.versions {
         return Err(Refusal::TillFull);
     }
-    if last == LAST_NUMBER {
+    if till.last() == LAST_NUMBER {
         return Err(Refusal::NumbersSpent);
     }
+    Ok(())
+}
+
+/// Files an image that has a length, for a till that has room.
+fn file(
+    Found { layout, mut occupied }: Found,
+    era: Era,
+    pool: &mut [u8],
+    table: &mut [u32],
+    till: usize,
+    image: &[u8],
+) -> Result<u32, Refusal> {
+    let (last, held) = (layout.till_of(table, till).last(), layout.till_of(table, till).held());
     let mut cells = layout.cells_of_mut(pool);
     let (words, mut records) = layout.parts(table);
     let bytes = place::fill_up(image, &layout);
@@ -127,7 +151,7 @@ pub fn restore(pool: &[u8], table: &[u32], till: u32, version: u32, output: &mut
 
 /// Takes a held version away and answers its length.
 pub fn retire(pool: &mut [u8], table: &mut [u32], till: u32, version: u32) -> Result<u32, Refusal> {
-    let sound::Found { layout, mut occupied } = sound::check(pool, table)?;
+    let Found { layout, mut occupied } = sound::check(pool, table)?;
     let till = layout.till(till)?;
     let before = layout.till_of(table, till);
     let slot = before.slot_with(version)?;

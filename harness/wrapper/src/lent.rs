@@ -2,7 +2,7 @@
 //! the refusal first.
 
 use crate::raw;
-use terms::{Calls, Capacities};
+use terms::{Calls, Capacities, Message};
 
 /// The proved store. Slices that are lent are valid for as long as a call lasts, lengths are theirs, and the lent
 /// buffers do not overlap, since one that is written is lent to nobody else: this is all that the archive asks for.
@@ -89,6 +89,50 @@ impl Calls for Proved {
         // SAFETY: both are slices, the output lent for writing to this call alone.
         let answer = unsafe { raw::lurdempos_read_stream(stream.as_ptr(), bytes, output.as_mut_ptr(), room) };
         [answer.refusal, answer.length]
+    }
+
+    fn offer(&self, pool: &[u8], table: &[u32], till: u32, fingerprints: &[u8], marks: &mut [u8]) -> [u32; 1] {
+        let (prints, count) = (fingerprints.len(), marks.len());
+        let (fingerprints, marks) = (fingerprints.as_ptr(), marks.as_mut_ptr());
+        // SAFETY: all four are slices, the marks lent for writing to this call alone.
+        let answer = unsafe {
+            let (bytes, words) = (pool.len(), table.len());
+            let (pool, table) = (pool.as_ptr(), table.as_ptr());
+            raw::lurdempos_offer(pool, bytes, table, words, till, fingerprints, prints, marks, count)
+        };
+        [answer.refusal]
+    }
+
+    fn backup_sent(&self, pool: &mut [u8], table: &mut [u32], till: u32, message: Message) -> [u32; 2] {
+        let Message { length, fingerprints, marks, segments } = message;
+        let (bytes, words) = (pool.len(), table.len());
+        let (pool, table) = (pool.as_mut_ptr(), table.as_mut_ptr());
+        // SAFETY: all five are slices, the first two lent for writing to this call alone.
+        let answer = unsafe {
+            let (prints, count, rest) = (fingerprints.len(), marks.len(), segments.len());
+            let (fingerprints, marks, segments) = (fingerprints.as_ptr(), marks.as_ptr(), segments.as_ptr());
+            raw::lurdempos_backup_sent(
+                pool,
+                bytes,
+                table,
+                words,
+                till,
+                length,
+                fingerprints,
+                prints,
+                marks,
+                count,
+                segments,
+                rest,
+            )
+        };
+        [answer.refusal, answer.version]
+    }
+
+    fn sha1(&self, message: &[u8]) -> [u32; 5] {
+        // SAFETY: the message is a slice, lent for reading.
+        let raw::Digest { h0, h1, h2, h3, h4 } = unsafe { raw::lurdempos_sha1(message.as_ptr(), message.len()) };
+        [h0, h1, h2, h3, h4]
     }
 
     fn turn(&self, [tills, waiting, last]: [u32; 3]) -> [u32; 6] {

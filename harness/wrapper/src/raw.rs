@@ -76,6 +76,24 @@ pub struct ReadStreamAnswer {
     pub length: u32,
 }
 
+/// Of an offer, the first message.
+#[repr(C)]
+#[derive(Clone, Copy, Debug, PartialEq, Eq)]
+pub struct OfferAnswer {
+    pub refusal: u32,
+}
+
+/// A SHA-1: five words, the first with the first four of its 20 bytes, the highest first.
+#[repr(C)]
+#[derive(Clone, Copy, Debug, PartialEq, Eq)]
+pub struct Digest {
+    pub h0: u32,
+    pub h1: u32,
+    pub h2: u32,
+    pub h3: u32,
+    pub h4: u32,
+}
+
 /// A turn record.
 #[repr(C)]
 #[derive(Clone, Copy, Debug, PartialEq, Eq)]
@@ -186,6 +204,35 @@ extern "C" {
         output: *mut u8,
         output_len: usize,
     ) -> ReadStreamAnswer;
+
+    pub fn lurdempos_offer(
+        pool: *const u8,
+        pool_len: usize,
+        table: *const u32,
+        table_len: usize,
+        till: u32,
+        fingerprints: *const u8,
+        fingerprints_len: usize,
+        marks: *mut u8,
+        marks_len: usize,
+    ) -> OfferAnswer;
+
+    pub fn lurdempos_backup_sent(
+        pool: *mut u8,
+        pool_len: usize,
+        table: *mut u32,
+        table_len: usize,
+        till: u32,
+        length: u32,
+        fingerprints: *const u8,
+        fingerprints_len: usize,
+        marks: *const u8,
+        marks_len: usize,
+        segments: *const u8,
+        segments_len: usize,
+    ) -> BackupAnswer;
+
+    pub fn lurdempos_sha1(message: *const u8, message_len: usize) -> Digest;
 
     pub fn lurdempos_turn(turn: TurnRecord) -> TurnResult;
 }

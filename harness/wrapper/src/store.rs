@@ -1,7 +1,7 @@
 //! A store that owns its two buffers.
 
 use crate::Proved;
-use terms::{Calls, Capacities, Listing, Refusal, Restored, Tally, LONGEST_STREAM};
+use terms::{Calls, Capacities, Listing, Message, Refusal, Restored, Tally, FINGERPRINT, LONGEST_STREAM};
 
 /// Words of the table that these capacities need.
 pub fn table_length(capacities: Capacities) -> Result<usize, Refusal> {
@@ -81,6 +81,20 @@ impl Store {
         let length = self.write_stream(till, version, &mut stream)?;
         stream.truncate(length as usize);
         Ok(stream)
+    }
+
+    /// Marks with 1, else 0, each segment that the store has, by their fingerprints: those that a till need not send.
+    pub fn offer(&self, till: u32, fingerprints: &[u8]) -> Result<Vec<u8>, Refusal> {
+        let mut marks = vec![0; fingerprints.len() / FINGERPRINT];
+        let [refusal] = Proved.offer(&self.pool, &self.table, till, fingerprints, &mut marks);
+        accepted(refusal).map(|()| marks)
+    }
+
+    /// Files the image that a message and what the store has make together, as the till's next version, and answers its
+    /// number.
+    pub fn backup_sent(&mut self, till: u32, message: Message) -> Result<u32, Refusal> {
+        let [refusal, version] = Proved.backup_sent(&mut self.pool, &mut self.table, till, message);
+        accepted(refusal).map(|()| version)
     }
 
     /// Takes a held version away and answers its length. Numbers go on; the others keep theirs.

@@ -4,15 +4,12 @@ use crate::advice::Call;
 use crate::arguments::Arguments;
 use crate::json::Json;
 use crate::names::shown;
-use crate::output::{self, Output};
-use crate::patience::Patience;
+use crate::outlet::Outlet;
 use crate::reply::Reply;
 use crate::storefile::{self, Opened};
-use crate::streams::Stream;
 use crate::syntax::{Argument, Command, Takes, FILE, FORCE, TILL, VERSION, WAIT};
 use crate::words::bytes;
 use crate::Failure;
-use std::os::unix::fs::MetadataExt;
 
 pub static COMMAND: Command = Command {
     name: "export",
@@ -33,33 +30,22 @@ The bare image is what `restore` writes, and those of all versions `export-all`.
 
 fn run(arguments: &Arguments) -> Result<Reply, Failure> {
     let (file, till) = (arguments.store()?, arguments.number(1)?);
-    let (version, path) = (arguments.version(2)?, arguments.path(3)?);
-    let (patience, stream) = (Patience::asked(arguments)?, Stream::named(path));
-    if stream.is_some() && arguments.has("--json") {
-        return Err(arguments.wrong("--json and a stream cannot go to one output; name a file for the stream"));
-    }
-    output::apart(file, path)?;
+    let (version, outlet) = (arguments.version(2)?, Outlet::asked(arguments, 3, "a stream")?);
     let Opened { store, metadata, .. } = storefile::open(file)?;
     let call = Call::of_till(file, &store, till);
     let version = call.number(version)?;
     let written = store.stream(till, version).map_err(|refusal| Call { version, ..call }.refused(refusal))?;
     // It begins with the image's length.
     let length = written.first_chunk().map_or(0, |&first| u32::from_le_bytes(first));
-    if let Some(stream) = stream {
-        return Ok(Reply::data(stream, written));
-    }
-    // A stream is not for more eyes than the store.
-    let mode = Some(metadata.mode());
-    Output { path, force: arguments.has("--force"), mode, patience }.put(&written)?;
-    let (shown, of, as_stream) = (shown(path), bytes(length as usize), bytes(written.len()));
-    let text = format!("till {till}: version {version} of {of} written to {shown}, a stream of {as_stream}\n");
+    let (to, of, as_stream) = (shown(outlet.path), bytes(length as usize), bytes(written.len()));
+    let text = format!("till {till}: version {version} of {of} written to {to}, a stream of {as_stream}\n");
     let fields = Json::object([
         ("file", file.into()),
         ("till", till.into()),
         ("version", version.into()),
-        ("output", path.into()),
+        ("output", outlet.path.into()),
         ("bytes", length.into()),
         ("stream_bytes", written.len().into()),
     ]);
-    Ok(Reply::done(text, fields))
+    outlet.put(written, &metadata, Reply::done(text, fields))
 }

@@ -1,6 +1,7 @@
 //! The commands, and the choice between them.
 
 mod backup;
+mod backup_sent;
 mod capacities;
 mod check;
 mod demo;
@@ -8,14 +9,17 @@ mod diff;
 mod dry_run;
 mod export;
 mod export_all;
+mod fingerprints;
 mod grow;
 mod import;
 mod init;
 mod list;
 mod map;
+mod offer;
 mod restore;
 mod retire;
 mod salvage;
+mod sent;
 mod tally;
 mod verify;
 
@@ -27,7 +31,7 @@ use crate::syntax::Command;
 use crate::{completions, help, manual, Failure};
 use std::ffi::{OsStr, OsString};
 
-pub static COMMANDS: [&Command; 16] = [
+pub static COMMANDS: [&Command; 20] = [
     &init::COMMAND,
     &backup::COMMAND,
     &restore::COMMAND,
@@ -40,6 +44,10 @@ pub static COMMANDS: [&Command; 16] = [
     &map::COMMAND,
     &export::COMMAND,
     &import::COMMAND,
+    &fingerprints::COMMAND,
+    &offer::COMMAND,
+    &sent::COMMAND,
+    &backup_sent::COMMAND,
     &export_all::COMMAND,
     &grow::COMMAND,
     &salvage::COMMAND,

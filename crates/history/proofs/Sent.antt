@@ -1,0 +1,72 @@
+-- A second message of §5 does what the backup does that it comes to.
+use mathlib.Core.Path.{_≡_, refl, sym, _∙_}
+use mathlib.Core.Bool.{false}
+use mathlib.Core.List.{List, []}
+use mathlib.Core.Option.{Option, none, some}
+use Prim.Native.Nat.{ℕ}
+use native.Mathlib.Nat.{suc-ne-zero}
+use lib.Dec.{eqb, leb}
+use borrow.Author.Tests.{ne-eqb}
+use Rattle.lists.proofs.Tests.{by-test}
+use Rattle.model.specs.Measures.{Shape}
+use Rattle.model.specs.State.{State, Outcome, refused, done}
+use Rattle.model.specs.Image.{withBlanks}
+use Rattle.model.specs.Sound.{Store}
+use Rattle.model.specs.Calls.{backup, backupAnswer, backupIn, After}
+use Rattle.sha1.specs.Sha1.{sha1}
+use Rattle.sent.specs.Sent.{made, backupOn, backupSent, backupSentIn}
+use Rattle.sent_laws.proofs.Numbers.{NotZero, made-or-refused}
+use Rattle.history.specs.Calls.{Call, callLayout, callBackup, callRestore, callRetire, callListing, callTally, callWriteStream, callOffer, callBackupSent, stateOr, stateAfter, outcomeRefusal, answerIn, refusalIn, isAccepted}
+use Rattle.history.specs.Keeper.{imageOr, imageSent, comesTo}
+use Rattle.history.specs.View.{IsPlain}
+
+module _ (s : Shape) (st : State) where
+  -- the store of a state
+  abbrev pub here : Option Store
+  here = some (record { shape = s; state = st })
+
+  -- no image is refused
+  none-kept : (t : ℕ) → (stateOr st (backup withBlanks s st t []) ≡ st) × (eqb (outcomeRefusal (backup withBlanks s st t [])) 0 ≡ false)
+  unfolding backup stateOr outcomeRefusal
+  none-kept t =
+      by-test (λ (o : Outcome After). (stateOr st o ≡ st) × (eqb (outcomeRefusal o) 0 ≡ false)) (leb (s .capacities .tills) t) (λ e. (refl, refl)) (λ e. (refl, refl))
+
+  abbrev Alike : Outcome After → Outcome After → Type 0
+  Alike o q = (stateOr st o ≡ stateOr st q) × (eqb (outcomeRefusal o) 0 ≡ eqb (outcomeRefusal q) 0)
+
+  pub sent-alike : (t n : ℕ) (fs ms ss : List ℕ) → Alike (backupSent sha1 s st t n fs ms ss) (backup withBlanks s st t (imageSent here t n fs ms ss))
+  unfolding backupSent imageSent
+  sent-alike t n fs ms ss = go (made sha1 s st t n fs ms ss) (made-or-refused sha1 s st t n fs ms ss)
+    where
+      go : (o : Outcome (List ℕ)) → NotZero o → Alike (backupOn s st t o) (backup withBlanks s st t (imageOr o))
+      go (refused k) h =
+          unfold backupOn imageOr stateOr outcomeRefusal in
+          (sym (unfold stateOr in none-kept t .0), ne-eqb k 0 h ∙ sym (unfold outcomeRefusal in none-kept t .1))
+      go (done image) h = unfold backupOn imageOr in (refl, refl)
+
+  -- a call and what it comes to
+  pub through : (call : Call) → (stateAfter s st call ≡ stateAfter s st (comesTo here call)) × (isAccepted s st call ≡ isAccepted s st (comesTo here call)) × IsPlain (comesTo here call)
+  unfolding stateAfter isAccepted answerIn refusalIn comesTo
+  through (callLayout c) = (refl, refl, tt)
+  through (callBackup era t image) = (refl, refl, tt)
+  through (callRestore t v output) = (refl, refl, tt)
+  through (callRetire t v) = (refl, refl, tt)
+  through (callListing t) = (refl, refl, tt)
+  through callTally = (refl, refl, tt)
+  through (callWriteStream t v output) = (refl, refl, tt)
+  through (callOffer t fs ms) = (refl, refl, tt)
+  through (callBackupSent t n fs ms ss) = let a = sent-alike t n fs ms ss in (a .0, a .1, tt)
+
+-- of any buffers, an accepted one is that backup
+pub accepted-is : (o : Option Store) (pool table : List ℕ) (t n : ℕ) (fs ms ss : List ℕ) → backupSentIn sha1 o pool table t n fs ms ss .refusal ≡ 0
+    → backupSentIn sha1 o pool table t n fs ms ss ≡ backupIn withBlanks o pool table t (imageSent o t n fs ms ss)
+unfolding backupSentIn backupIn imageSent
+accepted-is none pool table t n fs ms ss e = absurd (suc-ne-zero 9 e)
+accepted-is (some x) pool table t n fs ms ss e =
+    unfold backupSent in
+    go (made sha1 (x .shape) (x .state) t n fs ms ss) (made-or-refused sha1 (x .shape) (x .state) t n fs ms ss) (unfold backupSent in e)
+  where
+    go : (o : Outcome (List ℕ)) → NotZero o → backupAnswer pool table (x .shape) (backupOn (x .shape) (x .state) t o) .refusal ≡ 0
+        → backupAnswer pool table (x .shape) (backupOn (x .shape) (x .state) t o) ≡ backupAnswer pool table (x .shape) (backup withBlanks (x .shape) (x .state) t (imageOr o))
+    go (refused k) h e = absurd (h (unfold backupOn backupAnswer in e))
+    go (done image) h e = unfold backupOn imageOr in refl

@@ -1,0 +1,3 @@
+-- Rows computed from the definitions.
+pub mod Steps
+pub mod Rows
