@@ -12,9 +12,9 @@ use borrow.Author.Tests.{eqb-true, eqb-false, leb-true, leb-false}
 use Rattle.model.specs.Measures.{Shape}
 use Rattle.model.specs.State.{State}
 use Rattle.model.specs.Sound.{isSound, Store, storeOf}
-use Rattle.model.specs.Calls.{emptyTill, tillOf, emptyState, backup, retire}
+use Rattle.model.specs.Calls.{emptyTill, tillOf, emptyState, backup, retire, outcomeRefusal}
 use Rattle.laws.proofs.Fits.{Proper}
-use Rattle.history.specs.Calls.{Call, callLayout, callBackup, callRestore, callRetire, callListing, callTally, callWriteStream, callOffer, callBackupSent, Buffers, refusalOf, buffersAfter, refusedLayouts, stateAfter, stateAfterAll, outcomeRefusal, answerIn, refusalIn, isAccepted}
+use Rattle.history.specs.Calls.{Call, callLayout, callBackup, callRestore, callRetire, callListing, callTally, callWriteStream, callOffer, callBackupSent, Buffers, refusalOf, buffersAfter, refusedLayouts, stateAfter, stateAfterAll, answerIn, refusalIn, isAccepted}
 use Rattle.history.specs.Keeper.{KeptTill, Keeper, noTill, freshKeeper, keptTill, filed, struckOut, comesTo, fed, fedAll}
 use Rattle.history.specs.View.{TillView, viewVersions, viewOf, viewAt, tillNamed, changed, IsPlain}
 use Rattle.history.proofs.Kept.{AgreeTill, till-filed, till-struck}

@@ -11,11 +11,11 @@ use Rattle.model.specs.Measures.{Shape}
 use Rattle.model.specs.Image.{Era, withBlanks}
 use Rattle.model.specs.State.{State, Outcome, refused, done}
 use Rattle.model.specs.Sound.{isSound}
-use Rattle.model.specs.Calls.{backup, retire, After}
+use Rattle.model.specs.Calls.{backup, retire, After, stateOr, outcomeRefusal}
 use Rattle.laws.proofs.Fits.{Proper}
 use Rattle.laws.proofs.Backup.{backup-filed}
 use Rattle.laws.proofs.Retire.{retire-done}
-use Rattle.history.specs.Calls.{Call, callLayout, callBackup, callRestore, callRetire, callListing, callTally, callWriteStream, callOffer, callBackupSent, stateOr, stateAfter, outcomeRefusal, answerIn, refusalIn, isAccepted}
+use Rattle.history.specs.Calls.{Call, callLayout, callBackup, callRestore, callRetire, callListing, callTally, callWriteStream, callOffer, callBackupSent, stateAfter, answerIn, refusalIn, isAccepted}
 use Rattle.history.specs.Keeper.{imageSent}
 use Rattle.history.specs.View.{viewAt, tillNamed, changed, IsPlain}
 use Rattle.history.proofs.Sent.{here, sent-alike}

@@ -7,11 +7,11 @@ use Rattle.model.specs.Measures.{Shape}
 use Rattle.model.specs.Image.{Era, withBlanks}
 use Rattle.model.specs.State.{State, Outcome, refused, done}
 use Rattle.model.specs.Sound.{isSound}
-use Rattle.model.specs.Calls.{backup, retire, After}
+use Rattle.model.specs.Calls.{backup, retire, After, stateOr}
 use Rattle.laws.proofs.Fits.{Proper}
 use Rattle.laws.proofs.Backup.{backup-sound}
 use Rattle.laws.proofs.Retire.{retire-sound}
-use Rattle.history.specs.Calls.{Call, callLayout, callBackup, callRestore, callRetire, callListing, callTally, callWriteStream, callOffer, callBackupSent, stateOr, stateAfter}
+use Rattle.history.specs.Calls.{Call, callLayout, callBackup, callRestore, callRetire, callListing, callTally, callWriteStream, callOffer, callBackupSent, stateAfter}
 use Rattle.history.specs.Keeper.{imageSent}
 use Rattle.history.proofs.Sent.{here, sent-alike}
 

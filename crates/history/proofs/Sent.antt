@@ -12,11 +12,11 @@ use Rattle.model.specs.Measures.{Shape}
 use Rattle.model.specs.State.{State, Outcome, refused, done}
 use Rattle.model.specs.Image.{withBlanks}
 use Rattle.model.specs.Sound.{Store}
-use Rattle.model.specs.Calls.{backup, backupAnswer, backupIn, After}
+use Rattle.model.specs.Calls.{backup, backupAnswer, backupIn, After, stateOr, outcomeRefusal}
 use Rattle.sha1.specs.Sha1.{sha1}
 use Rattle.sent.specs.Sent.{made, backupOn, backupSent, backupSentIn}
 use Rattle.sent_laws.proofs.Numbers.{NotZero, made-or-refused}
-use Rattle.history.specs.Calls.{Call, callLayout, callBackup, callRestore, callRetire, callListing, callTally, callWriteStream, callOffer, callBackupSent, stateOr, stateAfter, outcomeRefusal, answerIn, refusalIn, isAccepted}
+use Rattle.history.specs.Calls.{Call, callLayout, callBackup, callRestore, callRetire, callListing, callTally, callWriteStream, callOffer, callBackupSent, stateAfter, answerIn, refusalIn, isAccepted}
 use Rattle.history.specs.Keeper.{imageOr, imageSent, comesTo}
 use Rattle.history.specs.View.{IsPlain}
 

@@ -9,14 +9,14 @@ use Rattle.model.specs.Measures.{Shape}
 use Rattle.model.specs.State.{State, Outcome, refused, done}
 use Rattle.model.specs.Table.{stateToWords, stateToBytes}
 use Rattle.model.specs.Sound.{isSound, Store, storeOf}
-use Rattle.model.specs.Calls.{emptyState, layoutOf, backup, backupIn, backupBy, backupAnswer, restoreIn, restoreOf, retire, retireIn, retireOf, retireAnswer, listingIn, listingOf, tallyIn, tallyOf, After}
+use Rattle.model.specs.Calls.{emptyState, layoutOf, backup, backupIn, backupBy, backupAnswer, restoreIn, restoreOf, retire, retireIn, retireOf, retireAnswer, listingIn, listingOf, tallyIn, tallyOf, After, stateOr, outcomeRefusal, outcomeNumber}
 use Rattle.laws.proofs.Fits.{Fit, range-fit}
 use Rattle.laws.proofs.RoundTrip.{round-trip}
 use Rattle.laws.proofs.Empty.{empty-sound, layout-refused, layout-accepted}
 use Rattle.sha1.specs.Sha1.{sha1}
 use Rattle.sent.specs.Sent.{offerIn, offerOf, backupSent, backupSentIn, backupSentBy, backupSentOf}
 use Rattle.stream.specs.Version.{longestOutput, writeRestored, writeVersion, writeStreamOf}
-use Rattle.history.specs.Calls.{Call, callLayout, callBackup, callRestore, callRetire, callListing, callTally, callWriteStream, callOffer, callBackupSent, Buffers, refusalOf, buffersAfter, buffersAfterAll, laidOut, backedUp, restored, retired, listed, tallied, streamed, offered, answerOf, answersOf, refusalIn, refusedLayout, refusedLayouts, stateOr, stateAfter, stateAfterAll, outcomeRefusal, outcomeNumber, answerIn, answersIn, isAccepted}
+use Rattle.history.specs.Calls.{Call, callLayout, callBackup, callRestore, callRetire, callListing, callTally, callWriteStream, callOffer, callBackupSent, Buffers, refusalOf, buffersAfter, buffersAfterAll, laidOut, backedUp, restored, retired, listed, tallied, streamed, offered, answerOf, answersOf, refusalIn, refusedLayout, refusedLayouts, stateAfter, stateAfterAll, answerIn, answersIn, isAccepted}
 use Rattle.history.specs.Demand.{laidOutIn}
 use Rattle.history.proofs.Reach.{sound-after}
 

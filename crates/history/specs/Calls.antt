@@ -7,9 +7,9 @@ use mathlib.Core.Option.{some}
 use lib.Dec.{eqb}
 use Rattle.model.specs.Measures.{Shape}
 use Rattle.model.specs.Image.{Era}
-use Rattle.model.specs.State.{State, Outcome, refused, done}
+use Rattle.model.specs.State.{State}
 use Rattle.model.specs.Table.{stateToWords, stateToBytes}
-use Rattle.model.specs.Calls.{layoutOf, backupBy, restoreOf, retireOf, listingOf, tallyOf, backup, restore, retire, listingIn, tallyIn, RestoreAnswer, ListingAnswer, TallyAnswer, After}
+use Rattle.model.specs.Calls.{layoutOf, backupBy, restoreOf, retireOf, listingOf, tallyOf, backup, restore, retire, listingIn, tallyIn, RestoreAnswer, ListingAnswer, TallyAnswer, stateOr, outcomeRefusal, outcomeNumber}
 use Rattle.stream.specs.Stream.{StreamAnswer}
 use Rattle.stream.specs.Version.{writeVersion, writeStreamOf}
 use Rattle.sha1.specs.Sha1.{sha1}
@@ -117,10 +117,6 @@ refusedLayouts b (c ∷ cs) = refusedLayout b c × refusedLayouts (buffersAfter 
 
 -- ---- the state, call by call from the empty store, with no buffer in between
 
-unfoldable pub stateOr : State → Outcome After → State
-stateOr st (refused n) = st
-stateOr st (done a) = a .state
-
 unfoldable pub stateAfter : Shape → State → Call → State
 stateAfter s st (callLayout c) = st
 stateAfter s st (callBackup era t image) = stateOr st (backup era s st t image)
@@ -135,14 +131,6 @@ stateAfter s st (callBackupSent t n fs ms ss) = stateOr st (backupSent sha1 s st
 unfoldable pub stateAfterAll : Shape → State → List Call → State
 stateAfterAll s st [] = st
 stateAfterAll s st (c ∷ cs) = stateAfterAll s (stateAfter s st c) cs
-
-unfoldable pub outcomeRefusal : Outcome After → ℕ
-outcomeRefusal (refused n) = n
-outcomeRefusal (done a) = 0
-
-unfoldable pub outcomeNumber : Outcome After → ℕ
-outcomeNumber (refused n) = 0
-outcomeNumber (done a) = a .answer
 
 -- what each call answers on a state: there is always a sound store, so no call gets 10
 unfoldable pub answerIn : Shape → State → Call → Answer

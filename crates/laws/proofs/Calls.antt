@@ -9,7 +9,7 @@ use Rattle.model.specs.Image.{Era}
 use Rattle.model.specs.State.{State, Outcome, refused, done}
 use Rattle.model.specs.Table.{stateToWords, stateToBytes}
 use Rattle.model.specs.Sound.{isSound, Store, storeOf}
-use Rattle.model.specs.Calls.{layoutOf, emptyState, backup, backupAnswer, backupIn, backupBy, retire, retireAnswer, retireIn, retireOf, After}
+use Rattle.model.specs.Calls.{layoutOf, emptyState, backup, backupAnswer, backupIn, backupBy, retire, retireAnswer, retireIn, retireOf, After, stateOr}
 use Rattle.laws.proofs.Fits.{Fit, range-fit}
 use Rattle.laws.proofs.Serves.{sound-valid}
 use Rattle.laws.proofs.RoundTrip.{round-trip, store-found}
@@ -34,15 +34,25 @@ module _ (pool table : List ℕ) (x : Store) (e : storeOf pool table ≡ some x)
   fit : Fit (x .shape)
   fit = range-fit (x .shape) (sound-valid (x .shape) (x .state) (store-found pool table x e .sound) .range)
 
-  pub backup-leaves : (era : Era) (t : ℕ) (image : List ℕ) → IsStore (backupBy era pool table t image .pool) (backupBy era pool table t image .table)
+  -- the store that a backup leaves
+  pub backup-store : (era : Era) (t : ℕ) (image : List ℕ)
+      → storeOf (backupBy era pool table t image .pool) (backupBy era pool table t image .table)
+      ≡ some (record { shape = x .shape; state = stateOr (x .state) (backup era (x .shape) (x .state) t image) })
   unfolding backupBy backupIn
-  backup-leaves era t image = rw e (go (backup era (x .shape) (x .state) t image) refl)
+  backup-store era t image = rw e (go (backup era (x .shape) (x .state) t image) refl)
     where
       go : (o : Outcome After) → backup era (x .shape) (x .state) t image ≡ o
-          → IsStore (backupAnswer pool table (x .shape) o .pool) (backupAnswer pool table (x .shape) o .table)
-      go (refused n) q = unfold backupAnswer in record { store = x; is = e }
+          → storeOf (backupAnswer pool table (x .shape) o .pool) (backupAnswer pool table (x .shape) o .table) ≡ some (record { shape = x .shape; state = stateOr (x .state) o })
+      go (refused n) q = unfold backupAnswer stateOr in e
       go (done a) q =
-          unfold backupAnswer in left (x .shape) (a .state) fit (backup-sound era (x .shape) (fit .proper) t image (x .state) a (store-found pool table x e .sound) q)
+          unfold backupAnswer stateOr in
+          round-trip (x .shape) (a .state) fit (backup-sound era (x .shape) (fit .proper) t image (x .state) a (store-found pool table x e .sound) q)
+
+  pub backup-leaves : (era : Era) (t : ℕ) (image : List ℕ) → IsStore (backupBy era pool table t image .pool) (backupBy era pool table t image .table)
+  backup-leaves era t image = record {
+    store = record { shape = x .shape; state = stateOr (x .state) (backup era (x .shape) (x .state) t image) };
+    is = backup-store era t image;
+  }
 
   pub retire-leaves : (t v : ℕ) → IsStore (retireOf pool table t v .pool) (retireOf pool table t v .table)
   unfolding retireOf retireIn

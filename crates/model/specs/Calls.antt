@@ -81,6 +81,19 @@ pub record After : Type 0 where
   pub state : State
   pub answer : ℕ
 
+-- what a call that may be refused leaves of a state, and its refusal, or 0, and its number
+unfoldable pub stateOr : State → Outcome After → State
+stateOr st (refused n) = st
+stateOr st (done a) = a .state
+
+unfoldable pub outcomeRefusal : Outcome After → ℕ
+outcomeRefusal (refused n) = n
+outcomeRefusal (done a) = 0
+
+unfoldable pub outcomeNumber : Outcome After → ℕ
+outcomeNumber (refused n) = 0
+outcomeNumber (done a) = a .answer
+
 -- the pointers of the till's previous held version (its newest), and the held versions with others in their place
 unfoldable pub newestPointers : List Version → List Pointer
 newestPointers [] = []
