@@ -5,8 +5,8 @@
  * table, 32-bit words in the machine's order. Nothing else is kept between
  * calls, nothing is allocated, and no call reads or writes past the lengths
  * given. A buffer's length counts its elements: bytes of a pool, image, stream
- * or output, words of a table. A buffer of length 0 needs a pointer that is not
- * null. The buffers of one call must not overlap. A call needs less than 512 KiB
+ * or output, words of a table or list. A buffer of length 0 needs a pointer that
+ * is not null. The buffers of one call must not overlap. A call needs less than 512 KiB
  * of stack.
  *
  * Every answer begins with a refusal. 0 is an accepted call. A refused call
@@ -18,7 +18,8 @@
  *    3  till number not below the tills
  *    4  image empty, or longer than block_bytes * blocks per image; a message
  *       of a till that sends only what is lacking whose lists do not fit the
- *       length or each other, or that has a mark other than 0 and 1
+ *       length or each other, or that has a mark other than 0 and 1; a closing
+ *       of more than 16 images, or whose lists do not fit each other
  *    5  output shorter than the version; than the stream that a version is
  *       written as, or the image that a stream is read as
  *   10  pool and table are not a sound store
@@ -82,6 +83,9 @@ extern "C" {
 /* The bytes of a fingerprint. */
 #define LURDEMPOS_FINGERPRINT 20
 
+/* The most images that one closing can have. */
+#define LURDEMPOS_MOST_IMAGES 16
+
 /* The words that a table of these capacities has. */
 struct lurdempos_table_length_answer {
     uint32_t refusal;
@@ -96,6 +100,15 @@ struct lurdempos_lay_out_answer {
 struct lurdempos_backup_answer {
     uint32_t refusal;
     uint32_t version;
+};
+
+/* For each image in order its own refusal and the number of its new version; one
+ * of the two is 0. Places past the last image are 0, and all are if the whole
+ * call is refused. */
+struct lurdempos_backup_all_answer {
+    uint32_t refusal;
+    uint32_t refusals[LURDEMPOS_MOST_IMAGES];
+    uint32_t versions[LURDEMPOS_MOST_IMAGES];
 };
 
 /* The version's length in bytes; the most indirect pointers followed for any
@@ -211,6 +224,20 @@ struct lurdempos_lay_out_answer lurdempos_lay_out(
 struct lurdempos_backup_answer lurdempos_backup(
     uint8_t *pool, size_t pool_bytes, uint32_t *table, size_t table_words,
     uint32_t till, const uint8_t *image, size_t image_bytes);
+
+/* A closing of several tills: keeps up to LURDEMPOS_MOST_IMAGES images, each as
+ * lurdempos_backup keeps one, in their order. Image i is the next lengths[i] of
+ * the bytes, and till tills[i]'s newest version; a till may have several. An
+ * image that is refused does not stop the later ones: answers and store are
+ * those of single backups made in this order, but the store is checked once.
+ * None at all is accepted.
+ * Refusals of the whole: 10, then 4 for too many images, lists of unequal count,
+ * or lengths that do not add up to images_bytes. Each image's own: 3, 4, 11, 12,
+ * 14, 16, as in a backup. */
+struct lurdempos_backup_all_answer lurdempos_backup_all(
+    uint8_t *pool, size_t pool_bytes, uint32_t *table, size_t table_words,
+    const uint32_t *tills, size_t tills_count, const uint32_t *lengths,
+    size_t lengths_count, const uint8_t *images, size_t images_bytes);
 
 /* Writes the version to the front of the output; later bytes stay.
  * Refusals: 10, 3, 17 or 18, 5. */

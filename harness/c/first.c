@@ -1,6 +1,6 @@
 /*
  * A first image kept and restored, moved as a stream, the next sent without
- * what the box has, and two turns on the line, from C (and, since it compiles as both, from C++). Prints what the calls answer; ends with status 1 at the first
+ * what the box has, a closing of both tills, and two turns on the line, from C (and, since it compiles as both, from C++). Prints what the calls answer; ends with status 1 at the first
  * answer that is not as expected.
  */
 #include "lurdempos.h"
@@ -141,6 +141,40 @@ static int sent(size_t words)
         && restored.length == 513 && memcmp(image, output, 513) == 0;
 }
 
+/* Both tills close, till 0 twice, and a till 2 that is not there: its image is
+ * refused and the others are kept. Lengths that add up in 32 bits alone are
+ * refused as a whole. */
+static int closed(size_t words)
+{
+    static uint8_t images[1000], output[1024];
+    uint32_t tills[4] = {0, 2, 1, 0}, lengths[4] = {300, 100, 500, 100};
+    struct lurdempos_backup_all_answer all;
+    struct lurdempos_restore_answer restored;
+
+    memset(images, 'c', sizeof images);
+    all = lurdempos_backup_all(pool, sizeof pool, table, words, tills, 4,
+                               lengths, 4, images, sizeof images);
+    if (!expect("closing", all.refusal, LURDEMPOS_ACCEPTED)
+        || !expect("closing, till 2", all.refusals[1], LURDEMPOS_NO_SUCH_TILL)
+        || all.refusals[0] != 0 || all.refusals[2] != 0 || all.refusals[3] != 0
+        || all.versions[0] != 3 || all.versions[1] != 0
+        || all.versions[2] != 3 || all.versions[3] != 4
+        || all.refusals[4] != 0 || all.versions[15] != 0)
+        return 0;
+    restored = lurdempos_restore(pool, sizeof pool, table, words, 1, 3, output,
+                                 sizeof output);
+    if (!expect("restore", restored.refusal, LURDEMPOS_ACCEPTED)
+        || restored.length != 500 || memcmp(images, output, 500) != 0)
+        return 0;
+    lengths[1] = UINT32_MAX;
+    lengths[2] = 601;
+    all = lurdempos_backup_all(pool, sizeof pool, table, words, tills, 4,
+                               lengths, 4, images, sizeof images);
+    return expect("closing, lengths that do not add up", all.refusal,
+                  LURDEMPOS_IMAGE_LENGTH)
+        && all.versions[0] == 0;
+}
+
 int main(void)
 {
     uint8_t image[500], output[512];
@@ -212,7 +246,7 @@ int main(void)
     if (!expect("listing", listing.refusal, LURDEMPOS_ACCEPTED)
         || listing.oldest != 1 || listing.newest != 1 || listing.last != 2)
         return 1;
-    if (!sent(words))
+    if (!sent(words) || !closed(words))
         return 1;
     pool[0] ^= 1;
     table[0] = 17;

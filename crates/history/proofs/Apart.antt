@@ -6,14 +6,18 @@ use mathlib.Core.List.{List, [], _∷_}
 use Prim.Native.Nat.{ℕ}
 use lib.Dec.{eqb}
 use borrow.Author.Tests.{eqb-true, eqb-false}
+use Rattle.lists.specs.Each.{Each}
+use Rattle.lists.proofs.Each.{each-weaken}
 use Rattle.model.specs.Measures.{Shape}
 use Rattle.model.specs.State.{State}
-use Rattle.history.specs.Calls.{Call, callLayout, callBackup, callRestore, callRetire, callListing, callTally, callWriteStream, callOffer, callBackupSent, Buffers, refusalOf, answerOf, buffersAfter, refusedLayout, stateAfter, refusalIn, isAccepted}
+use Rattle.history.specs.Calls.{Call, callLayout, callBackup, callRestore, callRetire, callListing, callTally, callWriteStream, callOffer, callBackupSent, callBackupAll, Buffers, refusalOf, answerOf, buffersAfter, refusedLayout, stateAfter, refusalIn, isAccepted}
+use Rattle.history.specs.Keeper.{CallMade, comesTo}
 use Rattle.history.specs.View.{TillView, viewAt, isOnTill, tillNamed, answerShown, changed, IsPlain}
 use Rattle.history.proofs.Steps.{Left, left-one, accepted-same, refusal-in}
 use Rattle.history.proofs.Frame.{frame-own}
 use Rattle.history.proofs.Local.{HasRoom}
 use Rattle.history.proofs.Order.{other-after}
+use Rattle.history.proofs.Carried.{carried, carried-other}
 use Rattle.history.proofs.Bullets.{answer-shown}
 
 -- a call of both histories, or of one
@@ -34,15 +38,21 @@ changed-none bytes callTally ok w e = refl
 changed-none bytes (callWriteStream t v output) ok w e = refl
 changed-none bytes (callOffer t fs ms) ok w e = refl
 changed-none bytes (callBackupSent t n fs ms ss) ok w e = refl
+changed-none bytes (callBackupAll ts ns is) ok w e = refl
 
 module _ (s : Shape) (u : ℕ) where
-  -- the histories: calls of one are on till `u` and accepted; no backup of both is answered 14 or 16, and no second message of §5 is in both
+  -- what a call comes to is on till `u`
+  abbrev pub OnlyOn : Buffers → Call → Type 0
+  OnlyOn b c = Each (λ (m : CallMade). tillNamed (m .call) ≡ u) (comesTo b c)
+
+  -- the histories: calls of one are on till `u` and accepted; no backup of both is answered 14 or 16, and no second message of §5 and no closing of §7 is in
+  -- both
   abbrev pub Differ : Buffers → Buffers → List Item → Type 0
   Differ b b′ [] = Unit {0}
   Differ b b′ (both c ∷ items) =
       (refusedLayout b c × refusedLayout b′ c) × (HasRoom c (answerOf b c) × HasRoom c (answerOf b′ c) × IsPlain c) × Differ (buffersAfter b c) (buffersAfter b′ c) items
-  Differ b b′ (first c ∷ items) = (tillNamed c ≡ u) × (refusedLayout b c × (refusalOf b c ≡ 0)) × Differ (buffersAfter b c) b′ items
-  Differ b b′ (second c ∷ items) = (tillNamed c ≡ u) × (refusedLayout b′ c × (refusalOf b′ c ≡ 0)) × Differ b (buffersAfter b′ c) items
+  Differ b b′ (first c ∷ items) = OnlyOn b c × (refusedLayout b c × (refusalOf b c ≡ 0)) × Differ (buffersAfter b c) b′ items
+  Differ b b′ (second c ∷ items) = OnlyOn b′ c × (refusedLayout b′ c × (refusalOf b′ c ≡ 0)) × Differ b (buffersAfter b′ c) items
 
   -- what both have: the same answers to calls on other tills
   abbrev pub Agree : Buffers → Buffers → List Item → Type 0
@@ -84,7 +94,13 @@ module _ (s : Shape) (u : ℕ) where
             subst (λ (x : ℕ). viewAt (s .measures .blockBytes) (stateAfter s st c) x ≡ viewAt (s .measures .blockBytes) (stateAfter s st′ c) x) (sym e)
             (own-both (λ z. ne (e ∙ z)) (isOnTill c) refl)
         go false q =
-            let away : t ≡ tillNamed c → ⊥ = eqb-false t (tillNamed c) q in other-after s b st c l t away ∙ o t ne ∙ sym (other-after s b′ st′ c l′ t away)
+            let away : t ≡ tillNamed c → ⊥ = eqb-false t (tillNamed c) q in other-after s b st c plain l t away ∙ o t ne ∙ sym (other-after s b′ st′ c plain l′ t away)
+
+  -- a call that is on `u` only
+  off-one : (b : Buffers) (st : State) → Left s b st → (c : Call) → OnlyOn b c → Off (stateAfter s st c) st
+  off-one b st l c on t ne =
+      carried-other s (l .fit .proper) (comesTo b c) st (stateAfter s st c) (l .sound) (carried s b st l c) t
+      (each-weaken (λ (m : CallMade). tillNamed (m .call) ≡ u) (λ (m : CallMade). t ≡ tillNamed (m .call) → ⊥) (λ m e q. ne (q ∙ e)) (comesTo b c) on)
 
   -- The law, from any two states whose other tills agree; two fresh stores are such.
   pub histories-agree : (items : List Item) (b b′ : Buffers) (st st′ : State) → Left s b st → Left s b′ st′ → Off st st′ → Differ b b′ items → Agree b b′ items
@@ -95,6 +111,6 @@ module _ (s : Shape) (u : ℕ) where
         (off-both b b′ st st′ l l′ o c (d .1 .0) (d .1 .1) (d .1 .2)) (d .2),
   )
   histories-agree (first c ∷ items) b b′ st st′ l l′ o d =
-      histories-agree items (buffersAfter b c) b′ (stateAfter s st c) st′ (left-one s b st c l (d .1 .0)) l′ (λ t ne. other-after s b st c l t (λ q. ne (q ∙ d .0)) ∙ o t ne) (d .2)
+      histories-agree items (buffersAfter b c) b′ (stateAfter s st c) st′ (left-one s b st c l (d .1 .0)) l′ (λ t ne. off-one b st l c (d .0) t ne ∙ o t ne) (d .2)
   histories-agree (second c ∷ items) b b′ st st′ l l′ o d =
-      histories-agree items b (buffersAfter b′ c) st (stateAfter s st′ c) l (left-one s b′ st′ c l′ (d .1 .0)) (λ t ne. o t ne ∙ sym (other-after s b′ st′ c l′ t (λ q. ne (q ∙ d .0)))) (d .2)
+      histories-agree items b (buffersAfter b′ c) st (stateAfter s st′ c) l (left-one s b′ st′ c l′ (d .1 .0)) (λ t ne. o t ne ∙ sym (off-one b′ st′ l′ c (d .0) t ne)) (d .2)

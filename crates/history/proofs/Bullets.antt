@@ -8,7 +8,7 @@ use native.Mathlib.Omega.{arith}
 use lib.ListN.{length, drop, List·getD-eq-default}
 use lib.Seq.{getD-set-same}
 use lib.Dec.{eqb, leb, ltb}
-use borrow.Author.Tests.{le-leb, le-ltb, lt-leb, lt-ltb, leb-true, leb-false}
+use borrow.Author.Tests.{eq-eqb, le-leb, le-ltb, lt-leb, lt-ltb, leb-true, leb-false}
 use Rattle.lists.proofs.Tests.{by-test}
 use Rattle.model.specs.Measures.{Shape}
 use Rattle.model.specs.Image.{Era, withBlanks}
@@ -17,11 +17,11 @@ use Rattle.model.specs.Trace.{longestChain}
 use Rattle.laws.proofs.Tills.{not-held-some}
 use Rattle.model.specs.Sound.{storeOf}
 use Rattle.model.specs.Calls.{tillOf, heldFrom, BackupAnswer, backupBy, restoreOf, restoreRefusal, retireOf, listingOf, listingRefusal, RestoreAnswer, ListingAnswer, retire, backup, notHeld}
-use Rattle.history.specs.Calls.{Call, callBackup, callBackupSent, callRestore, callRetire, callListing, Buffers, Answer, laidOut, backedUp, restored, retired, listed, tallied, streamed, offered, answerOf, refusalIn}
-use Rattle.history.specs.Keeper.{Kept, KeptTill, Keeper, noTill, keptTill, filed, imageSent, comesTo, fed, keptFrom, oldestKept, newestKept}
+use Rattle.history.specs.Calls.{Call, callBackup, callBackupSent, callRestore, callRetire, callListing, Buffers, refusalOf, Answer, laidOut, backedUp, restored, retired, listed, tallied, streamed, offered, backedUpAll, answerOf, refusalIn}
+use Rattle.history.specs.Keeper.{Kept, KeptTill, Keeper, noTill, keptTill, filed, imageSent, fed, fedEach, comesTo, keptFrom, oldestKept, newestKept}
 use Rattle.history.specs.View.{VersionView, TillView, viewOf, viewAt, isOnTill, tillNamed, chainShown, shownFrom, oldestShown, newestShown, restoreShown, retireShown, answerShown}
 use Rattle.sent.specs.Sent.{backupSentBy, backupSentOf}
-use Rattle.history.specs.Demand.{Restores, Answers}
+use Rattle.history.specs.Demand.{Restores}
 use Rattle.history.proofs.Sent.{accepted-is}
 use Rattle.history.proofs.Local.{Roomy, HasRoom, answer-in}
 use Rattle.history.proofs.Shown.{from-same, chain-is}
@@ -39,6 +39,7 @@ unrestored (listed a) = restoreRefusal 0 []
 unrestored (tallied a) = restoreRefusal 0 []
 unrestored (streamed a) = restoreRefusal 0 []
 unrestored (offered a) = restoreRefusal 0 []
+unrestored (backedUpAll a) = restoreRefusal 0 []
 
 unlisted : Answer → ListingAnswer
 unlisted (laidOut n) = listingRefusal n
@@ -49,6 +50,7 @@ unlisted (listed a) = a
 unlisted (tallied a) = listingRefusal 0
 unlisted (streamed a) = listingRefusal 0
 unlisted (offered a) = listingRefusal 0
+unlisted (backedUpAll a) = listingRefusal 0
 
 -- a version's number, or a length
 numberIn : Answer → ℕ
@@ -60,6 +62,7 @@ numberIn (listed a) = 0
 numberIn (tallied a) = 0
 numberIn (streamed a) = 0
 numberIn (offered a) = 0
+numberIn (backedUpAll a) = 0
 
 -- The law: a call on a till answers what the till's view says, 14 and 16 apart.
 pub answer-shown : (s : Shape) (b : Buffers) (st : State) → Left s b st → (call : Call) → isOnTill call ≡ true → HasRoom call (answerOf b call)
@@ -223,7 +226,7 @@ module _ (s : Shape) (b : Buffers) (st : State) (k : Keeper) (l : Left s b st) (
   unfolding fed keptTill filed
   fed-last era t image h = ap (λ (y : KeptTill). y .last) (getD-set-same k t (filed (keptTill k t) image) noTill h)
 
-  retire-given : (t v : ℕ) → retireOf (b .pool) (b .table) t v .refusal ≡ 0
+  pub retire-given : (t v : ℕ) → retireOf (b .pool) (b .table) t v .refusal ≡ 0
       → (x : Kept) × (newer : List Kept) × (keptFrom v (keptTill k t .versions) ≡ x ∷ newer) × (retireOf (b .pool) (b .table) t v .length ≡ length (x .image))
   unfolding answerOf answerShown tillNamed refusalIn numberIn shown
   retire-given t v =
@@ -240,7 +243,7 @@ module _ (s : Shape) (b : Buffers) (st : State) (k : Keeper) (l : Left s b st) (
           (subst (Agree (s .measures .blockBytes) (keptFrom v (keptTill k t .versions))) (f .2) (held t v)) in
           (x .0, x .1, x .2, f .3 ∙ x .3)
 
-  retire-goes : (t v : ℕ) (x : Kept) (newer : List Kept) → keptFrom v (keptTill k t .versions) ≡ x ∷ newer → retireOf (b .pool) (b .table) t v .refusal ≡ 0
+  pub retire-goes : (t v : ℕ) (x : Kept) (newer : List Kept) → keptFrom v (keptTill k t .versions) ≡ x ∷ newer → retireOf (b .pool) (b .table) t v .refusal ≡ 0
   unfolding answerOf answerShown tillNamed refusalIn shown
   retire-goes t v x newer e =
       ap refusalIn (answer-is (callRetire t v) refl tt)
@@ -251,7 +254,7 @@ module _ (s : Shape) (b : Buffers) (st : State) (k : Keeper) (l : Left s b st) (
       go [] a = absurd a
       go (w ∷ ws) a = unfold retireShown refusalIn in refl
 
-  retire-not : (t v : ℕ) → keptFrom v (keptTill k t .versions) ≡ [] → t < length k → retireOf (b .pool) (b .table) t v .refusal ≡ notHeld (keptTill k t .last) v
+  pub retire-not : (t v : ℕ) → keptFrom v (keptTill k t .versions) ≡ [] → t < length k → retireOf (b .pool) (b .table) t v .refusal ≡ notHeld (keptTill k t .last) v
   unfolding answerOf answerShown tillNamed refusalIn shown
   retire-not t v e h =
       ap refusalIn (answer-is (callRetire t v) refl tt)
@@ -263,38 +266,34 @@ module _ (s : Shape) (b : Buffers) (st : State) (k : Keeper) (l : Left s b st) (
       go n [] a = unfold retireShown refusalIn in refl
       go n (w ∷ ws) a = absurd a
 
-  backup-last : (era : Era) (t : ℕ) (image : List ℕ) → backupBy era (b .pool) (b .table) t image .refusal ≡ 0
+  pub backup-last : (era : Era) (t : ℕ) (image : List ℕ) → backupBy era (b .pool) (b .table) t image .refusal ≡ 0
       → backupBy era (b .pool) (b .table) t image .version ≡ keptTill (fed k (callBackup era t image) true) t .last
   backup-last era t image e =
       let g = backup-given era t image e in
       g .0 ∙ ap suc (last-is t) ∙ sym (fed-last era t image (omega (arith, leb-false (s .capacities .tills) t (g .1), z .many)))
 
-  sent-last : (t n : ℕ) (fs ms ss : List ℕ) → backupSentOf (b .pool) (b .table) t n fs ms ss .refusal ≡ 0
-      → backupSentOf (b .pool) (b .table) t n fs ms ss .version ≡ keptTill (fed k (comesTo (storeOf (b .pool) (b .table)) (callBackupSent t n fs ms ss)) true) t .last
-  unfolding comesTo
+  pub sent-last : (t n : ℕ) (fs ms ss : List ℕ) → backupSentOf (b .pool) (b .table) t n fs ms ss .refusal ≡ 0
+      → backupSentOf (b .pool) (b .table) t n fs ms ss .version ≡ keptTill (fedEach k (comesTo b (callBackupSent t n fs ms ss))) t .last
+  unfolding comesTo fedEach refusalOf
   sent-last t n fs ms ss e =
-      let same : backupSentOf (b .pool) (b .table) t n fs ms ss ≡ backupBy withBlanks (b .pool) (b .table) t (imageSent (storeOf (b .pool) (b .table)) t n fs ms ss) =
+      let image : List ℕ = imageSent (storeOf (b .pool) (b .table)) t n fs ms ss in
+      let same : backupSentOf (b .pool) (b .table) t n fs ms ss ≡ backupBy withBlanks (b .pool) (b .table) t image =
       unfold backupSentOf backupSentBy backupBy in accepted-is (storeOf (b .pool) (b .table)) (b .pool) (b .table) t n fs ms ss (unfold backupSentOf backupSentBy in e) in
       ap (λ (a : BackupAnswer). a .version) same
-      ∙ backup-last withBlanks t (imageSent (storeOf (b .pool) (b .table)) t n fs ms ss) (sym (ap (λ (a : BackupAnswer). a .refusal) same) ∙ e)
+      ∙ backup-last withBlanks t image (sym (ap (λ (a : BackupAnswer). a .refusal) same) ∙ e)
+      ∙ ap (λ (ok : Bool). keptTill (fed k (callBackup withBlanks t image) ok) t .last) (sym (eq-eqb (backupSentOf (b .pool) (b .table) t n fs ms ss .refusal) 0 e))
 
-  pub answers : Answers (s .measures .blockBytes) st k b
+  pub listing-kept : (t : ℕ) → listingOf (b .pool) (b .table) t .refusal ≡ 0
+      → (listingOf (b .pool) (b .table) t .oldest ≡ oldestKept (keptTill k t .versions))
+      × (listingOf (b .pool) (b .table) t .newest ≡ newestKept (keptTill k t .versions))
+      × (listingOf (b .pool) (b .table) t .last ≡ keptTill k t .last)
   unfolding listingRefusal
-  answers = record {
-    listing = λ t.
-        subst (λ (r : ListingAnswer). r .refusal ≡ 0
-        → (r .oldest ≡ oldestKept (keptTill k t .versions)) × (r .newest ≡ newestKept (keptTill k t .versions)) × (r .last ≡ keptTill k t .last))
-        (sym (listing-is t))
-        (by-test (λ (r : ListingAnswer). r .refusal ≡ 0
-        → (r .oldest ≡ oldestKept (keptTill k t .versions)) × (r .newest ≡ newestKept (keptTill k t .versions)) × (r .last ≡ keptTill k t .last))
-        (leb (s .capacities .tills) t) (λ q z. absurd (suc-ne-zero 2 z)) (λ q e. (
-          agree-oldest (s .measures .blockBytes) (keptTill k t .versions) (shown t .versions) (unfold shown in z .tills t .1),
-          agree-newest (s .measures .blockBytes) (keptTill k t .versions) (shown t .versions) (unfold shown in z .tills t .1),
-          last-is t,
-        )));
-    backup = backup-last;
-    backupSent = sent-last;
-    goes = retire-goes;
-    notHeld = retire-not;
-    retire = retire-given;
-  }
+  listing-kept t =
+      subst Kept-by (sym (listing-is t)) (by-test Kept-by (leb (s .capacities .tills) t) (λ q z. absurd (suc-ne-zero 2 z)) (λ q e. (
+        agree-oldest (s .measures .blockBytes) (keptTill k t .versions) (shown t .versions) (unfold shown in z .tills t .1),
+        agree-newest (s .measures .blockBytes) (keptTill k t .versions) (shown t .versions) (unfold shown in z .tills t .1),
+        last-is t,
+      )))
+    where
+      Kept-by : ListingAnswer → Type 0
+      Kept-by r = r .refusal ≡ 0 → (r .oldest ≡ oldestKept (keptTill k t .versions)) × (r .newest ≡ newestKept (keptTill k t .versions)) × (r .last ≡ keptTill k t .last)

@@ -26,7 +26,8 @@ use Rattle.history.proofs.Kept.{isDirectKind, Agree, agree-from, agree-
 use Rattle.history.proofs.Fed.{Stands, stands-fresh, stands-all}
 use Rattle.history.proofs.Steps.{Left, left-all, left-laid, answers-same, left-store}
 use Rattle.history.proofs.Cells.{named-leads}
-use Rattle.history.proofs.Bullets.{restores, answers}
+use Rattle.history.proofs.Bullets.{restores}
+use Rattle.history.proofs.Answered.{answers}
 use Rattle.history.proofs.Streams.{streams}
 
 -- ---- a block that a version shares with one taken while it was the newest

@@ -2,7 +2,6 @@
 use mathlib.Core.Path.{_≡_, refl, sym, ap, _∙_, subst}
 use mathlib.Core.Bool.{Bool, true, false}
 use mathlib.Core.List.{List, [], _∷_}
-use mathlib.Core.Option.{Option}
 use Prim.Native.Nat.{ℕ, zero, suc, _-_, _≤_}
 use native.Mathlib.Omega.{arith}
 use lib.ListN.{length, getD, set, replicate, length-set, length-replicate}
@@ -11,17 +10,18 @@ use lib.Dec.{eqb, leb}
 use borrow.Author.Tests.{eqb-true, eqb-false, leb-true, leb-false}
 use Rattle.model.specs.Measures.{Shape}
 use Rattle.model.specs.State.{State}
-use Rattle.model.specs.Sound.{isSound, Store, storeOf}
+use Rattle.model.specs.Sound.{isSound}
 use Rattle.model.specs.Calls.{emptyTill, tillOf, emptyState, backup, retire, outcomeRefusal}
 use Rattle.laws.proofs.Fits.{Proper}
-use Rattle.history.specs.Calls.{Call, callLayout, callBackup, callRestore, callRetire, callListing, callTally, callWriteStream, callOffer, callBackupSent, Buffers, refusalOf, buffersAfter, refusedLayouts, stateAfter, stateAfterAll, answerIn, refusalIn, isAccepted}
-use Rattle.history.specs.Keeper.{KeptTill, Keeper, noTill, freshKeeper, keptTill, filed, struckOut, comesTo, fed, fedAll}
+use Rattle.history.specs.Calls.{Call, callLayout, callBackup, callRestore, callRetire, callListing, callTally, callWriteStream, callOffer, callBackupSent, callBackupAll, Buffers, buffersAfter, refusedLayouts, stateAfter, stateAfterAll, answerIn, refusalIn, isAccepted}
+use Rattle.history.specs.Keeper.{KeptTill, Keeper, noTill, freshKeeper, keptTill, filed, struckOut, fed, CallMade, fedEach, comesTo, fedAll}
 use Rattle.history.specs.View.{TillView, viewVersions, viewOf, viewAt, tillNamed, changed, IsPlain}
 use Rattle.history.proofs.Kept.{AgreeTill, till-filed, till-struck}
 use Rattle.history.proofs.Shown.{shown-numbers}
-use Rattle.history.proofs.Sent.{here, through}
 use Rattle.history.proofs.Frame.{frame-own, frame-other}
-use Rattle.history.proofs.Steps.{Left, left-store, left-one, accepted-same}
+use Rattle.history.proofs.Reach.{sound-after}
+use Rattle.history.proofs.Steps.{Left, left-one}
+use Rattle.history.proofs.Carried.{Carries, carried}
 
 -- ---- the keeper, till by till
 
@@ -38,6 +38,7 @@ change callTally ok y = y
 change (callWriteStream t v output) ok y = y
 change (callOffer t fs ms) ok y = y
 change (callBackupSent t n fs ms ss) ok y = y
+change (callBackupAll ts ns is) ok y = y
 
 fed-is : (k : Keeper) (call : Call) (ok : Bool) → fed k call ok ≡ set k (tillNamed call) (change call ok (keptTill k (tillNamed call)))
 unfolding fed tillNamed change keptTill
@@ -52,6 +53,7 @@ fed-is k callTally ok = sym (set-getD k 0 noTill)
 fed-is k (callWriteStream t v output) ok = sym (set-getD k t noTill)
 fed-is k (callOffer t fs ms) ok = sym (set-getD k t noTill)
 fed-is k (callBackupSent t n fs ms ss) ok = sym (set-getD k t noTill)
+fed-is k (callBackupAll ts ns is) ok = sym (set-getD k 0 noTill)
 
 -- ---- the keeper `k` beside the state `st`
 
@@ -95,6 +97,7 @@ module _ (s : Shape) (pr : Proper (s .measures)) (st : State) (h : isSound s st 
   own-agrees (callWriteStream t v output) y a = a
   own-agrees (callOffer t fs ms) y a = a
   own-agrees (callBackupSent t n fs ms ss) y a = a
+  own-agrees (callBackupAll ts ns is) y a = a
 
   -- a call on a till that is not there is refused, and changes nothing
   change-none : (call : Call) → leb (s .capacities .tills) (tillNamed call) ≡ true → (y : KeptTill) → change call (isAccepted s st call) y ≡ y
@@ -108,6 +111,7 @@ module _ (s : Shape) (pr : Proper (s .measures)) (st : State) (h : isSound s st 
   change-none (callWriteStream t v output) e y = refl
   change-none (callOffer t fs ms) e y = refl
   change-none (callBackupSent t n fs ms ss) e y = refl
+  change-none (callBackupAll ts ns is) e y = refl
 
   module _ (k : Keeper) (z : Stands s k st) where
     fed-own : (call : Call) → keptTill (fed k call (isAccepted s st call)) (tillNamed call) ≡ change call (isAccepted s st call) (keptTill k (tillNamed call))
@@ -126,7 +130,7 @@ module _ (s : Shape) (pr : Proper (s .measures)) (st : State) (h : isSound s st 
     unfolding keptTill
     fed-other call ok t ne = ap (λ (l : Keeper). getD l t noTill) (fed-is k call ok) ∙ getD-set-other k (tillNamed call) t _ noTill ne
 
-    stands-plain : (call : Call) → IsPlain call → Stands s (fed k call (isAccepted s st call)) (stateAfter s st call)
+    pub stands-plain : (call : Call) → IsPlain call → Stands s (fed k call (isAccepted s st call)) (stateAfter s st call)
     stands-plain call plain = record {
       many = ap length (fed-is k call (isAccepted s st call)) ∙ length-set k (tillNamed call) _ ∙ z .many;
       tills = λ t. go t (eqb t (tillNamed call)) refl;
@@ -145,15 +149,16 @@ module _ (s : Shape) (pr : Proper (s .measures)) (st : State) (h : isSound s st 
         go t true e = subst Fine (sym (eqb-true t (tillNamed call) e)) own
         go t false e =
             let ne = eqb-false t (tillNamed call) e in
-            subst (λ (w : TillView). AgreeTill (s .measures .blockBytes) (keptTill (fed k call (isAccepted s st call)) t) w) (sym (frame-other s pr st h call t ne))
+            subst (λ (w : TillView). AgreeTill (s .measures .blockBytes) (keptTill (fed k call (isAccepted s st call)) t) w) (sym (frame-other s pr st h call plain t ne))
             (subst (λ (y : KeptTill). AgreeTill (s .measures .blockBytes) y (viewAt (s .measures .blockBytes) st t)) (sym (fed-other call (isAccepted s st call) t ne)) (z .tills t))
 
-    -- any call, fed as what it comes to
-    pub stands-after : (call : Call) → Stands s (fed k (comesTo (here s st) call) (isAccepted s st call)) (stateAfter s st call)
-    stands-after call =
-        let p = through s st call in
-        subst (λ (x : State). Stands s (fed k (comesTo (here s st) call) (isAccepted s st call)) x) (sym (p .0))
-        (subst (λ (ok : Bool). Stands s (fed k (comesTo (here s st) call) ok) (stateAfter s st (comesTo (here s st) call))) (sym (p .1)) (stands-plain (comesTo (here s st) call) (p .2)))
+-- any call, fed as what it comes to
+stands-each : (s : Shape) → Proper (s .measures) → (ms : List CallMade) (st end : State) → isSound s st ≡ true → Carries s st ms end → (k : Keeper) → Stands s k st → Stands s (fedEach k ms) end
+unfolding fedEach
+stands-each s pr [] st end h c k z = subst (Stands s k) c z
+stands-each s pr (m ∷ ms) st end h c k z =
+    stands-each s pr ms (stateAfter s st (m .call)) end (sound-after s pr st h (m .call)) (c .2) (fed k (m .call) (m .accepted))
+    (subst (λ (ok : Bool). Stands s (fed k (m .call) ok) (stateAfter s st (m .call))) (sym (c .1)) (stands-plain s pr st h k z (m .call) (c .0)))
 
 -- after every list of calls
 pub stands-all : (s : Shape) (calls : List Call) (b : Buffers) (st : State) (k : Keeper) → Left s b st → Stands s k st → refusedLayouts b calls
@@ -161,7 +166,5 @@ pub stands-all : (s : Shape) (calls : List Call) (b : Buffers) (st : State) (k :
 unfolding fedAll stateAfterAll
 stands-all s [] b st k l z r = z
 stands-all s (call ∷ calls) b st k l z r =
-    stands-all s calls (buffersAfter b call) (stateAfter s st call) (fed k (comesTo (storeOf (b .pool) (b .table)) call) (eqb (refusalOf b call) 0)) (left-one s b st call l (r .0))
-    (subst (λ (o : Option Store). Stands s (fed k (comesTo o call) (eqb (refusalOf b call) 0)) (stateAfter s st call)) (sym (left-store s b st l))
-    (subst (λ (ok : Bool). Stands s (fed k (comesTo (here s st) call) ok) (stateAfter s st call)) (sym (accepted-same s b st call l)) (stands-after s (l .fit .proper) st (l .sound) k z call)))
-    (r .1)
+    stands-all s calls (buffersAfter b call) (stateAfter s st call) (fedEach k (comesTo b call)) (left-one s b st call l (r .0))
+    (stands-each s (l .fit .proper) (comesTo b call) st (stateAfter s st call) (l .sound) (carried s b st l call) k z) (r .1)

@@ -1,5 +1,5 @@
--- The frame law: a call changes what its own till shows, as a function of what that till showed and the call's arguments (a second message of §5 as the
--- backup that it comes to), and no other till's. For any measures whose blocks and segments are not empty.
+-- The frame law: a plain call changes what its own till shows, as a function of what that till showed and the call's arguments, and no other till's. (A
+-- second message of §5 and a closing of §7 are the backups that they come to.) For any measures whose blocks and segments are not empty.
 use mathlib.Core.Path.{_≡_, refl, ap, _∙_}
 use mathlib.Core.Bool.{true}
 use mathlib.Core.List.{List}
@@ -15,10 +15,8 @@ use Rattle.model.specs.Calls.{backup, retire, After, stateOr, outcomeRefusal}
 use Rattle.laws.proofs.Fits.{Proper}
 use Rattle.laws.proofs.Backup.{backup-filed}
 use Rattle.laws.proofs.Retire.{retire-done}
-use Rattle.history.specs.Calls.{Call, callLayout, callBackup, callRestore, callRetire, callListing, callTally, callWriteStream, callOffer, callBackupSent, stateAfter, answerIn, refusalIn, isAccepted}
-use Rattle.history.specs.Keeper.{imageSent}
+use Rattle.history.specs.Calls.{Call, callLayout, callBackup, callRestore, callRetire, callListing, callTally, callWriteStream, callOffer, callBackupSent, callBackupAll, stateAfter, answerIn, refusalIn, isAccepted}
 use Rattle.history.specs.View.{viewAt, tillNamed, changed, IsPlain}
-use Rattle.history.proofs.Sent.{here, sent-alike}
 use Rattle.history.proofs.Filing.{filed-own, filed-other, retired-own, retired-other}
 use Rattle.history.proofs.Numbered.{Numbered, backup-numbered, retire-numbered}
 
@@ -51,6 +49,7 @@ module _ (s : Shape) (pr : Proper (s .measures)) (st : State) (h : isSound s st 
   frame-own (callWriteStream t v output) p = refl
   frame-own (callOffer t fs ms) p = refl
   frame-own (callBackupSent t n fs ms ss) p = absurd p
+  frame-own (callBackupAll ts ns is) p = absurd p
 
   backup-other : (era : Era) (t : ℕ) (image : List ℕ) (u : ℕ) → (u ≡ t → ⊥) → (o : Outcome After) → backup era s st t image ≡ o
       → viewAt (s .measures .blockBytes) (stateOr st o) u ≡ viewAt (s .measures .blockBytes) st u
@@ -65,18 +64,16 @@ module _ (s : Shape) (pr : Proper (s .measures)) (st : State) (h : isSound s st 
   retire-other t v u ne (done a) q = retired-other s st t v a (retire-done s t v st a h q) u ne
 
   -- any other till
-  pub frame-other : (call : Call) (u : ℕ) → (u ≡ tillNamed call → ⊥)
+  pub frame-other : (call : Call) → IsPlain call → (u : ℕ) → (u ≡ tillNamed call → ⊥)
       → viewAt (s .measures .blockBytes) (stateAfter s st call) u ≡ viewAt (s .measures .blockBytes) st u
   unfolding stateAfter tillNamed
-  frame-other (callLayout c) u ne = refl
-  frame-other (callBackup era t image) u ne = backup-other era t image u ne (backup era s st t image) refl
-  frame-other (callRestore t v output) u ne = refl
-  frame-other (callRetire t v) u ne = retire-other t v u ne (retire s st t v) refl
-  frame-other (callListing t) u ne = refl
-  frame-other callTally u ne = refl
-  frame-other (callWriteStream t v output) u ne = refl
-  frame-other (callOffer t fs ms) u ne = refl
-  frame-other (callBackupSent t n fs ms ss) u ne =
-      let image : List ℕ = imageSent (here s st) t n fs ms ss in
-      ap (λ (x : State). viewAt (s .measures .blockBytes) x u) (sent-alike s st t n fs ms ss .0)
-      ∙ backup-other withBlanks t image u ne (backup withBlanks s st t image) refl
+  frame-other (callLayout c) p u ne = refl
+  frame-other (callBackup era t image) p u ne = backup-other era t image u ne (backup era s st t image) refl
+  frame-other (callRestore t v output) p u ne = refl
+  frame-other (callRetire t v) p u ne = retire-other t v u ne (retire s st t v) refl
+  frame-other (callListing t) p u ne = refl
+  frame-other callTally p u ne = refl
+  frame-other (callWriteStream t v output) p u ne = refl
+  frame-other (callOffer t fs ms) p u ne = refl
+  frame-other (callBackupSent t n fs ms ss) p u ne = absurd p
+  frame-other (callBackupAll ts ns is) p u ne = absurd p

@@ -7,6 +7,7 @@ pub mod Sent
 pub mod Reach
 pub mod Frame
 pub mod Steps
+pub mod Carried
 pub mod Refusals
 pub mod Local
 pub mod Order
@@ -15,6 +16,7 @@ pub mod Fed
 pub mod Chains
 pub mod Cells
 pub mod Bullets
+pub mod Answered
 pub mod Streams
 pub mod Apart
 pub mod Demand

@@ -18,7 +18,7 @@ use Rattle.model.specs.Place.{Placed, stored, writeRun, writeRecord, shareOrWri
 use Rattle.model.specs.Trace.{imageOf}
 use Rattle.model.specs.Calls.{tillOf, heldFrom, restoreFrom, restoreRefusal, restore, heldBefore, retireFrom, retire, fileIn, placeAndFile, backup, listTill, listingRefusal, listingIn, RestoreAnswer, After, firstOf, notHeld, lookUp, outcomeRefusal, outcomeNumber}
 use Rattle.stream.specs.Version.{longestOutput, writeRestored, writeVersion}
-use Rattle.history.specs.Calls.{Call, callLayout, callBackup, callRestore, callRetire, callListing, callTally, callWriteStream, callOffer, callBackupSent, Answer, backedUp, restored, retired, listed, streamed, answerIn}
+use Rattle.history.specs.Calls.{Call, callLayout, callBackup, callRestore, callRetire, callListing, callTally, callWriteStream, callOffer, callBackupSent, callBackupAll, Answer, backedUp, restored, retired, listed, streamed, answerIn}
 use Rattle.history.specs.View.{VersionView, viewVersions, viewOf, viewAt, isOnTill, tillNamed, shownFrom, restoreShown, retireShown, answerShown}
 use Rattle.history.proofs.Shown.{views-length, oldest-is, newest-is, from-same, chain-is}
 
@@ -175,6 +175,7 @@ HasRoom callTally a = Unit {0}
 HasRoom (callWriteStream t v output) a = Unit {0}
 HasRoom (callOffer t fs ms) a = Unit {0}
 HasRoom (callBackupSent t n fs ms ss) a = Unit {0}
+HasRoom (callBackupAll ts ns is) a = Unit {0}
 
 -- The law: a call on a till answers what the till's view says.
 pub answer-in : (s : Shape) (st : State) (call : Call) → isOnTill call ≡ true → HasRoom call (answerIn s st call)
@@ -189,3 +190,4 @@ answer-in s st callTally on room = absurd (false≢true on)
 answer-in s st (callWriteStream t v output) on room = stream-shown s st t v output
 answer-in s st (callOffer t fs ms) on room = absurd (false≢true on)
 answer-in s st (callBackupSent t n fs ms ss) on room = absurd (false≢true on)
+answer-in s st (callBackupAll ts ns is) on room = absurd (false≢true on)

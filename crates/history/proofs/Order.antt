@@ -20,22 +20,22 @@ module _ (s : Shape) where
       ∙ ap (λ (ok : Bool). changed (s .measures .blockBytes) call ok (viewAt (s .measures .blockBytes) st (tillNamed call)))
       (sym (accepted-same s b st call l) ∙ eq-eqb (refusalOf b call) 0 z)
 
-  pub other-after : (b : Buffers) (st : State) (call : Call) → Left s b st → (u : ℕ) → (u ≡ tillNamed call → ⊥)
+  pub other-after : (b : Buffers) (st : State) (call : Call) → IsPlain call → Left s b st → (u : ℕ) → (u ≡ tillNamed call → ⊥)
       → viewAt (s .measures .blockBytes) (stateAfter s st call) u ≡ viewAt (s .measures .blockBytes) st u
-  other-after b st call l = frame-other s (l .fit .proper) st (l .sound) call
+  other-after b st call p l = frame-other s (l .fit .proper) st (l .sound) call p
 
   -- two accepted calls: the till of the first is as that call leaves it
-  first-own : (b : Buffers) (st : State) (c d : Call) → IsPlain c → Left s b st → refusedLayout b c → (tillNamed c ≡ tillNamed d → ⊥) → refusalOf b c ≡ 0
+  first-own : (b : Buffers) (st : State) (c d : Call) → IsPlain c → IsPlain d → Left s b st → refusedLayout b c → (tillNamed c ≡ tillNamed d → ⊥) → refusalOf b c ≡ 0
       → viewAt (s .measures .blockBytes) (stateAfter s (stateAfter s st c) d) (tillNamed c)
       ≡ changed (s .measures .blockBytes) c true (viewAt (s .measures .blockBytes) st (tillNamed c))
-  first-own b st c d p l r ne z = other-after (buffersAfter b c) (stateAfter s st c) d (left-one s b st c l r) (tillNamed c) ne ∙ own-after b st c p l z
+  first-own b st c d pc pd l r ne z = other-after (buffersAfter b c) (stateAfter s st c) d pd (left-one s b st c l r) (tillNamed c) ne ∙ own-after b st c pc l z
 
-  second-own : (b : Buffers) (st : State) (c d : Call) → IsPlain d → Left s b st → refusedLayout b c → (tillNamed c ≡ tillNamed d → ⊥) → refusalOf (buffersAfter b c) d ≡ 0
+  second-own : (b : Buffers) (st : State) (c d : Call) → IsPlain c → IsPlain d → Left s b st → refusedLayout b c → (tillNamed c ≡ tillNamed d → ⊥) → refusalOf (buffersAfter b c) d ≡ 0
       → viewAt (s .measures .blockBytes) (stateAfter s (stateAfter s st c) d) (tillNamed d)
       ≡ changed (s .measures .blockBytes) d true (viewAt (s .measures .blockBytes) st (tillNamed d))
-  second-own b st c d p l r ne z =
-      own-after (buffersAfter b c) (stateAfter s st c) d p (left-one s b st c l r) z
-      ∙ ap (changed (s .measures .blockBytes) d true) (other-after b st c l (tillNamed d) (λ e. ne (sym e)))
+  second-own b st c d pc pd l r ne z =
+      own-after (buffersAfter b c) (stateAfter s st c) d pd (left-one s b st c l r) z
+      ∙ ap (changed (s .measures .blockBytes) d true) (other-after b st c pc l (tillNamed d) (λ e. ne (sym e)))
 
   -- both accepted in both orders: every till shows the same
   pub order-free : (b : Buffers) (st : State) (c d : Call) → IsPlain c → IsPlain d → Left s b st → (tillNamed c ≡ tillNamed d → ⊥) → refusedLayout b c → refusedLayout b d
@@ -50,10 +50,10 @@ module _ (s : Shape) where
       Same u = viewAt (s .measures .blockBytes) (stateAfter s (stateAfter s st c) d) u ≡ viewAt (s .measures .blockBytes) (stateAfter s (stateAfter s st d) c) u
 
       go : (p : Bool) → eqb t (tillNamed c) ≡ p → (q : Bool) → eqb t (tillNamed d) ≡ q → Same t
-      go true p q′ q = subst Same (sym (eqb-true t (tillNamed c) p)) (first-own b st c d pc l rc ne ac ∙ sym (second-own b st d c pc l rd en adc))
-      go false p true q = subst Same (sym (eqb-true t (tillNamed d) q)) (second-own b st c d pd l rc ne acd ∙ sym (first-own b st d c pd l rd en ad))
+      go true p q′ q = subst Same (sym (eqb-true t (tillNamed c) p)) (first-own b st c d pc pd l rc ne ac ∙ sym (second-own b st d c pd pc l rd en adc))
+      go false p true q = subst Same (sym (eqb-true t (tillNamed d) q)) (second-own b st c d pc pd l rc ne acd ∙ sym (first-own b st d c pd pc l rd en ad))
       go false p false q =
           let x = eqb-false t (tillNamed c) p in
           let y = eqb-false t (tillNamed d) q in
-          other-after (buffersAfter b c) (stateAfter s st c) d (left-one s b st c l rc) t y ∙ other-after b st c l t x
-          ∙ sym (other-after (buffersAfter b d) (stateAfter s st d) c (left-one s b st d l rd) t x ∙ other-after b st d l t y)
+          other-after (buffersAfter b c) (stateAfter s st c) d pd (left-one s b st c l rc) t y ∙ other-after b st c pc l t x
+          ∙ sym (other-after (buffersAfter b d) (stateAfter s st d) c pc (left-one s b st d l rd) t x ∙ other-after b st d pd l t y)

@@ -1,8 +1,8 @@
 -- The states that calls reach are sound.
 use mathlib.Core.Path.{_≡_, refl, sym, subst}
-use mathlib.Core.Bool.{true}
+use mathlib.Core.Bool.{Bool, true, false, cond}
 use Prim.Native.Nat.{ℕ}
-use mathlib.Core.List.{List}
+use mathlib.Core.List.{List, [], _∷_}
 use Rattle.model.specs.Measures.{Shape}
 use Rattle.model.specs.Image.{Era, withBlanks}
 use Rattle.model.specs.State.{State, Outcome, refused, done}
@@ -11,7 +11,8 @@ use Rattle.model.specs.Calls.{backup, retire, After, stateOr}
 use Rattle.laws.proofs.Fits.{Proper}
 use Rattle.laws.proofs.Backup.{backup-sound}
 use Rattle.laws.proofs.Retire.{retire-sound}
-use Rattle.history.specs.Calls.{Call, callLayout, callBackup, callRestore, callRetire, callListing, callTally, callWriteStream, callOffer, callBackupSent, stateAfter}
+use Rattle.history.specs.Calls.{Call, callLayout, callBackup, callRestore, callRetire, callListing, callTally, callWriteStream, callOffer, callBackupSent, callBackupAll, stateAfter}
+use Rattle.closing.specs.Closing.{TillImage, imagesIn, closingFits, backupEach, closedOr, backupAll}
 use Rattle.history.specs.Keeper.{imageSent}
 use Rattle.history.proofs.Sent.{here, sent-alike}
 
@@ -26,16 +27,29 @@ module _ (s : Shape) (pr : Proper (s .measures)) (st : State) (h : isSound s st 
   retire-good t v (refused n) q = h
   retire-good t v (done a) q = retire-sound s t v st a h q
 
+-- "the store stays sound between the images" of a closing
+each-sound : (s : Shape) → Proper (s .measures) → (xs : List TillImage) (st : State) → isSound s st ≡ true → isSound s (backupEach s st xs .state) ≡ true
+unfolding backupEach
+each-sound s pr [] st h = h
+each-sound s pr (x ∷ xs) st h =
+    let o : Outcome After = backup withBlanks s st (x .till) (x .image) in each-sound s pr xs (stateOr st o) (backup-good s pr st h withBlanks (x .till) (x .image) o refl)
+
+module _ (s : Shape) (pr : Proper (s .measures)) (st : State) (h : isSound s st ≡ true) where
   pub sound-after : (call : Call) → isSound s (stateAfter s st call) ≡ true
   unfolding stateAfter
   sound-after (callLayout c) = h
-  sound-after (callBackup era t image) = backup-good era t image (backup era s st t image) refl
+  sound-after (callBackup era t image) = backup-good s pr st h era t image (backup era s st t image) refl
   sound-after (callRestore t v output) = h
-  sound-after (callRetire t v) = retire-good t v (retire s st t v) refl
+  sound-after (callRetire t v) = retire-good s pr st h t v (retire s st t v) refl
   sound-after (callListing t) = h
   sound-after callTally = h
   sound-after (callWriteStream t v output) = h
   sound-after (callOffer t fs ms) = h
   sound-after (callBackupSent t n fs ms ss) =
       subst (λ (x : State). isSound s x ≡ true) (sym (sent-alike s st t n fs ms ss .0))
-      (let image : List ℕ = imageSent (here s st) t n fs ms ss in backup-good withBlanks t image (backup withBlanks s st t image) refl)
+      (let image : List ℕ = imageSent (here s st) t n fs ms ss in backup-good s pr st h withBlanks t image (backup withBlanks s st t image) refl)
+  sound-after (callBackupAll ts ns is) = unfold backupAll in go (closingFits ts ns is)
+    where
+      go : (fit : Bool) → isSound s (closedOr st (cond fit (done (backupEach s st (imagesIn ts ns is))) (refused 4))) ≡ true
+      go true = unfold closedOr in each-sound s pr (imagesIn ts ns is) st h
+      go false = unfold closedOr in h

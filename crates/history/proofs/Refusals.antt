@@ -12,11 +12,12 @@ use Rattle.model.specs.Sound.{Store, storeOf}
 use Rattle.model.specs.Calls.{layoutOf, backup, backupIn, backupBy, backupAnswer, restore, restoreFrom, restoreIn, restoreOf, restoreRefusal, RestoreAnswer, heldFrom, tillOf, retire, retireIn, retireOf, retireAnswer, listingIn, listingOf, listingRefusal, listTill, ListingAnswer, tallyIn, tallyOf, After, Lookup, found, missing, lookUp}
 use Rattle.laws.proofs.Empty.{layout-refused}
 use Rattle.sha1.specs.Sha1.{sha1}
+use Rattle.closing.specs.Closing.{Closed, allRefused, allAnswer, backupAll, backupAllAnswer, backupAllIn, backupAllOf}
 use Rattle.sent.specs.Sent.{OfferAnswer, offer, offerAnswer, offerIn, offerOf, backupSent, backupSentIn, backupSentBy, backupSentOf}
 use Rattle.stream.specs.Stream.{StreamAnswer}
 use Rattle.stream.specs.Version.{writeStreamOf}
 use Rattle.stream_laws.proofs.Theorems.{claims}
-use Rattle.history.specs.Calls.{Call, callLayout, callBackup, callRestore, callRetire, callListing, callTally, callWriteStream, callOffer, callBackupSent, Buffers, refusalOf, buffersAfter, Answer, laidOut, backedUp, restored, retired, listed, tallied, streamed, offered, answerOf}
+use Rattle.history.specs.Calls.{Call, callLayout, callBackup, callRestore, callRetire, callListing, callTally, callWriteStream, callOffer, callBackupSent, callBackupAll, Buffers, refusalOf, buffersAfter, Answer, laidOut, backedUp, restored, retired, listed, tallied, streamed, offered, backedUpAll, answerOf}
 
 same-buffers : (b : Buffers) (pool table : List ℕ) → pool ≡ b .pool → table ≡ b .table → record { pool = pool; table = table } ≡ b
 same-buffers b pool table p q = λ i. record { pool = p i; table = q i }
@@ -60,6 +61,17 @@ alters-nothing b (callBackupSent t n fs ms ss) h = unfold backupSentOf backupSen
         → record { pool = backupSentIn sha1 o (b .pool) (b .table) t n fs ms ss .pool; table = backupSentIn sha1 o (b .pool) (b .table) t n fs ms ss .table } ≡ b
     go none h = unfold backupSentIn in refl
     go (some x) h = unfold backupSentIn in backup-alters b (x .shape) (backupSent sha1 (x .shape) (x .state) t n fs ms ss) h
+alters-nothing b (callBackupAll ts ns is) h = unfold backupAllOf in go (storeOf (b .pool) (b .table)) h
+  where
+    one : (s : Shape) (o : Outcome Closed) → ¬ (backupAllAnswer (b .pool) (b .table) s o .answer .refusal ≡ 0)
+        → record { pool = backupAllAnswer (b .pool) (b .table) s o .pool; table = backupAllAnswer (b .pool) (b .table) s o .table } ≡ b
+    one s (refused n) h = unfold backupAllAnswer in refl
+    one s (done c) h = absurd (h (unfold backupAllAnswer allAnswer in refl))
+
+    go : (o : Option Store) → ¬ (backupAllIn o (b .pool) (b .table) ts ns is .answer .refusal ≡ 0)
+        → record { pool = backupAllIn o (b .pool) (b .table) ts ns is .pool; table = backupAllIn o (b .pool) (b .table) ts ns is .table } ≡ b
+    go none h = unfold backupAllIn in refl
+    go (some x) h = unfold backupAllIn in one (x .shape) (backupAll (x .shape) (x .state) ts ns is) h
 
 -- the answer of a refusal
 unfoldable pub refusedWith : ℕ → Call → Answer
@@ -72,6 +84,7 @@ refusedWith n callTally = tallied (record { refusal = n; cells = 0; records = 0;
 refusedWith n (callWriteStream t v output) = streamed (record { refusal = n; length = 0; output = output })
 refusedWith n (callOffer t fs ms) = offered (record { refusal = n; marks = ms })
 refusedWith n (callBackupSent t bytes fs ms ss) = backedUp n 0
+refusedWith n (callBackupAll ts ns is) = backedUpAll (allRefused n)
 
 abbrev ZeroRestore : List ℕ → RestoreAnswer → Type 0
 ZeroRestore output r = ¬ (r .refusal ≡ 0) → r ≡ record { refusal = r .refusal; length = 0; hops = 0; output = output }
@@ -153,3 +166,14 @@ answers-number-only b (callBackupSent t n fs ms ss) h = unfold backupSentOf back
         ≡ backedUp (backupSentIn sha1 o (b .pool) (b .table) t n fs ms ss .refusal) 0
     go none h = unfold backupSentIn in refl
     go (some x) h = unfold backupSentIn in backup-zero b (x .shape) (backupSent sha1 (x .shape) (x .state) t n fs ms ss) h
+answers-number-only b (callBackupAll ts ns is) h = unfold backupAllOf in ap backedUpAll (go (storeOf (b .pool) (b .table)) h)
+  where
+    one : (s : Shape) (o : Outcome Closed) → ¬ (backupAllAnswer (b .pool) (b .table) s o .answer .refusal ≡ 0)
+        → backupAllAnswer (b .pool) (b .table) s o .answer ≡ allRefused (backupAllAnswer (b .pool) (b .table) s o .answer .refusal)
+    one s (refused n) h = unfold backupAllAnswer allRefused in refl
+    one s (done c) h = absurd (h (unfold backupAllAnswer allAnswer in refl))
+
+    go : (o : Option Store) → ¬ (backupAllIn o (b .pool) (b .table) ts ns is .answer .refusal ≡ 0)
+        → backupAllIn o (b .pool) (b .table) ts ns is .answer ≡ allRefused (backupAllIn o (b .pool) (b .table) ts ns is .answer .refusal)
+    go none h = unfold backupAllIn allRefused in refl
+    go (some x) h = unfold backupAllIn in one (x .shape) (backupAll (x .shape) (x .state) ts ns is) h

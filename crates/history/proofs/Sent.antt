@@ -16,7 +16,7 @@ use Rattle.model.specs.Calls.{backup, backupAnswer, backupIn, After, stateOr, o
 use Rattle.sha1.specs.Sha1.{sha1}
 use Rattle.sent.specs.Sent.{made, backupOn, backupSent, backupSentIn}
 use Rattle.sent_laws.proofs.Numbers.{NotZero, made-or-refused}
-use Rattle.history.specs.Calls.{Call, callLayout, callBackup, callRestore, callRetire, callListing, callTally, callWriteStream, callOffer, callBackupSent, stateAfter, answerIn, refusalIn, isAccepted}
+use Rattle.history.specs.Calls.{Call, callLayout, callBackup, callRestore, callRetire, callListing, callTally, callWriteStream, callOffer, callBackupSent, callBackupAll, stateAfter, answerIn, refusalIn, isAccepted}
 use Rattle.history.specs.Keeper.{imageOr, imageSent, comesTo}
 use Rattle.history.specs.View.{IsPlain}
 
@@ -43,19 +43,6 @@ module _ (s : Shape) (st : State) where
           unfold backupOn imageOr stateOr outcomeRefusal in
           (sym (unfold stateOr in none-kept t .0), ne-eqb k 0 h ∙ sym (unfold outcomeRefusal in none-kept t .1))
       go (done image) h = unfold backupOn imageOr in (refl, refl)
-
-  -- a call and what it comes to
-  pub through : (call : Call) → (stateAfter s st call ≡ stateAfter s st (comesTo here call)) × (isAccepted s st call ≡ isAccepted s st (comesTo here call)) × IsPlain (comesTo here call)
-  unfolding stateAfter isAccepted answerIn refusalIn comesTo
-  through (callLayout c) = (refl, refl, tt)
-  through (callBackup era t image) = (refl, refl, tt)
-  through (callRestore t v output) = (refl, refl, tt)
-  through (callRetire t v) = (refl, refl, tt)
-  through (callListing t) = (refl, refl, tt)
-  through callTally = (refl, refl, tt)
-  through (callWriteStream t v output) = (refl, refl, tt)
-  through (callOffer t fs ms) = (refl, refl, tt)
-  through (callBackupSent t n fs ms ss) = let a = sent-alike t n fs ms ss in (a .0, a .1, tt)
 
 -- of any buffers, an accepted one is that backup
 pub accepted-is : (o : Option Store) (pool table : List ℕ) (t n : ℕ) (fs ms ss : List ℕ) → backupSentIn sha1 o pool table t n fs ms ss .refusal ≡ 0

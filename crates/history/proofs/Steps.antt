@@ -15,8 +15,9 @@ use Rattle.laws.proofs.RoundTrip.{round-trip}
 use Rattle.laws.proofs.Empty.{empty-sound, layout-refused, layout-accepted}
 use Rattle.sha1.specs.Sha1.{sha1}
 use Rattle.sent.specs.Sent.{offerIn, offerOf, backupSent, backupSentIn, backupSentBy, backupSentOf}
+use Rattle.closing.specs.Closing.{Closed, allAnswer, closedOr, backupAll, backupAllAnswer, backupAllIn, backupAllOf}
 use Rattle.stream.specs.Version.{longestOutput, writeRestored, writeVersion, writeStreamOf}
-use Rattle.history.specs.Calls.{Call, callLayout, callBackup, callRestore, callRetire, callListing, callTally, callWriteStream, callOffer, callBackupSent, Buffers, refusalOf, buffersAfter, buffersAfterAll, laidOut, backedUp, restored, retired, listed, tallied, streamed, offered, answerOf, answersOf, refusalIn, refusedLayout, refusedLayouts, stateAfter, stateAfterAll, answerIn, answersIn, isAccepted}
+use Rattle.history.specs.Calls.{Call, callLayout, callBackup, callRestore, callRetire, callListing, callTally, callWriteStream, callOffer, callBackupSent, callBackupAll, Buffers, refusalOf, buffersAfter, buffersAfterAll, laidOut, backedUp, restored, retired, listed, tallied, streamed, offered, backedUpAll, answerOf, answersOf, refusalIn, refusedLayout, refusedLayouts, stateAfter, stateAfterAll, answerIn, answersIn, isAccepted}
 use Rattle.history.specs.Demand.{laidOutIn}
 use Rattle.history.proofs.Reach.{sound-after}
 
@@ -44,6 +45,12 @@ unfolding retireAnswer stateOr
 retire-words s b st (refused n) p q = (p, q)
 retire-words s b st (done a) p q = (refl, refl)
 
+closing-words : (s : Shape) (b : Buffers) (st : State) (o : Outcome Closed) → b .pool ≡ stateToBytes st → b .table ≡ stateToWords s st
+    → (backupAllAnswer (b .pool) (b .table) s o .pool ≡ stateToBytes (closedOr st o)) × (backupAllAnswer (b .pool) (b .table) s o .table ≡ stateToWords s (closedOr st o))
+unfolding backupAllAnswer closedOr
+closing-words s b st (refused n) p q = (p, q)
+closing-words s b st (done c) p q = (refl, refl)
+
 pub left-one : (s : Shape) (b : Buffers) (st : State) (call : Call) → Left s b st → refusedLayout b call → Left s (buffersAfter b call) (stateAfter s st call)
 left-one s b st call e r = record { fit = e .fit; pool = words call r .0; table = words call r .1; sound = sound-after s (e .fit .proper) st (e .sound) call }
   where
@@ -63,6 +70,8 @@ left-one s b st call e r = record { fit = e .fit; pool = words call r .0; table 
     words (callBackupSent t n fs ms ss) r =
         unfold buffersAfter stateAfter backupSentOf backupSentBy backupSentIn in
         rw (left-store s b st e) (backup-words s b st (backupSent sha1 s st t n fs ms ss) (e .pool) (e .table))
+    words (callBackupAll ts ns is) r =
+        unfold buffersAfter stateAfter backupAllOf backupAllIn in rw (left-store s b st e) (closing-words s b st (backupAll s st ts ns is) (e .pool) (e .table))
 
 pub left-all : (s : Shape) (calls : List Call) (b : Buffers) (st : State) → Left s b st → refusedLayouts b calls → Left s (buffersAfterAll b calls) (stateAfterAll s st calls)
 unfolding buffersAfterAll stateAfterAll
@@ -82,6 +91,15 @@ backup-answer : (s : Shape) (b : Buffers) (o : Outcome After)
 unfolding backupAnswer outcomeRefusal outcomeNumber
 backup-answer s b (refused n) = refl
 backup-answer s b (done a) = refl
+
+-- a closing's answer
+pub closing-same : (s : Shape) (b : Buffers) (st : State) → Left s b st → (ts ns is : List ℕ) → backupAllOf (b .pool) (b .table) ts ns is .answer ≡ allAnswer (backupAll s st ts ns is)
+unfolding backupAllOf backupAllIn
+closing-same s b st e ts ns is = rw (left-store s b st e) (go (backupAll s st ts ns is))
+  where
+    go : (o : Outcome Closed) → backupAllAnswer (b .pool) (b .table) s o .answer ≡ allAnswer o
+    go (refused n) = unfold backupAllAnswer allAnswer in refl
+    go (done c) = unfold backupAllAnswer in refl
 
 -- what a call answers on the buffers is what it answers on the state
 pub answer-same : (s : Shape) (b : Buffers) (st : State) (call : Call) → Left s b st → answerOf b call ≡ answerIn s st call
@@ -109,6 +127,7 @@ answer-same s b st (callBackupSent t n fs ms ss) e =
     unfold backupSentOf backupSentBy in
     (ap (λ (o : Option Store). backedUp (backupSentIn sha1 o (b .pool) (b .table) t n fs ms ss .refusal) (backupSentIn sha1 o (b .pool) (b .table) t n fs ms ss .version)) (left-store s b st e)
     ∙ (unfold backupSentIn in backup-answer s b (backupSent sha1 s st t n fs ms ss)))
+answer-same s b st (callBackupAll ts ns is) e = ap backedUpAll (closing-same s b st e ts ns is)
 
 pub answers-same : (s : Shape) (calls : List Call) (b : Buffers) (st : State) → Left s b st → refusedLayouts b calls → answersOf b calls ≡ answersIn s st calls
 unfolding answersOf answersIn
@@ -128,6 +147,7 @@ refusal-in b callTally = refl
 refusal-in b (callWriteStream t v output) = refl
 refusal-in b (callOffer t fs ms) = refl
 refusal-in b (callBackupSent t n fs ms ss) = refl
+refusal-in b (callBackupAll ts ns is) = refl
 
 pub accepted-same : (s : Shape) (b : Buffers) (st : State) (call : Call) → Left s b st → eqb (refusalOf b call) 0 ≡ isAccepted s st call
 unfolding isAccepted

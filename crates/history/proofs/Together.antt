@@ -8,7 +8,7 @@ use Rattle.model.specs.Measures.{Shape}
 use Rattle.model.specs.State.{Shelf, Version, State}
 use Rattle.model.specs.Trace.{imageOf}
 use Rattle.model.specs.Calls.{emptyState, tillOf}
-use Rattle.history.specs.Calls.{Call, callLayout, callBackup, callRestore, callRetire, callListing, callTally, callWriteStream, callOffer, callBackupSent, Buffers, buffersAfter, buffersAfterAll, answerOf, refusedLayout, stateAfter, stateAfterAll}
+use Rattle.history.specs.Calls.{Call, callLayout, callBackup, callRestore, callRetire, callListing, callTally, callWriteStream, callOffer, callBackupSent, callBackupAll, Buffers, buffersAfter, buffersAfterAll, answerOf, refusedLayout, stateAfter, stateAfterAll}
 use Rattle.history.specs.View.{VersionView, TillView, viewVersions, viewOf, viewAt, chainShown, isOnTill, tillNamed, answerShown, IsPlain}
 use Rattle.history.specs.Demand.{laidOutIn}
 use Rattle.history.specs.Together.{IsBackupRestoreOrRetire, HeldVersion, heldVersions, heldBy, SameTills, OrderFree, EitherOrder}
@@ -40,6 +40,7 @@ no-layout b callTally h = tt
 no-layout b (callWriteStream t v output) h = tt
 no-layout b (callOffer t fs ms) h = tt
 no-layout b (callBackupSent t n fs ms ss) h = tt
+no-layout b (callBackupAll ts ns is) h = tt
 
 is-plain : (call : Call) → IsBackupRestoreOrRetire call → IsPlain call
 is-plain (callLayout c) h = tt
@@ -51,6 +52,7 @@ is-plain callTally h = tt
 is-plain (callWriteStream t v output) h = tt
 is-plain (callOffer t fs ms) h = tt
 is-plain (callBackupSent t n fs ms ss) h = absurd h
+is-plain (callBackupAll ts ns is) h = absurd h
 
 module _ (s : Shape) where
   -- stores whose tills show the same

@@ -14,6 +14,7 @@ use Rattle.stream.specs.Stream.{StreamAnswer}
 use Rattle.stream.specs.Version.{writeVersion, writeStreamOf}
 use Rattle.sha1.specs.Sha1.{sha1}
 use Rattle.sent.specs.Sent.{OfferAnswer, offerIn, offerOf, backupSent, backupSentOf}
+use Rattle.closing.specs.Closing.{AllAnswer, allAnswer, closedOr, backupAll, backupAllOf}
 
 -- A call with its arguments, any of them; a backup was made before blank blocks were known, or with them. Table length takes no buffer and is no call
 -- of the list.
@@ -27,6 +28,7 @@ pub data Call : Type 0 where
   callWriteStream : (till version : ℕ) (output : List ℕ) → Call
   callOffer : (till : ℕ) (fingerprints marks : List ℕ) → Call
   callBackupSent : (till bytes : ℕ) (fingerprints marks segments : List ℕ) → Call
+  callBackupAll : (tills lengths images : List ℕ) → Call
 
 -- the two buffers
 pub record Buffers : Type 0 where
@@ -44,6 +46,7 @@ refusalOf b callTally = tallyOf (b .pool) (b .table) .refusal
 refusalOf b (callWriteStream t v output) = writeStreamOf (b .pool) (b .table) t v output .refusal
 refusalOf b (callOffer t fs ms) = offerOf (b .pool) (b .table) t fs ms .refusal
 refusalOf b (callBackupSent t n fs ms ss) = backupSentOf (b .pool) (b .table) t n fs ms ss .refusal
+refusalOf b (callBackupAll ts ns is) = backupAllOf (b .pool) (b .table) ts ns is .answer .refusal
 
 -- the buffers after a call
 unfoldable pub buffersAfter : Buffers → Call → Buffers
@@ -56,6 +59,7 @@ buffersAfter b callTally = b
 buffersAfter b (callWriteStream t v output) = b
 buffersAfter b (callOffer t fs ms) = b
 buffersAfter b (callBackupSent t n fs ms ss) = record { pool = backupSentOf (b .pool) (b .table) t n fs ms ss .pool; table = backupSentOf (b .pool) (b .table) t n fs ms ss .table }
+buffersAfter b (callBackupAll ts ns is) = record { pool = backupAllOf (b .pool) (b .table) ts ns is .pool; table = backupAllOf (b .pool) (b .table) ts ns is .table }
 
 unfoldable pub buffersAfterAll : Buffers → List Call → Buffers
 buffersAfterAll b [] = b
@@ -71,6 +75,7 @@ pub data Answer : Type 0 where
   tallied : (answer : TallyAnswer) → Answer
   streamed : (answer : StreamAnswer) → Answer
   offered : (answer : OfferAnswer) → Answer
+  backedUpAll : (answer : AllAnswer) → Answer
 
 unfoldable pub answerOf : Buffers → Call → Answer
 answerOf b (callLayout c) = laidOut (layoutOf c (b .pool) (b .table) .refusal)
@@ -82,6 +87,7 @@ answerOf b callTally = tallied (tallyOf (b .pool) (b .table))
 answerOf b (callWriteStream t v output) = streamed (writeStreamOf (b .pool) (b .table) t v output)
 answerOf b (callOffer t fs ms) = offered (offerOf (b .pool) (b .table) t fs ms)
 answerOf b (callBackupSent t n fs ms ss) = backedUp (backupSentOf (b .pool) (b .table) t n fs ms ss .refusal) (backupSentOf (b .pool) (b .table) t n fs ms ss .version)
+answerOf b (callBackupAll ts ns is) = backedUpAll (backupAllOf (b .pool) (b .table) ts ns is .answer)
 
 -- the number of the refusal that an answer carries, or 0
 unfoldable pub refusalIn : Answer → ℕ
@@ -93,6 +99,7 @@ refusalIn (listed a) = a .refusal
 refusalIn (tallied a) = a .refusal
 refusalIn (streamed a) = a .refusal
 refusalIn (offered a) = a .refusal
+refusalIn (backedUpAll a) = a .refusal
 
 -- the answers of a list of calls, each with the buffers as the last one left them
 unfoldable pub answersOf : Buffers → List Call → List Answer
@@ -110,6 +117,7 @@ refusedLayout b callTally = Unit {0}
 refusedLayout b (callWriteStream t v output) = Unit {0}
 refusedLayout b (callOffer t fs ms) = Unit {0}
 refusedLayout b (callBackupSent t n fs ms ss) = Unit {0}
+refusedLayout b (callBackupAll ts ns is) = Unit {0}
 
 abbrev pub refusedLayouts : Buffers → List Call → Type 0
 refusedLayouts b [] = Unit {0}
@@ -127,6 +135,7 @@ stateAfter s st callTally = st
 stateAfter s st (callWriteStream t v output) = st
 stateAfter s st (callOffer t fs ms) = st
 stateAfter s st (callBackupSent t n fs ms ss) = stateOr st (backupSent sha1 s st t n fs ms ss)
+stateAfter s st (callBackupAll ts ns is) = closedOr st (backupAll s st ts ns is)
 
 unfoldable pub stateAfterAll : Shape → State → List Call → State
 stateAfterAll s st [] = st
@@ -143,6 +152,7 @@ answerIn s st callTally = tallied (tallyIn (some (record { shape = s; state = st
 answerIn s st (callWriteStream t v output) = streamed (writeVersion s st t v output)
 answerIn s st (callOffer t fs ms) = offered (offerIn sha1 (some (record { shape = s; state = st })) t fs ms)
 answerIn s st (callBackupSent t n fs ms ss) = backedUp (outcomeRefusal (backupSent sha1 s st t n fs ms ss)) (outcomeNumber (backupSent sha1 s st t n fs ms ss))
+answerIn s st (callBackupAll ts ns is) = backedUpAll (allAnswer (backupAll s st ts ns is))
 
 unfoldable pub answersIn : Shape → State → List Call → List Answer
 answersIn s st [] = []

@@ -7,6 +7,7 @@ use mathlib.Core.List.{List, [], _∷_, _++_, map}
 use mathlib.Core.Option.{some}
 use lib.ListN.{length, getD, drop}
 use Rattle.lists.specs.Lists.{counted, count, rises, isIn, allZero}
+use Rattle.lists.specs.Rows.{fill}
 use Rattle.model.specs.Measures.{Shape}
 use Rattle.model.specs.State.{Block, Pointer, nullPointer, blankPointer, direct, indirect, State}
 use Rattle.model.specs.Image.{Era, withBlanks, isBare, imageBlocks}
@@ -18,8 +19,9 @@ use Rattle.model.specs.Calls.{layoutOf, backupBy, restoreOf, RestoreAnswer, ret
 use Rattle.stream.specs.Stream.{StreamAnswer, streamOf, readStream}
 use Rattle.stream.specs.Version.{writeStreamOf}
 use Rattle.sent.specs.Sent.{backupSentOf}
+use Rattle.closing.specs.Closing.{imagesIn, AllAnswer, backupAllOf}
 use Rattle.history.specs.Calls.{Call, callBackup, callBackupSent, Buffers, buffersAfterAll, answersOf, refusedLayouts, stateAfterAll, answersIn}
-use Rattle.history.specs.Keeper.{Kept, Keeper, freshKeeper, keptTill, comesTo, fed, fedAll, keptFrom, oldestKept, newestKept}
+use Rattle.history.specs.Keeper.{Kept, Keeper, freshKeeper, keptTill, fed, fedEach, numbersGiven, comesTo, fedAll, keptFrom, oldestKept, newestKept}
 
 -- the pointers of a till's version of that number; `nextPointers` gives those of the first version of a list
 unfoldable pub pointersHeld : State → ℕ → ℕ → List Pointer
@@ -90,6 +92,9 @@ module _ (bytes : ℕ) (st : State) (k : Keeper) (b : Buffers) where
   abbrev pub listingAt : ℕ → ListingAnswer
   listingAt t = listingOf (b .pool) (b .table) t
 
+  abbrev pub closing : List ℕ → List ℕ → List ℕ → AllAnswer
+  closing tills lengths images = backupAllOf (b .pool) (b .table) tills lengths images .answer
+
   pub record Answers : Type 0 where
     -- "An accepted listing answers the keeper's oldest, newest (0 and 0 if none is held) and last number"
     pub listing : (t : ℕ) → listingAt t .refusal ≡ 0
@@ -102,7 +107,10 @@ module _ (bytes : ℕ) (st : State) (k : Keeper) (b : Buffers) where
     -- and so does an accepted second message of §5, which the keeper is fed as the backup of the image put together
     pub backupSent : (t bytes : ℕ) (fingerprints marks segments : List ℕ) → backupSentOf (b .pool) (b .table) t bytes fingerprints marks segments .refusal ≡ 0
         → backupSentOf (b .pool) (b .table) t bytes fingerprints marks segments .version
-        ≡ keptTill (fed k (comesTo (storeOf (b .pool) (b .table)) (callBackupSent t bytes fingerprints marks segments)) true) t .last
+        ≡ keptTill (fedEach k (comesTo b (callBackupSent t bytes fingerprints marks segments))) t .last
+    -- and so does each accepted image of a closing of §7, one after the other; a refused one answers 0
+    pub backupAll : (tills lengths images : List ℕ) → closing tills lengths images .refusal ≡ 0
+        → closing tills lengths images .versions ≡ fill 16 (numbersGiven k (imagesIn tills lengths images) (closing tills lengths images .refusals))
     -- a held version "now goes", whichever it is
     pub goes : (t v : ℕ) (x : Kept) (newer : List Kept) → IsKept t v x newer → retireOf (b .pool) (b .table) t v .refusal ≡ 0
     -- and one not held is refused, of a till that is there with 17 or 18 as the keeper's last number says

@@ -12,7 +12,8 @@ use Rattle.model.specs.Image.{withBlanks}
 use Rattle.model.specs.Sound.{Store, storeOf}
 use Rattle.sha1.specs.Sha1.{sha1}
 use Rattle.sent.specs.Sent.{made}
-use Rattle.history.specs.Calls.{Call, callLayout, callBackup, callRestore, callRetire, callListing, callTally, callWriteStream, callOffer, callBackupSent, Buffers, buffersAfter, refusalOf}
+use Rattle.closing.specs.Closing.{TillImage, imagesIn, AllAnswer, backupAllOf}
+use Rattle.history.specs.Calls.{Call, callLayout, callBackup, callRestore, callRetire, callListing, callTally, callWriteStream, callOffer, callBackupSent, callBackupAll, Buffers, buffersAfter, refusalOf}
 
 -- a held version: its number, its whole image, and the number of its till's newest version when it was taken, 0 if none was held
 pub record Kept : Type 0 where
@@ -55,30 +56,8 @@ filed t image = record { last = suc (t .last); versions = t .versions ++ (record
 unfoldable pub struckOut : KeptTill → ℕ → KeptTill
 struckOut t v = record { last = t .last; versions = keep (λ (x : Kept). not (eqb (x .number) v)) (t .versions) }
 
--- ---- §5: "the image so put together is backed up"
-
-unfoldable pub imageOr : Outcome (List ℕ) → List ℕ
-imageOr (refused n) = []
-imageOr (done image) = image
-
--- the image that a second message is put together to, by the store; none where it is refused before that
-unfoldable pub imageSent : Option Store → ℕ → ℕ → List ℕ → List ℕ → List ℕ → List ℕ
-imageSent none t bytes fingerprints marks segments = []
-imageSent (some store) t bytes fingerprints marks segments = imageOr (made sha1 (store .shape) (store .state) t bytes fingerprints marks segments)
-
--- what the keeper is fed for a call: a second message is the backup of that image, every other call is itself
-unfoldable pub comesTo : Option Store → Call → Call
-comesTo o (callLayout c) = callLayout c
-comesTo o (callBackup era t image) = callBackup era t image
-comesTo o (callRestore t v output) = callRestore t v output
-comesTo o (callRetire t v) = callRetire t v
-comesTo o (callListing t) = callListing t
-comesTo o callTally = callTally
-comesTo o (callWriteStream t v output) = callWriteStream t v output
-comesTo o (callOffer t fs ms) = callOffer t fs ms
-comesTo o (callBackupSent t n fs ms ss) = callBackup withBlanks t (imageSent o t n fs ms ss)
-
--- Fed the arguments of a call and whether it was accepted, and nothing out of pool or table but the image of §5. No second message comes here.
+-- Fed the arguments of a call and whether it was accepted, and nothing out of pool or table but the image of §5. Messages of §5 and closings of §7 do not
+-- come here: they come to backups.
 unfoldable pub fed : Keeper → Call → Bool → Keeper
 fed k (callLayout c) ok = k
 fed k (callBackup era t image) true = set k t (filed (keptTill k t) image)
@@ -91,10 +70,71 @@ fed k callTally ok = k
 fed k (callWriteStream t v output) ok = k
 fed k (callOffer t fs ms) ok = k
 fed k (callBackupSent t n fs ms ss) ok = k
+fed k (callBackupAll ts ns is) ok = k
+
+-- a call that was made, and whether it was accepted
+pub record CallMade : Type 0 where
+  pub call : Call
+  pub accepted : Bool
+
+unfoldable pub fedEach : Keeper → List CallMade → Keeper
+fedEach k [] = k
+fedEach k (m ∷ ms) = fedEach (fed k (m .call) (m .accepted)) ms
+
+-- ---- §5: "the image so put together is backed up"
+
+unfoldable pub imageOr : Outcome (List ℕ) → List ℕ
+imageOr (refused n) = []
+imageOr (done image) = image
+
+-- the image that a second message is put together to, by the store; none where it is refused before that
+unfoldable pub imageSent : Option Store → ℕ → ℕ → List ℕ → List ℕ → List ℕ → List ℕ
+imageSent none t bytes fingerprints marks segments = []
+imageSent (some store) t bytes fingerprints marks segments = imageOr (made sha1 (store .shape) (store .state) t bytes fingerprints marks segments)
+
+-- ---- §7: each image is a backup of its own, with its own answer
+
+unfoldable pub backupFor : TillImage → Call
+backupFor x = callBackup withBlanks (x .till) (x .image)
+
+unfoldable pub backupsMade : List TillImage → List ℕ → List CallMade
+backupsMade [] refusals = []
+backupsMade (x ∷ xs) [] = []
+backupsMade (x ∷ xs) (n ∷ refusals) = record { call = backupFor x; accepted = eqb n 0 } ∷ backupsMade xs refusals
+
+-- none where the call is refused whole
+unfoldable pub closingMade : List TillImage → AllAnswer → List CallMade
+closingMade images a = cond (eqb (a .refusal) 0) (backupsMade images (a .refusals)) []
+
+-- the numbers that the backups answer: an accepted one its till's new last number, a refused one 0
+unfoldable pub numbersGiven : Keeper → List TillImage → List ℕ → List ℕ
+numbersGiven k [] refusals = []
+numbersGiven k (x ∷ xs) [] = []
+numbersGiven k (x ∷ xs) (n ∷ refusals) =
+    let after : Keeper = fed k (backupFor x) (eqb n 0) in cond (eqb n 0) (keptTill after (x .till) .last) 0 ∷ numbersGiven after xs refusals
+
+-- ---- what the keeper is fed for a call
+
+unfoldable pub itself : Buffers → Call → List CallMade
+itself b c = record { call = c; accepted = eqb (refusalOf b c) 0 } ∷ []
+
+-- a second message is the backup of its image, a closing is those of its images, and every other call is itself
+unfoldable pub comesTo : Buffers → Call → List CallMade
+comesTo b (callLayout c) = itself b (callLayout c)
+comesTo b (callBackup era t image) = itself b (callBackup era t image)
+comesTo b (callRestore t v output) = itself b (callRestore t v output)
+comesTo b (callRetire t v) = itself b (callRetire t v)
+comesTo b (callListing t) = itself b (callListing t)
+comesTo b callTally = itself b callTally
+comesTo b (callWriteStream t v output) = itself b (callWriteStream t v output)
+comesTo b (callOffer t fs ms) = itself b (callOffer t fs ms)
+comesTo b (callBackupSent t n fs ms ss) =
+    record { call = callBackup withBlanks t (imageSent (storeOf (b .pool) (b .table)) t n fs ms ss); accepted = eqb (refusalOf b (callBackupSent t n fs ms ss)) 0 } ∷ []
+comesTo b (callBackupAll ts ns is) = closingMade (imagesIn ts ns is) (backupAllOf (b .pool) (b .table) ts ns is .answer)
 
 unfoldable pub fedAll : Keeper → Buffers → List Call → Keeper
 fedAll k b [] = k
-fedAll k b (c ∷ cs) = fedAll (fed k (comesTo (storeOf (b .pool) (b .table)) c) (eqb (refusalOf b c) 0)) (buffersAfter b c) cs
+fedAll k b (c ∷ cs) = fedAll (fedEach k (comesTo b c)) (buffersAfter b c) cs
 
 -- the kept version of that number and the newer ones; [] where none is held
 unfoldable pub keptFrom : ℕ → List Kept → List Kept

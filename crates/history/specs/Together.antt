@@ -8,7 +8,7 @@ use Rattle.model.specs.State.{Shelf, Version}
 use Rattle.model.specs.Trace.{imageOf, longestChain}
 use Rattle.model.specs.Sound.{Store, storeOf}
 use Rattle.model.specs.Calls.{layoutOf, tillOf}
-use Rattle.history.specs.Calls.{Call, callLayout, callBackup, callRestore, callRetire, callListing, callTally, callWriteStream, callOffer, callBackupSent, Buffers, refusalOf, buffersAfterAll, buffersAfter, answerOf, refusedLayouts}
+use Rattle.history.specs.Calls.{Call, callLayout, callBackup, callRestore, callRetire, callListing, callTally, callWriteStream, callOffer, callBackupSent, callBackupAll, Buffers, refusalOf, buffersAfterAll, buffersAfter, answerOf, refusedLayouts}
 use Rattle.history.specs.View.{tillNamed}
 use Rattle.history.specs.Demand.{laidOutIn}
 
@@ -23,6 +23,7 @@ IsBackupRestoreOrRetire callTally = ⊥
 IsBackupRestoreOrRetire (callWriteStream t v output) = ⊥
 IsBackupRestoreOrRetire (callOffer t fs ms) = ⊥
 IsBackupRestoreOrRetire (callBackupSent t n fs ms ss) = ⊥
+IsBackupRestoreOrRetire (callBackupAll ts ns is) = ⊥
 
 -- the first is accepted, and then the second
 abbrev pub AcceptedInTurn : Buffers → Call → Call → Type 0

@@ -14,7 +14,8 @@ use Rattle.model.specs.Trace.{imageOf}
 use Rattle.model.specs.Calls.{tillOf, notHeld, RestoreAnswer, restoreRefusal, listingRefusal}
 use Rattle.stream.specs.Version.{longestOutput, writeRestored}
 use Rattle.sent.specs.Sent.{OfferAnswer}
-use Rattle.history.specs.Calls.{Call, callLayout, callBackup, callRestore, callRetire, callListing, callTally, callWriteStream, callOffer, callBackupSent, Answer, laidOut, backedUp, restored, retired, listed, tallied, streamed, offered}
+use Rattle.closing.specs.Closing.{allRefused}
+use Rattle.history.specs.Calls.{Call, callLayout, callBackup, callRestore, callRetire, callListing, callTally, callWriteStream, callOffer, callBackupSent, callBackupAll, Answer, laidOut, backedUp, restored, retired, listed, tallied, streamed, offered, backedUpAll}
 use Rattle.history.specs.Kinds.{Kind, zeroKind, blankKind, directKind, indirectKind, kindOf, kindAt, hopsOfKind}
 
 -- A version as its till shows it: number, length, image, what each pointer is and where an indirect one leads.
@@ -51,7 +52,7 @@ chainShown (w ∷ newer) = largest (counted (hopsShown (w ∷ newer)) 0 (length 
 
 -- ---- what a call makes of its till
 
--- the till that a call is on; a lay out and a tally change none
+-- the till that a call is on; a lay out and a tally change none, and the closing of §7 is on many, by the backups that it comes to
 unfoldable pub tillNamed : Call → ℕ
 tillNamed (callLayout c) = 0
 tillNamed (callBackup era t image) = t
@@ -62,6 +63,7 @@ tillNamed callTally = 0
 tillNamed (callWriteStream t v output) = t
 tillNamed (callOffer t fs ms) = t
 tillNamed (callBackupSent t n fs ms ss) = t
+tillNamed (callBackupAll ts ns is) = 0
 
 -- a new version's pointer for a block
 unfoldable pub newKind : Era → Block → Kind
@@ -109,7 +111,7 @@ unfoldable pub shownWithout : TillView → ℕ → TillView
 shownWithout w n = record { last = w .last; versions = dropVersion n (w .versions) }
 
 -- What the till shows after a call that was accepted or refused: a function of what it showed before and of the call's arguments. What a second message
--- of §5 leaves is that of the backup it comes to.
+-- of §5 and a closing of §7 leave is that of the backups they come to.
 unfoldable pub changed : ℕ → Call → Bool → TillView → TillView
 changed bytes (callLayout c) ok w = w
 changed bytes (callBackup era t image) true w = shownWith era bytes w image
@@ -122,8 +124,9 @@ changed bytes callTally ok w = w
 changed bytes (callWriteStream t v output) ok w = w
 changed bytes (callOffer t fs ms) ok w = w
 changed bytes (callBackupSent t n fs ms ss) ok w = w
+changed bytes (callBackupAll ts ns is) ok w = w
 
--- the calls whose arguments say what they make of their till: all but the second message of §5
+-- the calls whose arguments say what they make of their till: all but the second message of §5 and the closing of §7
 abbrev pub IsPlain : Call → Type 0
 IsPlain (callLayout c) = Unit {0}
 IsPlain (callBackup era t image) = Unit {0}
@@ -134,6 +137,7 @@ IsPlain callTally = Unit {0}
 IsPlain (callWriteStream t v output) = Unit {0}
 IsPlain (callOffer t fs ms) = Unit {0}
 IsPlain (callBackupSent t n fs ms ss) = ⊥
+IsPlain (callBackupAll ts ns is) = ⊥
 
 -- ---- what a call on a till answers, from what the till shows; 14 and 16, which depend on the shared shelf, apart, and the messages of §5, which do too
 
@@ -147,6 +151,7 @@ isOnTill callTally = false
 isOnTill (callWriteStream t v output) = true
 isOnTill (callOffer t fs ms) = false
 isOnTill (callBackupSent t n fs ms ss) = false
+isOnTill (callBackupAll ts ns is) = false
 
 unfoldable pub shownFrom : ℕ → List VersionView → List VersionView
 shownFrom n [] = []
@@ -189,3 +194,4 @@ answerShown s w (callWriteStream t v output) =
     streamed (writeRestored (cond (leb (s .capacities .tills) t) (restoreRefusal 3 longestOutput) (restoreShown (notHeld (w .last) v) (shownFrom v (w .versions)) longestOutput)) output)
 answerShown s w (callOffer t fs ms) = offered (record { refusal = 0; marks = ms })
 answerShown s w (callBackupSent t n fs ms ss) = backedUp 0 0
+answerShown s w (callBackupAll ts ns is) = backedUpAll (allRefused 0)

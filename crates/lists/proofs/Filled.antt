@@ -4,14 +4,15 @@ use mathlib.Core.Bool.{true}
 use mathlib.Core.List.{List, [], _∷_, _++_, map, append-assoc}
 use Prim.Native.Nat.{ℕ, zero, suc, _+_, _*_, _≤_, _<_, _-_}
 use native.Mathlib.Nat.{suc-inj, mul-le-mul-right, suc-mul}
+use native.Mathlib.Numerals.{add-one}
 use native.Mathlib.Omega.{arith}
-use lib.ListN.{length, getD, take, drop, length-drop, length-map, replicate, length-append, replicate-append-replicate}
+use lib.ListN.{length, getD, set, take, drop, length-drop, length-map, replicate, length-append, replicate-append-replicate}
 use lib.Seq.{take-at, length-take-le, drop-at, drop-nil, drop-drop}
 use Rattle.lists.specs.Lists.{every, allZero}
 use Rattle.lists.specs.Rows.{rows, parts, fill}
 use Rattle.lists.specs.Each.{Each}
 use Rattle.lists.proofs.Each.{each-map}
-use Rattle.lists.proofs.Rows.{fill-split, fill-zeros, zeros-fill, fill-add}
+use Rattle.lists.proofs.Rows.{length-fill, fill-split, fill-zeros, zeros-fill, fill-add}
 use Rattle.lists.proofs.Slices.{drop-same}
 use Rattle.lists.proofs.Same.{zeros-eq, zeros-zero}
 use Rattle.lists.proofs.Cuts.{joined-parts, parts-joined, each-part}
@@ -33,6 +34,17 @@ back-fill n zero xs e = ap allZero (sym e) ∙ zeros-fill n
 back-fill n (suc k) [] e = refl
 back-fill zero (suc k) (x ∷ xs) e = let z : 0 ≡ suc (length xs) = ap length e in absurd (omega arith)
 back-fill (suc n) (suc k) (x ∷ xs) e = back-fill n k xs (ap (drop 1) e)
+
+-- one more number, where only zeros follow
+pub fill-put : (n : ℕ) (xs : List ℕ) (i v : ℕ) → i < n → fill n (take i xs) ≡ xs → fill n (take (i + 1) (set xs i v)) ≡ set xs i v
+unfolding fill
+fill-put n xs i v h e = rw (add-one i) (go n xs i h e)
+  where
+    go : (n : ℕ) (xs : List ℕ) (i : ℕ) → i < n → fill n (take i xs) ≡ xs → fill n (take (suc i) (set xs i v)) ≡ set xs i v
+    go zero xs i h e = absurd (omega (arith, h))
+    go (suc n) [] i h e = let z : length (fill (suc n) (take i [])) ≡ 0 = ap length e in absurd (omega (arith, z, length-fill (suc n) (take i [])))
+    go (suc n) (x ∷ xs) zero h e = ap {B = List ℕ} (λ r. v ∷ drop 1 r) e
+    go (suc n) (x ∷ xs) (suc i) h e = ap {B = List ℕ} (λ r. x ∷ r) (go n xs i (omega (arith, h)) (ap (drop 1) e))
 
 -- what was filled up stands in front
 pub fill-front : (n : ℕ) (ys xs : List ℕ) → length ys ≤ n → fill n ys ≡ xs → take (length ys) xs ≡ ys

@@ -5,8 +5,9 @@ use mathlib.Core.Bool.{Bool, true, false, cond}
 use mathlib.Core.List.{List, [], _∷_, map, _++_}
 use Prim.Native.Nat.{ℕ, zero, suc, _+_, _-_, _≤_, _<_}
 use native.Mathlib.Nat.{add-zero, suc-add, add-suc, not-suc-le-zero, le-of-suc-le-suc, suc-ne-zero, suc-inj, zero-add}
+use native.Mathlib.Numerals.{add-one}
 use native.Mathlib.Omega.{arith}
-use lib.ListN.{length, getD, set, length-set, drop}
+use lib.ListN.{length, getD, set, length-set, take, drop}
 use lib.Seq.{sets, getD-set-same, getD-set-other}
 use lib.Dec.{ltb, leb, eqb, eqb·suc-suc}
 use borrow.Author.Tests.{leb-true, leb-false, ltb-true, ltb-false, ne-eqb}
@@ -15,6 +16,15 @@ module _ {ℓ} {A : Type ℓ} where
   pub set-append-add : (xs ys : List A) (n : ℕ) (v : A) → set (xs ++ ys) (length xs + n) v ≡ xs ++ set ys n v
   set-append-add [] ys n v = rw zero-add
   set-append-add (x ∷ xs) ys n v = rw suc-add (ap {B = List A} (λ r. x ∷ r) (set-append-add xs ys n v))
+
+  -- what comes before i, the element put there, and more
+  pub take-put : (xs ys : List A) (i : ℕ) (v : A) → i < length xs → take (i + 1) (set xs i v) ++ ys ≡ take i xs ++ (v ∷ ys)
+  take-put xs ys i v h = rw (add-one i) (go xs i h)
+    where
+      go : (xs : List A) (i : ℕ) → i < length xs → take (suc i) (set xs i v) ++ ys ≡ take i xs ++ (v ∷ ys)
+      go [] i h = absurd (not-suc-le-zero h)
+      go (x ∷ xs) zero h = refl
+      go (x ∷ xs) (suc i) h = ap {B = List A} (λ r. x ∷ r) (go xs i (le-of-suc-le-suc h))
 
   -- what holds at every place outlives a write of what it holds of
   pub set-any : (P : A → Type 0) (d : A) (xs : List A) (k : ℕ) (v : A) → P v → ((j : ℕ) → P (getD xs j d)) → (j : ℕ) → P (getD (set xs k v) j d)

@@ -14,9 +14,12 @@ ghost use Rattle.stream_read.specs.Answers.{streamRead};
 ghost use Rattle.sha1.specs.Sha1.{digest};
 ghost use Rattle.sent.specs.Sent.{offerOf, backupSentOf};
 ghost use Rattle.sent_offer.specs.Offer.{offered};
+ghost use Rattle.closing.specs.Closing.{backupAllOf};
+ghost use Rattle.closing_backup.specs.Answers.{allBackedUp};
 ghost use Rattle.dispatcher.specs.Turns.{turnOf};
 ghost use Rattle.lurdempos.specs.Boundary.{theEight};
 use backup::BackedUp;
+use closing_backup::AllBackedUp;
 use dispatcher::Stepped;
 use dispatcher::Turn;
 use layout::Capacities;
@@ -199,6 +202,19 @@ pub extern "C" fn lurdempos_backup_sent(
     ensures { λ r. ⌜ backedUpAnswer r (now (pool .exit)) (now (table .exit)) ≡ backupSentOf (now (pool .entry)) (now (table .entry)) till length (now (fingerprints .entry)) (now (marks .entry)) (now (segments .entry)) ⌝ }
 {
     store::backup_sent(pool, table, till, length, fingerprints, marks, segments)
+}
+
+#[no_mangle]
+pub extern "C" fn lurdempos_backup_all(
+    pool: &mut [u8],
+    table: &mut [u32],
+    tills: &[u32],
+    lengths: &[u32],
+    images: &[u8],
+) -> AllBackedUp
+    ensures { λ r. ⌜ allBackedUp r (now (pool .exit)) (now (table .exit)) ≡ backupAllOf (now (pool .entry)) (now (table .entry)) (now (tills .entry)) (now (lengths .entry)) (now (images .entry)) ⌝ }
+{
+    store::backup_all(pool, table, tills, lengths, images)
 }
 
 #[no_mangle]

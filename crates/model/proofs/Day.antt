@@ -88,12 +88,8 @@ case6 =
 
 theDay : List Row
 theDay =
-    record { capacities = box 32; steps = case1 }
-    ∷ record { capacities = box 32; steps = case1 ++ case2 }
-    ∷ record { capacities = box 32; steps = case1 ++ (case2 ++ case3) }
-    ∷ record { capacities = box 32; steps = case1 ++ (case2 ++ (case3 ++ case4)) }
-    ∷ record { capacities = box 32; steps = case1 ++ (case2 ++ (case3 ++ (case4 ++ case5))) }
-    ∷ record { capacities = box 32; steps = case1 ++ (case2 ++ (case3 ++ (case4 ++ (case5 ++ case6)))) }
+    -- 1 to 6: each goes on where the one before it ends
+    record { capacities = box 32; steps = case1 ++ (case2 ++ (case3 ++ (case4 ++ (case5 ++ case6)))) }
     -- 7: no cell, no record
     ∷ record {
       capacities = box 32;

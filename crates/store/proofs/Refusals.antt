@@ -1,16 +1,18 @@
 -- Refusal 10, and what an accepted check tells.
 use mathlib.Core.Path.{_≡_, sym, _∙_}
 use mathlib.Core.Bool.{Bool, true, false, not}
-use mathlib.Core.List.{List}
+use mathlib.Core.List.{List, []}
 use mathlib.Core.Option.{none}
 use Prim.Native.Nat.{ℕ}
 use borrow.Author.Tests.{not-true, not-false}
 use Rattle.lists.specs.Lists.{isSome}
+use Rattle.lists.specs.Rows.{fill}
 use Rattle.model.specs.Sound.{storeOf}
 use Rattle.model.specs.Calls.{BackupAnswer, backupBy, backupIn, backupOf, ListingAnswer, RestoreAnswer, listingRefusal, listingIn, listingOf, restoreRefusal, restoreIn, restoreOf, RetireAnswer, retireIn, retireOf, TallyAnswer, tallyIn, tallyOf}
 use Rattle.laws.specs.Stores.{Sound}
 use Rattle.stream.specs.Stream.{streamRefusal}
 use Rattle.stream.specs.Version.{writeRestored, writeStreamOf}
+use Rattle.closing.specs.Closing.{allRefused, backupAllIn, backupAllOf}
 use Rattle.sent.specs.Sent.{OfferAnswer, offerIn, offerOf, backupSentIn, backupSentBy, backupSentOf}
 use Rattle.laws.proofs.Stores.{sound-if, none-if}
 
@@ -53,3 +55,9 @@ module _ (pool table : List ℕ) (r : Bool) (e : r ≡ isSome (storeOf pool tabl
       → record { refusal = 10; version = 0; pool = pool; table = table } ≡ backupSentOf pool table t bytes fingerprints marks segments
   unfolding backupSentOf backupSentBy backupSentIn
   sent-10 n t bytes fingerprints marks segments = rw (no-store n)
+
+  -- sixteen places of zeros each
+  pub all-10 : not r ≡ true → (tills lengths images zeros : List ℕ) → zeros ≡ fill 16 []
+      → record { answer = record { refusal = 10; refusals = zeros; versions = zeros }; pool = pool; table = table } ≡ backupAllOf pool table tills lengths images
+  unfolding backupAllOf backupAllIn allRefused
+  all-10 n tills lengths images zeros e = rw (no-store n, e)

@@ -11,7 +11,10 @@ ghost use Rattle.stream.specs.Version.{writeStreamOf};
 ghost use Rattle.stream_write.specs.Answers.{streamWritten};
 ghost use Rattle.sent.specs.Sent.{offerOf, backupSentOf};
 ghost use Rattle.sent_offer.specs.Offer.{offered};
+ghost use Rattle.closing.specs.Closing.{backupAllOf};
+ghost use Rattle.closing_backup.specs.Answers.{allBackedUp};
 use backup::BackedUp;
+use closing_backup::AllBackedUp;
 use layout::Capacities;
 use layout::TableLength;
 use restore::Restored;
@@ -145,4 +148,24 @@ pub fn backup_sent(
         };
     }
     sent_backup::back_up_sent(pool, table, till, length, fingerprints, marks, segments)
+}
+
+// All tills at closing: the images lie end to end. One check serves for all of them.
+pub fn backup_all(
+    pool: &mut [u8],
+    table: &mut [u32],
+    tills: &[u32],
+    lengths: &[u32],
+    images: &[u8],
+) -> AllBackedUp
+    ensures { λ r. ⌜ allBackedUp r (now (pool .exit)) (now (table .exit)) ≡ backupAllOf (now (pool .entry)) (now (table .entry)) (now (tills .entry)) (now (lengths .entry)) (now (images .entry)) ⌝ }
+{
+    if !audit::sound(pool, table) {
+        return AllBackedUp {
+            refusal: 10,
+            refusals: [0u32; 16],
+            versions: [0u32; 16],
+        };
+    }
+    closing_backup::back_up_all(pool, table, tills, lengths, images)
 }

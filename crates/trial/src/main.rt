@@ -50,6 +50,7 @@ fn trial(pool: &mut [u8], table: &mut [u32], counts: &mut [u64]) {
     trial_refusals::layouts(pool, table, counts);
     trial_refusals::last_number(counts);
     trial_refusals::sent::messages(counts);
+    trial_closing::whole::closings(counts);
     histories(20, pool, table, counts);
     tell::report(counts);
 }
@@ -57,6 +58,6 @@ fn trial(pool: &mut [u8], table: &mut [u32], counts: &mut [u64]) {
 fn main() {
     let mut pool = [0u8; 4096];
     let mut table = [0u32; 600];
-    let mut counts = [0u64; 59];
+    let mut counts = [0u64; 62];
     trial(&mut pool, &mut table, &mut counts);
 }

@@ -6,7 +6,7 @@ use Prim.Native.Nat.{ℕ, zero, suc, _+_, _-_, _≤_, _<_}
 use native.Mathlib.Nat.{le-of-suc-le-suc, not-suc-le-zero}
 use native.Mathlib.Numerals.{add-one}
 use native.Mathlib.Omega.{arith}
-use borrow.Author.Tests.{eqb-true, eq-eqb, ne-eqb}
+use borrow.Author.Tests.{eqb-true, eqb-false, eq-eqb, ne-eqb}
 use lib.Dec.{eqb}
 use lib.ListN.{length, getD, drop, replicate, length-drop, drop-of-length-le}
 use lib.Seq.{drop-cons}
@@ -84,6 +84,16 @@ others-next x l i h = rw (drop-next l i h)
 pub others-end : (x : ℕ) (l : List ℕ) (i : ℕ) → length l ≤ i → others x (drop i l) ≡ 0
 unfolding others
 others-end x l i h = rw (drop-of-length-le l {i = i} h)
+
+pub filled-next :
+    (l : List ℕ) (i r : ℕ) → i < length l → (getD l i 0 ≡ 0 → r ≡ 0) → (0 < getD l i 0 → r ≡ 1) → others 0 (drop i l) ≡ r + others 0 (drop (i + 1) l)
+filled-next l i r h z o = others-next 0 l i h ∙ ap (λ (n : ℕ). n + others 0 (drop (i + 1) l)) (go (eqb (getD l i 0) 0) refl)
+  where
+    go : (t : Bool) → eqb (getD l i 0) 0 ≡ t → wrongHead 0 (drop i l) ≡ r
+    go true q = let e : getD l i 0 ≡ 0 = eqb-true (getD l i 0) 0 q in head-same l i 0 h e ∙ sym (z e)
+    go false q =
+        let e : getD l i 0 ≡ 0 → ⊥ = eqb-false (getD l i 0) 0 q in
+        head-other l i 0 h e ∙ sym (o (omega (arith, e)))
 
 -- ---- a list filled to its end
 

@@ -1,7 +1,7 @@
 // Bytes compared, marked, counted and summed up.
 ghost use mathlib.Core.List.{[], _++_};
 ghost use mathlib.Core.Path.{_≡_};
-ghost use Prim.Native.Nat.{_-_, _≤_};
+ghost use Prim.Native.Nat.{_-_, _≤_, _<_};
 ghost use lib.ListN.{length, drop, replicate};
 ghost use Rattle.trial_compare.specs.Bytes.{wrongHead, others, Compared};
 use numbers::Cell;
@@ -70,6 +70,28 @@ pub fn unmarked(output: &[u8]) -> usize
     ensures { λ r. ⌜ r ≡ others 170 (now (output .entry)) ⌝ }
 {
     others_than(MARK, output)
+}
+
+fn one_if_filled(word: u32) -> usize
+    ensures { λ r. ⌜ (word ≡ 0 → r ≡ 0) × (0 < word → r ≡ 1) × (r ≤ 1) ⌝ }
+{
+    if word == 0 {
+        return 0;
+    }
+    1
+}
+
+// How many words are other than zero.
+pub fn filled_words(words: &[u32]) -> usize
+    ensures { λ r. ⌜ r ≡ others 0 (now (words .entry)) ⌝ }
+{
+    let mut n = 0;
+    let mut i = 0;
+    while i < words.len() {
+        n += one_if_filled(words[i]);
+        i += 1;
+    }
+    n
 }
 
 fn sum_of_bytes(bytes: &[u8], from: u64) -> u64 {

@@ -18,7 +18,7 @@ pub const NOTES: usize = 33;
 
 pub const IMAGES: usize = 19200;
 
-fn note_at(notes: &[u32], at: usize) -> u32
+pub fn note_at(notes: &[u32], at: usize) -> u32
     ensures { λ r. ⌜ r ≡ getD (now (notes .entry)) at 0 ⌝ }
 {
     if at < notes.len() {

@@ -42,6 +42,13 @@ pub const HAD: usize = 57;
 
 pub const SENT: usize = 58;
 
+// Calls at closing, and the images of those that are not refused whole: taken, or refused each by itself. Such an image counts as a call too.
+pub const CLOSINGS: usize = 59;
+
+pub const TAKEN: usize = 60;
+
+pub const TURNED_AWAY: usize = 61;
+
 pub fn count_at(counts: &[u64], at: usize) -> u64
     ensures { λ r. ⌜ r ≡ getD (now (counts .entry)) at 0 ⌝ }
 {

@@ -58,6 +58,21 @@ fn segments(counts: &[u64]) {
     line(b"segments sent:", counts::count_at(counts, counts::SENT));
 }
 
+fn closings(counts: &[u64]) {
+    line(
+        b"closings accepted:",
+        counts::count_at(counts, counts::CLOSINGS),
+    );
+    line(
+        b"images taken at closing:",
+        counts::count_at(counts, counts::TAKEN),
+    );
+    line(
+        b"images refused at closing:",
+        counts::count_at(counts, counts::TURNED_AWAY),
+    );
+}
+
 fn accepted(counts: &[u64]) {
     line(b"calls:", counts::count_at(counts, counts::CALLS));
     line(
@@ -115,6 +130,7 @@ pub fn report(counts: &[u64]) {
     accepted(counts);
     retires(counts);
     segments(counts);
+    closings(counts);
     refusals(counts);
     verdict(counts);
 }

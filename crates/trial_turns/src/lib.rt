@@ -1,41 +1,7 @@
 // One drawn call. After a backup or a retire all is checked.
 use layout::Capacities;
 use trial_draw::dice::Dice;
-use trial_draw::images;
 use trial_report::counts;
-
-// One time in sixteen a till that is not there.
-fn till_of(c: Capacities, d: Dice) -> u32 {
-    if d.pick(8, 16) == 0 {
-        return c.tills;
-    }
-    d.pick(12, c.tills)
-}
-
-// None, a byte too many, full, or any length.
-fn bytes_of(c: Capacities, d: Dice) -> usize {
-    let most = trial_keeper::image_bytes(c);
-    let kind = d.pick(48, 16);
-    if kind == 0 {
-        return 0;
-    }
-    if kind == 1 {
-        return most + 1;
-    }
-    if kind < 8 {
-        return most;
-    }
-    d.drawn(50, most as u64) as usize + 1
-}
-
-// How many bytes the image has that now stands at the front; more than there is room for: none.
-fn draw_image(c: Capacities, d: Dice, image: &mut [u8]) -> usize {
-    let bytes = bytes_of(c, d);
-    if bytes <= image.len() {
-        images::fill(&mut image[0..bytes], images::plan_of(d));
-    }
-    bytes
-}
 
 // By one call, or by both messages.
 fn back_up_image(
@@ -96,11 +62,11 @@ fn back_up(
     counts: &mut [u64],
 ) {
     let mut image = [0u8; 1408];
-    let bytes = draw_image(c, d, &mut image);
+    let bytes = trial_choice::draw_image(c, d, &mut image);
     back_up_first(
         c,
         d.pick(4, 3) == 0,
-        till_of(c, d),
+        trial_choice::till_of(c, d),
         bytes,
         &image,
         pool,
@@ -149,7 +115,7 @@ fn retire(
     notes: &mut [u32],
     counts: &mut [u64],
 ) {
-    let till = till_of(c, d);
+    let till = trial_choice::till_of(c, d);
     let version = version_of(d, till, notes);
     trial_calls::retire(c, till, version, pool, table, notes, counts);
 }
@@ -177,13 +143,13 @@ fn restore(
     notes: &[u32],
     counts: &mut [u64],
 ) {
-    let till = till_of(c, d);
+    let till = trial_choice::till_of(c, d);
     let version = version_of(d, till, notes);
     let room = room_of(d, trial_keeper::length(notes, till, version));
     trial_calls::restore(c, till, version, room, pool, table, images, notes, counts);
 }
 
-// A version comes or goes.
+// A version comes, or some do, or one goes.
 fn change(
     c: Capacities,
     d: Dice,
@@ -194,8 +160,10 @@ fn change(
     notes: &mut [u32],
     counts: &mut [u64],
 ) {
-    if kind < 14 {
+    if kind < 11 {
         back_up(c, d, pool, table, images, notes, counts);
+    } else if kind < 13 {
+        trial_closing::drawn::close(c, d, pool, table, images, notes, counts);
     } else {
         retire(c, d, pool, table, notes, counts);
     }
@@ -229,7 +197,7 @@ fn look(
     if kind < 30 {
         restore(c, d, pool, table, images, notes, counts);
     } else if kind < 31 {
-        trial_calls::list(c, till_of(c, d), pool, table, notes, counts);
+        trial_calls::list(c, trial_choice::till_of(c, d), pool, table, notes, counts);
     } else {
         trial_unsound::damaged(d, pool, table, counts);
     }

@@ -4,7 +4,7 @@ use keeper::closings::{Shop, LENGTH};
 use keeper::dense::Dense;
 use std::fmt;
 use std::rc::Rc;
-use terms::{Calls, Capacities, Sending, FINGERPRINT};
+use terms::{Calls, Capacities, Collected, Sending, FINGERPRINT};
 use twin::{fingerprint_of, Twin};
 
 const SEED: u64 = 1;
@@ -44,9 +44,19 @@ pub enum What {
     Sent {
         sending: Sending,
     },
+    /// An image of each till, all in one call.
+    Closing {
+        collected: Collected,
+        /// The part that it may take of the same in a call each, if it has such a target.
+        most: Option<f64>,
+    },
+    /// The same images in a call each.
+    Singles {
+        images: Vec<Vec<u8>>,
+    },
 }
 
-/// One line of the table. All calls are of till 0, but for a retire that names another one.
+/// One line of the table. All calls are of till 0, but for a retire that names another one and for closings.
 pub struct Case {
     pub store: Rc<Kept>,
     pub what: What,
@@ -86,19 +96,32 @@ impl Kept {
         self
     }
 
-    /// A shop's closings, and the next one of till 0.
-    fn of_shop(name: &'static str, capacities: Capacities) -> (Rc<Kept>, Vec<u8>) {
-        let mut shop = Shop::new(SEED, 16);
-        let kept = Kept::empty(name, capacities).closings(16, |till| shop.close(till).to_vec());
-        (Rc::new(kept), shop.close(0).to_vec())
+    /// The same store, where so many tills have room for one version more.
+    fn with_room(&self, tills: usize) -> Kept {
+        let Kept { name, capacities, .. } = *self;
+        let mut kept = Kept { name, capacities, pool: self.pool.clone(), table: self.table.clone() };
+        for till in 1..tills as u32 {
+            let [refusal, oldest, ..] = Twin.listing(&kept.pool, &kept.table, till);
+            if oldest != 0 {
+                assert_eq!([refusal, Twin.retire(&mut kept.pool, &mut kept.table, till, oldest)[0]], [0; 2]);
+            }
+        }
+        kept
     }
 
-    /// Closings with nothing shared, and the next one of till 0.
-    fn of_dense(name: &'static str, capacities: Capacities, fill: Fill) -> (Rc<Kept>, Vec<u8>) {
+    /// A shop's closings, and the next one of each till.
+    fn of_shop(name: &'static str, capacities: Capacities) -> (Rc<Kept>, Vec<Vec<u8>>) {
+        let mut shop = Shop::new(SEED, 16);
+        let kept = Kept::empty(name, capacities).closings(16, |till| shop.close(till).to_vec());
+        (Rc::new(kept), (0..16).map(|till| shop.close(till).to_vec()).collect())
+    }
+
+    /// Closings with nothing shared, and the next one of each till.
+    fn of_dense(name: &'static str, capacities: Capacities, fill: Fill) -> (Rc<Kept>, Vec<Vec<u8>>) {
         let segment = capacities.block_bytes * capacities.segment_blocks;
         let mut dense = Dense::new(SEED, fill.tills, fill.length, segment as usize, fill.changes);
         let kept = Kept::empty(name, capacities).closings(fill.tills, |till| dense.close(till).to_vec());
-        (Rc::new(kept), dense.close(0).to_vec())
+        (Rc::new(kept), (0..fill.tills).map(|till| dense.close(till).to_vec()).collect())
     }
 }
 
@@ -123,34 +146,56 @@ pub fn all() -> Vec<Vec<Case>> {
 
 fn page_cases() -> Vec<Vec<Case>> {
     let empty = Rc::new(Kept::empty("empty", Capacities::LARGEST));
-    let (typical, closing) = Kept::of_shop("typical", Capacities::LARGEST);
+    let (typical, day) = Kept::of_shop("typical", Capacities::LARGEST);
     let fill = Fill { tills: 16, length: 65_536, changes: 2 };
     let (full, long) = Kept::of_dense("full", Capacities::LARGEST, fill);
-    let mut of_full = of_store(&full, &long[..LENGTH], true);
-    let more = [What::Backup { image: long }, What::Sha1];
+    let mut of_full = of_store(&full, &long, true);
+    let more = [What::Backup { image: long[0].clone() }, What::Sha1];
     of_full.extend(more.map(|what| Case { store: full.clone(), what, passes: None }));
-    vec![of_store(&empty, &closing, false), of_store(&typical, &closing, false), of_full]
+    let (mut of_empty, mut of_typical) = (of_store(&empty, &day, false), of_store(&typical, &day, false));
+    add_closings(&mut of_empty, &day, None);
+    add_closings(&mut of_typical, &day, Some(0.4));
+    add_closings(&mut of_full, &long, None);
+    vec![of_empty, of_typical, of_full]
 }
 
 /// Blocks of 512 bytes, 16 to a segment. A 16th till would ask for more cells than there are.
 fn large_cases() -> Vec<Vec<Case>> {
     let capacities = Capacities::largest([512, 16, 20]);
-    let (typical, closing) = Kept::of_shop("typical, 512 × 16", capacities);
     let fill = Fill { tills: 15, length: 65_536, changes: 2 };
-    let (full, long) = Kept::of_dense("full, 512 × 16", capacities, fill);
-    vec![of_store(&typical, &closing, false), of_store(&full, &long[..LENGTH], false)]
+    other_cases(Kept::of_shop("typical, 512 × 16", capacities), Kept::of_dense("full, 512 × 16", capacities, fill))
 }
 
 /// Blocks of 64 bytes, 4 to a segment. Longer images would ask for more records than there are.
 fn small_cases() -> Vec<Vec<Case>> {
     let capacities = Capacities::largest([64, 4, 20]);
-    let (typical, closing) = Kept::of_shop("typical, 64 × 4", capacities);
     let fill = Fill { tills: 16, length: 49_152, changes: 1 };
-    let (full, long) = Kept::of_dense("full, 64 × 4", capacities, fill);
-    vec![of_store(&typical, &closing, false), of_store(&full, &long[..LENGTH], false)]
+    other_cases(Kept::of_shop("typical, 64 × 4", capacities), Kept::of_dense("full, 64 × 4", capacities, fill))
 }
 
-fn of_store(store: &Rc<Kept>, closing: &[u8], targets: bool) -> Vec<Case> {
+/// Those of a typical and of a full store, each with its next closing.
+fn other_cases(typical: (Rc<Kept>, Vec<Vec<u8>>), full: (Rc<Kept>, Vec<Vec<u8>>)) -> Vec<Vec<Case>> {
+    let of_both = [typical, full].map(|(store, day)| {
+        let mut cases = of_store(&store, &day, false);
+        add_closings(&mut cases, &day, None);
+        cases
+    });
+    of_both.into()
+}
+
+/// A closing of all tills in one call, and the same in a call each.
+fn add_closings(cases: &mut Vec<Case>, day: &[Vec<u8>], most: Option<f64>) {
+    let store = Rc::new(cases[0].store.with_room(day.len()));
+    let images: Vec<Vec<u8>> = day.iter().map(|image| image[..LENGTH].to_vec()).collect();
+    let collected = Collected::of((0..).zip(&images).map(|(till, image)| (till, &image[..])));
+    let kept = Twin.backup_all(&mut store.pool.clone(), &mut store.table.clone(), collected.closing());
+    assert!(kept[..=day.len()].iter().all(|&refusal| refusal == 0), "a closing of the {} store: {kept:?}", store.name);
+    let both = [What::Closing { collected, most }, What::Singles { images }];
+    cases.extend(both.map(|what| Case { store: store.clone(), what, passes: None }));
+}
+
+fn of_store(store: &Rc<Kept>, day: &[Vec<u8>], targets: bool) -> Vec<Case> {
+    let closing = &day[0][..LENGTH];
     let backup = What::Backup { image: closing.to_vec() };
     let restore = |version| What::Restore { version, room: 65_536 };
     let (fingerprints, sending) = store.messages(closing);
@@ -194,11 +239,14 @@ impl What {
                 let sent = sending.marks.iter().filter(|&&mark| mark == 1).count();
                 format!("backup of {}, {sent} of {} segments sent", sending.length, sending.marks.len())
             }
+            What::Closing { collected, .. } => format!("closing of {} images of {LENGTH}", collected.tills.len()),
+            What::Singles { images } => format!("{} backups of {LENGTH} in turn", images.len()),
         }
     }
 
     pub fn writes(&self) -> bool {
-        matches!(self, What::LayOut | What::Retire { .. } | What::Backup { .. } | What::Sent { .. })
+        let one = matches!(self, What::LayOut | What::Retire { .. } | What::Backup { .. } | What::Sent { .. });
+        one || matches!(self, What::Closing { .. } | What::Singles { .. })
     }
 }
 
@@ -223,6 +271,11 @@ impl Case {
                 store.offer(pool, table, 0, fingerprints, &mut output[..fingerprints.len() / FINGERPRINT])[0]
             }
             What::Sent { sending } => store.backup_sent(pool, table, 0, sending.message())[0],
+            What::Closing { collected, .. } => store.backup_all(pool, table, collected.closing())[0],
+            What::Singles { images } => {
+                let single = |(till, image): (u32, &Vec<u8>)| store.backup(pool, table, till, image)[0];
+                (0..).zip(images).map(single).fold(0, u32::max)
+            }
         }
     }
 }

@@ -21,6 +21,10 @@ pub struct Line {
     most_passes: Option<f64>,
     /// Of a stream: a restore of the same version by the proved store and one pass over the image.
     restored: Option<f64>,
+    /// Of a closing: its images in a call each by the proved store, and the part of that time that it may take, if it has
+    /// such a target.
+    singles: Option<f64>,
+    most_of_singles: Option<f64>,
 }
 
 /// The buffers that calls are made on.
@@ -32,7 +36,13 @@ struct Work {
 
 /// The lines of one store, all with the best of its read passes.
 pub fn time_all(cases: Vec<Case>, rounds: usize) -> Vec<Line> {
+    let place = |of: fn(&What) -> bool| cases.iter().position(|case| of(&case.what));
+    let closing = place(|what| matches!(what, What::Closing { .. }));
+    let singles = place(|what| matches!(what, What::Singles { .. }));
     let mut lines: Vec<Line> = cases.into_iter().map(|case| time(case, rounds)).collect();
+    if let (Some(closing), Some(singles)) = (closing, singles) {
+        lines[closing].singles = Some(lines[singles].proved);
+    }
     let pass = lines.iter().map(|line| line.pass).fold(f64::INFINITY, f64::min);
     lines.iter_mut().for_each(|line| line.pass = pass);
     lines
@@ -70,7 +80,9 @@ fn time(case: Case, rounds: usize) -> Line {
     let refused = if refusals[0] == 0 { String::new() } else { format!(", refused {}", refusals[0]) };
     let [proved, twin, pass] = best.map(|time| time.as_nanos() as f64 / 1_000.0);
     let call = case.what.name() + &refused;
-    Line { store: case.store.name, call, proved, twin, pass, most_passes: case.passes, restored }
+    let most_of_singles = if let What::Closing { most, .. } = case.what { most } else { None };
+    let (store, most_passes) = (case.store.name, case.passes);
+    Line { store, call, proved, twin, pass, most_passes, restored, singles: None, most_of_singles }
 }
 
 /// The least that writing a stream can cost: restoring the image and reading it once.
@@ -110,6 +122,11 @@ impl Line {
         self.proved / self.pass
     }
 
+    /// The part that a closing takes of its images in a call each.
+    fn of_singles(&self) -> Option<f64> {
+        self.singles.map(|time| self.proved / time)
+    }
+
     /// The targets that this line misses, in words.
     pub fn misses(&self) -> Vec<String> {
         let (store, call) = (self.store, &self.call);
@@ -123,6 +140,11 @@ impl Line {
         if let Some(most) = self.restored.map(|time| time * MOST).filter(|&most| self.proved > most) {
             misses.push(format!("- {call} on the {store} store: {:.1}, at most {most:.1}", self.proved));
         }
+        if let (Some(part), Some(most)) = (self.of_singles(), self.most_of_singles) {
+            if part > most {
+                misses.push(format!("- {call} on the {store} store: {part:.2} of single calls, at most {most}"));
+            }
+        }
         misses
     }
 }
@@ -134,7 +156,9 @@ impl fmt::Display for Line {
         let passes = if short { String::new() } else { format!("{:.1}", self.passes()) };
         let passes_most = self.most_passes.map(|most| format!("{most} passes, "));
         let restored = self.restored.map(|time| format!("{MOST} × {time:.1} of restore and a pass over the image, "));
-        let most = passes_most.or(restored).unwrap_or_default();
+        let target = self.most_of_singles.map_or(String::new(), |most| format!(", at most {most}"));
+        let singles = self.of_singles().map(|part| format!("{part:.2} of single calls{target}, "));
+        let most = passes_most.or(restored).or(singles).unwrap_or_default();
         let mark = if self.misses().is_empty() { "met" } else { "**missed**" };
         let (store, call, ratio) = (self.store, &self.call, self.ratio());
         let (proved, twin) = (time(self.proved), time(self.twin));

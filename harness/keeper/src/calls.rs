@@ -1,11 +1,15 @@
 //! A call with its arguments, and random lists of calls.
 
+use crate::collected::misfit;
 use crate::images::Images;
 use crate::messages::Messages;
 use crate::whole::Till;
 use crate::{Course, Keeper, Random};
 use std::fmt;
-use terms::{Capacities, Sending, BLOCK, BLOCK_BYTES, LAST_NUMBER, LONGEST_STREAM, SEGMENT, SEGMENT_BLOCKS};
+use terms::{
+    Capacities, Collected, Sending, BLOCK, BLOCK_BYTES, LAST_NUMBER, LONGEST_STREAM, MOST_IMAGES, SEGMENT,
+    SEGMENT_BLOCKS,
+};
 
 #[derive(Clone)]
 pub enum Call {
@@ -49,6 +53,8 @@ pub enum Call {
         till: u32,
         sending: Sending,
     },
+    /// Images of several tills at closing.
+    All(Collected),
 }
 
 impl fmt::Debug for Call {
@@ -71,6 +77,9 @@ impl fmt::Debug for Call {
             Call::Sent { till, sending: Sending { length, fingerprints, marks, segments } } => {
                 let (prints, segments) = (fingerprints.len(), segments.len());
                 write!(f, "sent till {till}, length {length}, {prints} bytes, marks {marks:?}, {segments} bytes")
+            }
+            Call::All(Collected { tills, lengths, images }) => {
+                write!(f, "closing of tills {tills:?}, lengths {lengths:?}, {} bytes", images.len())
             }
         }
     }
@@ -164,6 +173,7 @@ impl List {
                 Call::Retire { till: till_number, version }
             }
             33..=52 => self.sent(random, course, till_number, till, wrong),
+            53..=57 => self.closing(random, course),
             _ => Call::Backup { till: till_number, image: self.image(random, keeper, till, wrong) },
         }
     }
@@ -226,6 +236,32 @@ impl List {
         let image = self.image(random, course.keeper(), till, false);
         let sending = self.with_messages(course, |messages| messages.sent(random, &image, wrong));
         Call::Sent { till: number, sending }
+    }
+
+    /// A closing: any tills, often one of them several times, images such as they would send by themselves or such as are
+    /// refused, and lists that mostly fit.
+    pub fn closing(&self, random: &mut Random, course: &Course) -> Call {
+        let mut newest: Vec<Option<Vec<u8>>> =
+            course.keeper().tills().iter().map(|till| till.newest_image().map(<[u8]>::to_vec)).collect();
+        let count = *random.pick(&[0, 1, 2, 2, 3, 3, 4, 5, 6, 8, MOST_IMAGES]);
+        let mut collected = Collected::default();
+        for _ in 0..count {
+            let till = random.below(newest.len());
+            match random.below(25) {
+                0 => collected.add(self.no_till(random), &[7; 9]),
+                1 => collected.add(till as u32, &vec![7; *random.pick(&[0, self.capacities.image_bytes() + 1])]),
+                _ => {
+                    let other = random.pick(&newest).as_deref();
+                    let image = self.images.next(random, newest[till].as_deref(), other);
+                    collected.add(till as u32, &image);
+                    newest[till] = Some(image);
+                }
+            }
+        }
+        if random.percent(15) {
+            misfit(random, &mut collected);
+        }
+        Call::All(collected)
     }
 
     fn with_messages<T>(&self, course: &Course, make: impl FnOnce(&Messages) -> T) -> T {

@@ -2,13 +2,14 @@
 //! have left the same pool, table and output, and both must be what the keeper knows.
 
 use crate::calls::stream_length;
+use crate::collected::each;
 use crate::events::Events;
 use crate::expected::Expected;
 use crate::stock::Stock;
 use crate::words::Words;
 use crate::{Call, Keeper};
 use std::collections::BTreeSet;
-use terms::{fingerprint, Backup, Calls, Capacities, Fingerprint};
+use terms::{fingerprint, Backup, Calls, Capacities, Collected, Fingerprint, Refusal, CLOSING_NUMBERS, MOST_IMAGES};
 
 /// What outputs are filled with before they are lent.
 const UNTOUCHED: u8 = 0xa5;
@@ -37,8 +38,11 @@ pub struct Course {
     pub events: Events,
 }
 
-/// An answer as numbers, the refusal first, and the output that was lent.
-type Answer = ([u32; 4], Vec<u8>);
+/// An answer's numbers, the refusal first, with zeros behind its own: a closing has the most.
+type Numbers = [u32; CLOSING_NUMBERS];
+
+/// An answer as numbers, and the output that was lent.
+type Answer = (Numbers, Vec<u8>);
 
 impl Course {
     /// Lays the same store out for each.
@@ -88,8 +92,14 @@ impl Course {
         Stock::of(&self.pool, &self.table, &|segment: &[u8]| self.print(segment))
     }
 
-    /// Makes one call of all stores and compares. Answers the refusal's number.
+    /// Makes one call of all stores and compares. Answers the refusal's number and those of any call but a closing.
     pub fn call(&mut self, call: &Call) -> [u32; 4] {
+        let [refusal, first, second, third, ..] = self.numbers(call);
+        [refusal, first, second, third]
+    }
+
+    /// The same with all numbers, also of a closing.
+    pub fn numbers(&mut self, call: &Call) -> Numbers {
         let expected = self.expected(call);
         let mut answers: Vec<Answer> = self.lanes.iter_mut().map(|lane| answer_by(self.earlier, lane, call)).collect();
         let (first, output) = answers.swap_remove(0);
@@ -105,24 +115,48 @@ impl Course {
         self.made += 1;
         self.accepted += accepted as usize;
         if accepted && changes(call) {
-            self.events += self.events_of(call);
+            self.events += match call {
+                Call::All(collected) => self.as_single_backups(call, collected, &first),
+                _ => self.events_of(call),
+            };
             self.pool.copy_from_slice(&self.lanes[0].pool);
             self.table.copy_from_slice(&self.lanes[0].table);
         }
         self.lanes_agree(call);
-        self.judge(call, first, &output, expected);
+        self.judge(call, &first, &output, expected);
         first
     }
 
     /// The image that a message makes, backed up on a copy of the store before it: the answer, every byte and every word
     /// are those that the message left.
-    fn as_a_full_backup(&self, call: &Call, till: u32, image: &[u8], answer: [u32; 4]) {
+    fn as_a_full_backup(&self, call: &Call, till: u32, image: &[u8], answer: Numbers) {
         for lane in &self.lanes {
             let (mut pool, mut table) = (self.pool.clone(), self.table.clone());
             let full = lane.store.backup(&mut pool, &mut table, till, image);
             assert_eq!(full, answer[..2], "{}: another answer than a full backup's", self.place(call));
             assert!(pool == lane.pool && table == lane.table, "{}: another store", self.place(call));
         }
+    }
+
+    /// The images of a closing, backed up one after the other on a copy of the store before it: each answer, every byte
+    /// and every word are those of the closing. Answers what the backups have done.
+    fn as_single_backups(&self, call: &Call, collected: &Collected, answer: &Numbers) -> Events {
+        let (refusals, versions) = answer[1..].split_at(MOST_IMAGES);
+        let mut events = Events::default();
+        for (n, lane) in self.lanes.iter().enumerate() {
+            let (mut pool, mut table) = (self.pool.clone(), self.table.clone());
+            for (i, (till, image)) in each(collected).into_iter().flatten().enumerate() {
+                let before = table.clone();
+                let single = lane.store.backup(&mut pool, &mut table, till, image);
+                assert_eq!(single, [refusals[i], versions[i]], "{}: image {i} by itself", self.place(call));
+                if n == 0 && single[0] == 0 {
+                    events += Events::between(&before, &table, self.capacities);
+                    events += Events::turned(&before, &table, self.capacities, till as usize);
+                }
+            }
+            assert!(pool == lane.pool && table == lane.table, "{}: another store", self.place(call));
+        }
+        events
     }
 
     /// What an accepted backup or retire has done, with the table before it still at hand.
@@ -156,13 +190,10 @@ impl Course {
     }
 
     /// The answer and output are what the keeper knows, which then follows the call.
-    fn judge(&mut self, call: &Call, answer: [u32; 4], output: &[u8], expected: Expected) {
-        let left_open = expected.is_ok() && files(call);
-        let number = expected.as_ref().map_or_else(|refusal| refusal.number(), |_| 0);
-        let fits = answer[0] == number || left_open && [14, 16].contains(&answer[0]);
-        assert!(fits, "{}: answered {}, the keeper has {number}", self.place(call), answer[0]);
+    fn judge(&mut self, call: &Call, answer: &Numbers, output: &[u8], expected: Expected) {
+        self.judge_refusal(call, answer[0], expected.as_ref().err(), files(call));
         if answer[0] != 0 {
-            assert_eq!(answer[1..], [0; 3], "{}: a field beside the refusal", self.place(call));
+            assert!(answer[1..].iter().all(|&field| field == 0), "{}: a field beside the refusal", self.place(call));
             assert!(output.iter().all(|&byte| byte == UNTOUCHED), "{}: output altered", self.place(call));
             return;
         }
@@ -180,7 +211,7 @@ impl Course {
             Call::WriteStream { till, version, .. } => self.judge_stream(call, *till, *version, answer, output),
             Call::Listing { till } => {
                 let listing = self.keeper.tills()[*till as usize].listing();
-                assert_eq!(answer[1..], [listing.oldest, listing.newest, listing.last], "{}", self.place(call));
+                assert_eq!(answer[1..4], [listing.oldest, listing.newest, listing.last], "{}", self.place(call));
             }
             Call::Tally => {
                 let cells = self.pool.chunks(self.capacities.block_bytes as usize);
@@ -188,11 +219,49 @@ impl Course {
                 assert_eq!(answer[1] as usize, cells, "{}", self.place(call));
             }
             Call::Offer { .. } => assert!(output == written, "{}: other marks", self.place(call)),
+            Call::All(collected) => self.judge_closing(call, collected, answer),
             Call::TableLength(_) | Call::LayOut(_) => {}
         }
     }
 
-    fn judge_restore(&self, call: &Call, number: u32, version: u32, answer: [u32; 4], output: &[u8]) {
+    /// A refusal, or none, is the one that is expected; but one that files an image may be refused for want of room.
+    fn judge_refusal(&self, call: &Call, said: u32, expected: Option<&Refusal>, files: bool) {
+        let number = expected.map_or(0, |refusal| refusal.number());
+        let fits = said == number || files && number == 0 && [14, 16].contains(&said);
+        assert!(fits, "{}: answered {said}, the keeper has {number}", self.place(call));
+    }
+
+    /// Each image of a closing is fed to the keeper as a backup of its own, with whether it was accepted. What was kept is
+    /// restored.
+    fn judge_closing(&mut self, call: &Call, collected: &Collected, answer: &Numbers) {
+        let (refusals, versions) = answer[1..].split_at(MOST_IMAGES);
+        let images = each(collected).expect("the lists fit");
+        for (n, &(till, image)) in images.iter().enumerate() {
+            self.judge_refusal(call, refusals[n], self.backup_refusal(till, image.len()).as_ref(), true);
+            self.met.insert((IN_A_CLOSING, refusals[n]));
+            if refusals[n] == 0 {
+                self.keeper.file(till, image, true);
+            }
+            let last = if refusals[n] == 0 { self.keeper.tills()[till as usize].last } else { 0 };
+            assert_eq!(versions[n], last, "{}: version of image {n}", self.place(call));
+        }
+        let past = refusals[images.len()..].iter().chain(&versions[images.len()..]);
+        assert!(past.into_iter().all(|&number| number == 0), "{}: places past the last image", self.place(call));
+        let kept = (0..images.len()).filter(|&n| versions[n] != 0).map(|n| (images[n].0, versions[n]));
+        kept.for_each(|(till, version)| self.restored(call, till, version));
+    }
+
+    /// Every store gives a held version back.
+    fn restored(&self, call: &Call, till: u32, version: u32) {
+        for Lane { store, pool, table } in &self.lanes {
+            let mut output = vec![UNTOUCHED; self.capacities.image_bytes()];
+            let answer = store.restore(pool, table, till, version, &mut output);
+            assert_eq!(answer[0], 0, "{}: restore of till {till}, version {version}", self.place(call));
+            self.judge_restore(call, till, version, &answer, &output);
+        }
+    }
+
+    fn judge_restore(&self, call: &Call, number: u32, version: u32, answer: &[u32], output: &[u8]) {
         let till = &self.keeper.tills()[number as usize];
         let image = till.image(version).expect("the keeper holds it");
         assert_eq!(answer[1] as usize, image.len(), "{}", self.place(call));
@@ -204,7 +273,7 @@ impl Course {
     }
 
     /// Every store reads the stream that was written as the keeper's image.
-    fn judge_stream(&self, call: &Call, number: u32, version: u32, answer: [u32; 4], output: &[u8]) {
+    fn judge_stream(&self, call: &Call, number: u32, version: u32, answer: &[u32], output: &[u8]) {
         let image = self.keeper.tills()[number as usize].image(version).expect("the keeper holds it");
         assert_eq!(answer[1] as usize, stream_length(image), "{}", self.place(call));
         let (stream, later) = output.split_at(answer[1] as usize);
@@ -219,10 +288,10 @@ impl Course {
 
 /// Whether an accepted call changes the store.
 fn changes(call: &Call) -> bool {
-    files(call) || matches!(call, Call::Retire { .. })
+    files(call) || matches!(call, Call::Retire { .. } | Call::All(_))
 }
 
-/// Whether it files an image.
+/// Whether it files one image.
 fn files(call: &Call) -> bool {
     matches!(call, Call::Backup { .. } | Call::Earlier { .. } | Call::Sent { .. })
 }
@@ -283,9 +352,13 @@ fn answer_by(earlier: Option<Backup>, lane: &mut Lane, call: &Call) -> Answer {
         Call::Retire { till, version } => store.retire(pool, table, *till, *version).to_vec(),
         Call::Listing { till } => store.listing(pool, table, *till).to_vec(),
         Call::Tally => store.tally(pool, table).to_vec(),
+        Call::All(collected) => store.backup_all(pool, table, collected.closing()).to_vec(),
     };
     (std::array::from_fn(|i| numbers.get(i).copied().unwrap_or(0)), output)
 }
+
+/// The letter of what an image of a closing was answered.
+const IN_A_CLOSING: char = 'c';
 
 /// The call's letter in what was met.
 fn letter(call: &Call) -> char {
@@ -301,5 +374,6 @@ fn letter(call: &Call) -> char {
         Call::WriteStream { .. } => 's',
         Call::Offer { .. } => 'f',
         Call::Sent { .. } => 'm',
+        Call::All(_) => 'a',
     }
 }

@@ -1,6 +1,7 @@
 //! What the keeper expects of a call.
 
 use crate::calls::stream_length;
+use crate::collected::each;
 use crate::stock::{fits, offer_fits};
 use crate::{Call, Course};
 use terms::{Capacities, Refusal, Sending, LAST_NUMBER};
@@ -27,6 +28,7 @@ impl Course {
             Call::Restore { till, version, room } => too_short(self.image(*till, *version), *room, <[u8]>::len),
             Call::WriteStream { till, version, room } => too_short(self.image(*till, *version), *room, stream_length),
             Call::Retire { till, version } => self.image(*till, *version).err(),
+            Call::All(collected) => each(collected).is_none().then_some(Refusal::ImageLength),
         };
         refusal.map_or_else(|| Ok(Vec::new()), Err)
     }
@@ -56,7 +58,7 @@ impl Course {
         till.image(version).ok_or(till.missing(version))
     }
 
-    fn backup_refusal(&self, till: u32, length: usize) -> Option<Refusal> {
+    pub(crate) fn backup_refusal(&self, till: u32, length: usize) -> Option<Refusal> {
         let Some(till) = self.keeper().till(till) else { return Some(Refusal::NoSuchTill) };
         if length == 0 || length > self.capacities.image_bytes() {
             Some(Refusal::ImageLength)

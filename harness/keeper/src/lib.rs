@@ -4,6 +4,7 @@
 pub mod blanks;
 pub mod calls;
 pub mod closings;
+pub mod collected;
 pub mod collision;
 pub mod course;
 pub mod day;
@@ -20,6 +21,7 @@ pub mod sent;
 pub mod settings;
 pub mod sketch;
 pub mod stock;
+pub mod together;
 pub mod trial;
 pub mod whole;
 pub mod words;

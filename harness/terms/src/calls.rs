@@ -1,6 +1,6 @@
 //! The calls with answers as bare numbers, so that one test can be put to the proved store and to the twin.
 
-use crate::{Capacities, Listing, Message, Refusal, Restored, Tally};
+use crate::{Capacities, Closing, Listing, Message, Refusal, Restored, Tally, CLOSING_NUMBERS};
 
 /// The calls on lent buffers. An answer is the refusal's number, 0 if the call is accepted, then the page's fields.
 pub trait Calls {
@@ -8,6 +8,9 @@ pub trait Calls {
     fn table_length(&self, capacities: Capacities) -> [u32; 2];
     fn lay_out(&self, pool: &mut [u8], table: &mut [u32], capacities: Capacities) -> [u32; 1];
     fn backup(&self, pool: &mut [u8], table: &mut [u32], till: u32, image: &[u8]) -> [u32; 2];
+    /// Files several images, each as a backup does. Answers the refusal of the whole, then each image's refusal, then each
+    /// image's version, in as many places as a closing can have images.
+    fn backup_all(&self, pool: &mut [u8], table: &mut [u32], closing: Closing) -> [u32; CLOSING_NUMBERS];
     fn restore(&self, pool: &[u8], table: &[u32], till: u32, version: u32, output: &mut [u8]) -> [u32; 3];
     fn retire(&self, pool: &mut [u8], table: &mut [u32], till: u32, version: u32) -> [u32; 2];
     fn listing(&self, pool: &[u8], table: &[u32], till: u32) -> [u32; 4];

@@ -65,7 +65,9 @@ impl Refusal {
             Refusal::Capacity => "a capacity outside its range",
             Refusal::Lengths => "in laying out, pool or table of another length than needed",
             Refusal::NoSuchTill => "till number not below the tills",
-            Refusal::ImageLength => "image empty, or longer than block size × blocks per image, or lists of a message that do not fit",
+            Refusal::ImageLength => {
+                "image empty, or longer than block size × blocks per image, or lists of a message or a closing that do not fit"
+            }
             Refusal::ShortOutput => "output shorter than the version, its stream or a stream's image",
             Refusal::Unsound => "pool and table are not a sound store",
             Refusal::TillFull => "the till holds its full number of versions",

@@ -4,7 +4,9 @@ use crate::arguments::Named;
 use crate::names::{quoted, shown};
 use crate::words::{bytes, counted};
 use crate::{image, numbers, table, Failure};
-use lurdempos::{Capacities, Listing, Message, Refusal, Store, FINGERPRINT, LAST_NUMBER, LONGEST_IMAGE, MOST_SEGMENTS};
+use lurdempos::{
+    Capacities, Listing, Message, Refusal, Store, FINGERPRINT, LAST_NUMBER, LONGEST_IMAGE, MOST_IMAGES, MOST_SEGMENTS,
+};
 use std::collections::HashSet;
 use std::path::Path;
 
@@ -274,6 +276,12 @@ pub fn no_message(file: &Path, store: &Store, name: &str, message: Message) -> F
         quoted(file)
     );
     Failure::refused(Refusal::ImageLength, here, advice)
+}
+
+/// More images than one closing takes.
+pub fn too_many_images(count: usize) -> Failure {
+    let here = format!("these are {count} images, and one closing takes {MOST_IMAGES} at most; none of them is kept");
+    Failure::refused(Refusal::ImageLength, here, "make several closings of them.".into())
 }
 
 /// The file has the form of a store's, but what is in it is no sound store.

@@ -74,8 +74,11 @@ impl Arguments {
 
     /// The arguments, if there are neither too few nor too many.
     fn counted(self) -> Result<Arguments, Failure> {
-        if let Some(word) = self.words.get(self.command.arguments.len()) {
-            return Err(self.wrong(&format!("one argument too many: {}", shown(word))));
+        match self.words.get(self.command.arguments.len()) {
+            Some(word) if !self.command.repeats() => {
+                return Err(self.wrong(&format!("one argument too many: {}", shown(word))))
+            }
+            _ => {}
         }
         match self.command.arguments.iter().skip(self.words.len()).find(|argument| argument.needed) {
             Some(argument) => Err(self.missing(argument.name)),
@@ -96,6 +99,11 @@ impl Arguments {
 
     pub fn word(&self, at: usize) -> Option<&OsStr> {
         self.words.get(at).map(OsString::as_os_str)
+    }
+
+    /// The words from this place on.
+    pub fn words_from(&self, at: usize) -> &[OsString] {
+        self.words.get(at..).unwrap_or_default()
     }
 
     pub fn has(&self, flag: &str) -> bool {
@@ -160,11 +168,16 @@ impl Arguments {
         self.command.arguments.get(at).map_or("", |argument| argument.name)
     }
 
-    fn parsed(&self, name: &str, word: &OsStr) -> Result<u32, Failure> {
-        let text = word.to_str().filter(|text| !text.is_empty() && text.bytes().all(|byte| byte.is_ascii_digit()));
-        let Some(text) = text.filter(|text| *text == "0" || !text.starts_with('0')) else {
+    /// A word as a number, or wrong use, where the word is called so.
+    pub fn parsed(&self, name: &str, word: &OsStr) -> Result<u32, Failure> {
+        let Some(text) = word.to_str().filter(|text| is_plain(text)) else {
             return Err(self.wrong(&format!("{name} has to be a number in plain digits, not `{}`", shown(word))));
         };
         text.parse().map_err(|_| self.wrong(&format!("{name} is larger than any number here: {text}")))
     }
+}
+
+/// Whether a text is a number in plain digits: no sign, no space, no leading zero.
+pub fn is_plain(text: &str) -> bool {
+    !text.is_empty() && text.bytes().all(|byte| byte.is_ascii_digit()) && (text == "0" || !text.starts_with('0'))
 }

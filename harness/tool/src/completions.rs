@@ -13,7 +13,7 @@ pub fn for_bash() -> String {
         "# Completions for bash: source <(lurdempos --completions)\n\
          _lurdempos() {{\n    \
              local word=${{COMP_WORDS[COMP_CWORD]}} before=${{COMP_WORDS[COMP_CWORD-1]}} place=0 n\n    \
-             local options='' values='' files='' kinds=()\n    \
+             local options='' values='' files='' folders='' kinds=()\n    \
              if ((COMP_CWORD == 1)); then\n        \
                  COMPREPLY=($(compgen -W '{names} help --help --version --manual --completions' -- \"$word\"))\n        \
                  return\n    \
@@ -34,11 +34,12 @@ fn case(command: &Command) -> String {
     };
     let kinds: Vec<&str> = command.arguments.iter().map(|argument| kind(argument.takes)).collect();
     format!(
-        "    {}) options='{}' values=' {} ' files=' {} ' kinds=({}) ;;\n",
+        "    {}) options='{}' values=' {} ' files=' {} ' folders=' {} ' kinds=({}) ;;\n",
         command.name,
         all.join(" "),
         valued(None).join(" "),
         valued(Some(Takes::File)).join(" "),
+        valued(Some(Takes::Folder)).join(" "),
         kinds.join(" ")
     )
 }
@@ -48,6 +49,7 @@ fn kind(takes: Takes) -> &'static str {
         Takes::File => "file",
         Takes::Folder => "folder",
         Takes::Version => VERSIONS,
+        Takes::TillAndFile => "pair",
         Takes::Anything => "any",
     }
 }
@@ -58,6 +60,11 @@ const TAIL: &str = r#"    if [[ $files == *" $before "* ]]; then
         mapfile -t COMPREPLY < <(compgen -f -- "$word")
         return
     fi
+    if [[ $folders == *" $before "* ]]; then
+        compopt -o filenames 2> /dev/null
+        mapfile -t COMPREPLY < <(compgen -d -- "$word")
+        return
+    fi
     [[ $values == *" $before "* ]] && return
     if [[ $word == -* ]]; then
         COMPREPLY=($(compgen -W "$options" -- "$word"))
@@ -66,7 +73,14 @@ const TAIL: &str = r#"    if [[ $files == *" $before "* ]]; then
     for ((n = 2; n < COMP_CWORD; n++)); do
         [[ ${COMP_WORDS[n]} == -?* || $values == *" ${COMP_WORDS[n-1]} "* ]] || ((place++))
     done
+    # A pair can come again. An equals sign is a word of its own to bash; what follows it is the file.
+    if [[ ${#kinds[@]} != 0 && ${kinds[-1]} == pair ]] && ((place >= ${#kinds[@]})); then place=$((${#kinds[@]} - 1)); fi
     case ${kinds[place]} in
+    pair)
+        if [[ $word == = ]]; then word=''; elif [[ $before != = ]]; then return; fi
+        compopt -o filenames 2> /dev/null
+        mapfile -t COMPREPLY < <(compgen -f -- "$word")
+        ;;
     file) compopt -o filenames 2> /dev/null; mapfile -t COMPREPLY < <(compgen -f -- "$word") ;;
     folder) compopt -o filenames 2> /dev/null; mapfile -t COMPREPLY < <(compgen -d -- "$word") ;;
     newest) COMPREPLY=($(compgen -W newest -- "$word")) ;;

@@ -7,6 +7,9 @@ use std::io;
 use std::path::Path;
 use std::process::ExitCode;
 
+/// The exit status of what the store refused.
+pub const REFUSED: u8 = 1;
+
 #[derive(Debug)]
 pub struct Failure {
     kind: Kind,
@@ -79,7 +82,7 @@ impl Failure {
 
     fn status(&self) -> u8 {
         match self.kind {
-            Kind::Refused => 1,
+            Kind::Refused => REFUSED,
             Kind::Usage => 2,
             Kind::File => 3,
             Kind::Busy => 4,

@@ -17,6 +17,10 @@ pub const STATUSES: [(u8, &str); 6] = [
     (5, "compared, and not the same (diff, verify), or salvaged, and not all is certain"),
 ];
 
+/// What stays as it was.
+pub const UNALTERED: &str =
+    "With 1 to 4 nothing is altered; but `closing` keeps those of its images that are not refused.";
+
 /// All commands, each in a line.
 pub fn overview() -> String {
     let mut text = format!("{ABOUT}\n\nUsage: lurdempos COMMAND ARGUMENTS\n\n");
@@ -30,8 +34,7 @@ pub fn overview() -> String {
     for (status, meaning) in STATUSES {
         text.push_str(&format!("  {status}  {meaning}\n"));
     }
-    text.push_str("With 1 to 4 nothing is altered.\n");
-    text
+    text + UNALTERED + "\n"
 }
 
 /// What one command does.

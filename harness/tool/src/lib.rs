@@ -8,6 +8,7 @@ mod bakery;
 mod checksum;
 mod commands;
 mod completions;
+mod day;
 mod draft;
 mod failure;
 mod files;

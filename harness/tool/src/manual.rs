@@ -1,7 +1,7 @@
 //! The manual page, for `man`, made from the same table as the help texts.
 
 use crate::commands::COMMANDS;
-use crate::help::{ABOUT, STATUSES};
+use crate::help::{ABOUT, STATUSES, UNALTERED};
 use crate::syntax::{Command, Opt, COMMON};
 use crate::words::sentence;
 
@@ -19,8 +19,7 @@ pub fn page() -> String {
     for (status, meaning) in STATUSES {
         page += &format!(".TP\n.B {status}\n{}\n", escaped(&sentence(meaning)));
     }
-    page += ".PP\nWith 1 to 4 nothing is altered.\n";
-    page
+    page + &format!(".PP\n{}\n", escaped(UNALTERED))
 }
 
 fn of(command: &Command) -> String {

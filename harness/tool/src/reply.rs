@@ -1,5 +1,6 @@
 //! What a command answers, and how it gets to standard output.
 
+use crate::failure::REFUSED;
 use crate::json::Json;
 use crate::streams::{self, Stream};
 use crate::Failure;
@@ -51,6 +52,11 @@ impl Reply {
     /// The same answer, with exit status 5 if it is not what one hopes for.
     pub fn with_difference(self, differs: bool) -> Reply {
         Reply { status: if differs { DIFFERS } else { 0 }, ..self }
+    }
+
+    /// The same answer, with a refusal's exit status if the store refused a part of what was asked for.
+    pub fn with_refusals(self, refused: bool) -> Reply {
+        Reply { status: if refused { REFUSED } else { 0 }, ..self }
     }
 }
 

@@ -21,6 +21,8 @@ pub struct Command {
 pub struct Argument {
     pub name: &'static str,
     pub needed: bool,
+    /// Whether it can stand several times. Then it is the last one.
+    pub repeated: bool,
     pub takes: Takes,
 }
 
@@ -39,6 +41,8 @@ pub enum Takes {
     File,
     Folder,
     Version,
+    /// A till and a file, with an equals sign between them.
+    TillAndFile,
     Anything,
 }
 
@@ -64,19 +68,24 @@ pub const VERSION: Argument = Argument::needed("VERSION", Takes::Version);
 
 impl Argument {
     pub const fn needed(name: &'static str, takes: Takes) -> Argument {
-        Argument { name, needed: true, takes }
+        Argument { name, needed: true, repeated: false, takes }
     }
 
     pub const fn optional(name: &'static str, takes: Takes) -> Argument {
-        Argument { name, needed: false, takes }
+        Argument { name, needed: false, repeated: false, takes }
+    }
+
+    /// One that stands any number of times, or not at all.
+    pub const fn repeated(name: &'static str, takes: Takes) -> Argument {
+        Argument { name, needed: false, repeated: true, takes }
     }
 
     /// As a usage line shows it.
     fn shown(&self) -> String {
-        if self.needed {
-            self.name.into()
-        } else {
-            format!("[{}]", self.name)
+        match (self.needed, self.repeated) {
+            (true, _) => self.name.into(),
+            (false, false) => format!("[{}]", self.name),
+            (false, true) => format!("[{}...]", self.name),
         }
     }
 }
@@ -92,6 +101,10 @@ impl Opt {
 
     pub const fn with_file(name: &'static str, value: &'static str, about: &'static str) -> Opt {
         Opt { name, value, takes: Takes::File, about }
+    }
+
+    pub const fn with_folder(name: &'static str, value: &'static str, about: &'static str) -> Opt {
+        Opt { name, value, takes: Takes::Folder, about }
     }
 
     pub fn has_value(&self) -> bool {
@@ -114,6 +127,11 @@ impl Command {
     pub fn call(&self) -> String {
         let words = self.arguments.iter().map(Argument::shown);
         std::iter::once(self.name.to_string()).chain(words).collect::<Vec<String>>().join(" ")
+    }
+
+    /// Whether its last argument can stand several times.
+    pub fn repeats(&self) -> bool {
+        self.arguments.last().is_some_and(|last| last.repeated)
     }
 
     /// The line that shows its use.

@@ -6,12 +6,15 @@ use lurdempos::{Capacities, Store};
 use std::fs;
 
 /// Every command on the file `s`.
-const LINES: [&str; 28] = [
+const LINES: [&str; 31] = [
     "backup s 0 image",
     "backup s 0 -",
     "restore s 0 1 out",
     "restore s 0 1 -",
     "backup s 0 image --dry-run",
+    "closing s 0=image 1=image",
+    "closing s 0=-",
+    "closing s 0=image --dry-run",
     "retire s 0 1",
     "retire s 0 --keep 1",
     "verify s 0 1 image",

@@ -25,7 +25,8 @@ fn told_when_another_run_writes() {
     let before = bench.read("s");
     let draft = File::create(bench.path(&draft_of("s"))).unwrap();
     draft.lock().unwrap();
-    for line in ["backup s 0 image --wait 0", "retire s 0 1 --wait 0", "retire s 0 --keep 0 --wait=1"] {
+    let lines = ["backup s 0 image --wait 0", "closing s 0=image 1=image --wait 0", "retire s 0 1 --wait 0"];
+    for line in lines.into_iter().chain(["retire s 0 --keep 0 --wait=1"]) {
         is_told(&bench.run(line));
     }
     for line in ["list s", "tally s", "check s", "map s", "restore s 0 1 out"] {

@@ -5,7 +5,7 @@ use common::{letters, Bench, Run};
 use std::process::Command;
 
 /// Every command that answers, in an order in which all succeed.
-const LINES: [&str; 26] = [
+const LINES: [&str; 28] = [
     "init n --tills 1",
     "backup s 0 image",
     "backup s 0 image --unless-same",
@@ -19,6 +19,8 @@ const LINES: [&str; 26] = [
     "sent s image marks message",
     "backup-sent s 1 message --dry-run",
     "backup-sent s 1 message",
+    "closing s 1=image 0=other --dry-run",
+    "closing s 1=image 0=other",
     "verify s 0 newest other",
     "verify s 0 newest image",
     "diff s 0 1 2",
@@ -193,6 +195,14 @@ fn completions_for_bash() {
     assert_eq!(offered(&bench, &["lurdempos", "backup", "--rotate", "s", "0", "im"]), ["image"]);
     assert!(offered(&bench, &["lurdempos", "backup", "--bytes", ""]).is_empty());
     assert_eq!(offered(&bench, &["lurdempos", "restore", "s", "0", ""]), ["newest"]);
+    // To bash an equals sign is a word.
+    for words in [&["0", "=", "im"][..], &["0", "=", "image", "1", "=", "im"], &["--wait", "3", "0", "=", "im"]] {
+        assert_eq!(offered(&bench, &[&["lurdempos", "closing", "s"], words].concat()), ["image"]);
+    }
+    assert!(offered(&bench, &["lurdempos", "closing", "s", "0", "="]).contains(&"other".to_string()));
+    assert!(offered(&bench, &["lurdempos", "closing", "s", "0", "=", "image", ""]).is_empty());
+    assert_eq!(offered(&bench, &["lurdempos", "closing", "s", "--folder", ""]), ["folder"]);
+    assert_eq!(offered(&bench, &["lurdempos", "closing", "im"]), ["image"]);
     assert_eq!(offered(&bench, &["lurdempos", "map", "s", "--output", "ot"]), ["other"]);
     assert_eq!(offered(&bench, &["lurdempos", "export-all", "s", ""]), ["folder"]);
     assert!(offered(&bench, &["lurdempos", "tally", "--"]).contains(&"--json".to_string()));

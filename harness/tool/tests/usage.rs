@@ -3,9 +3,10 @@
 mod common;
 use common::Bench;
 
-const COMMANDS: [&str; 20] = [
+const COMMANDS: [&str; 21] = [
     "init",
     "backup",
+    "closing",
     "restore",
     "verify",
     "diff",
@@ -57,7 +58,7 @@ fn no_command() {
 }
 
 /// Wrong lines, and what is said about them.
-const WRONG: [(&str, &str); 61] = [
+const WRONG: [(&str, &str); 73] = [
     ("init", "FILE is missing"),
     ("init n m", "one argument too many: m"),
     ("init n --till 3", "unknown option --till"),
@@ -70,6 +71,18 @@ const WRONG: [(&str, &str); 61] = [
     ("backup s 0 image more", "one argument too many: more"),
     ("backup s -1 image", "unknown option -1"),
     ("backup - 0 image", "FILE has to be a file"),
+    ("closing", "FILE is missing"),
+    ("closing s", "TILL=IMAGE is missing"),
+    ("closing s image", "`image` is not TILL=IMAGE"),
+    ("closing s 0=image 1=", "`1=` is not TILL=IMAGE"),
+    ("closing s 0=image 01=image", "TILL has to be a number in plain digits, not `01`"),
+    ("closing s =image", "TILL has to be a number in plain digits, not ``"),
+    ("closing s 4294967296=image", "TILL is larger than any number here"),
+    ("closing s 0=- 1=-", "`-` can stand for one image only"),
+    ("closing s 0=image --folder .", "TILL=IMAGE and --folder both say what is kept"),
+    ("closing s --folder=", "option --folder needs a folder"),
+    ("closing s 0=image --rotate", "unknown option --rotate"),
+    ("closing - 0=image", "FILE has to be a file"),
     ("restore s 0 1", "OUTPUT is missing"),
     ("restore s 0 1 s", "is the store itself"),
     ("restore s 0 1 ./s", "is the store itself"),

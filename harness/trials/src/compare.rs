@@ -1,5 +1,6 @@
 //! Any pool and table, sound or not: both stores give the same answers and leave the same buffers.
 
+use keeper::collected::misfit;
 use keeper::course::{answer, Lane};
 use keeper::messages::Messages;
 use keeper::stock::Stock;
@@ -8,7 +9,7 @@ use keeper::words::Words;
 use keeper::{Call, Random};
 use lurdempos::Proved;
 use std::collections::BTreeSet;
-use terms::{Capacities, LONGEST_STREAM};
+use terms::{Capacities, Collected, LONGEST_STREAM};
 use twin::{fingerprint_of, Twin};
 
 /// What one round of calls was answered.
@@ -53,6 +54,7 @@ pub fn each_call(random: &mut Random, pool: &[u8], table: &[u32]) -> Vec<Call> {
     let stock = Stock::of(pool, table, &fingerprint_of);
     let messages = Messages { capacities, stock: &stock, print: &fingerprint_of };
     let (fingerprints, room) = messages.offer(random, &image, false);
+    let all = of_tills(random, &image, capacities);
     vec![
         Call::Tally,
         Call::Listing { till },
@@ -61,8 +63,22 @@ pub fn each_call(random: &mut Random, pool: &[u8], table: &[u32]) -> Vec<Call> {
         Call::Retire { till, version },
         Call::Offer { till, fingerprints, room },
         Call::Sent { till, sending: messages.sent(random, &image, false) },
+        Call::All(all),
         Call::Backup { till, image },
     ]
+}
+
+/// A closing of some tills with an image whole and in parts, and now and then of lists that do not fit.
+fn of_tills(random: &mut Random, image: &[u8], capacities: Capacities) -> Collected {
+    let tills = capacities.tills as usize;
+    let part = |random: &mut Random| &image[random.below(image.len() + 1)..];
+    let images: Vec<(u32, &[u8])> =
+        (0..random.below(5)).map(|_| (random.below(tills + 1) as u32, part(random))).collect();
+    let mut all = Collected::of(images);
+    if random.percent(20) {
+        misfit(random, &mut all);
+    }
+    all
 }
 
 fn of_letters(random: &mut Random, bytes: u32) -> Vec<u8> {

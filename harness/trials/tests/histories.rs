@@ -28,7 +28,7 @@ fn small_stores() {
     assert_eq!(met, every_refusal());
 }
 
-/// What each call on a sound store can answer.
+/// What each call on a sound store can answer, and each image of a closing.
 fn every_refusal() -> BTreeSet<(char, u32)> {
     let wanted = [
         ('l', &[0, 1][..]),
@@ -41,6 +41,8 @@ fn every_refusal() -> BTreeSet<(char, u32)> {
         ('s', &[0, 3, 5, 17, 18]),
         ('f', &[0, 3, 4]),
         ('m', &[0, 3, 4, 11, 14, 16, 19, 20]),
+        ('a', &[0, 4]),
+        ('c', &[0, 3, 4, 11, 14, 16]),
     ];
     wanted.into_iter().flat_map(|(call, numbers)| numbers.iter().map(move |&number| (call, number))).collect()
 }

@@ -2,7 +2,7 @@
 
 use keeper::trial::{self, Trial};
 use std::collections::BTreeSet;
-use terms::{Calls, Capacities, Refusal, Sending, BASE, BLOCK_BYTES, SEGMENT_BLOCKS};
+use terms::{Calls, Capacities, Closing, Refusal, Sending, BASE, BLOCK_BYTES, SEGMENT_BLOCKS};
 use trials::stores;
 use twin::fingerprint_of;
 
@@ -305,6 +305,49 @@ fn messages(store: &dyn Calls) -> Vec<(u32, u32)> {
     cases
 }
 
+/// The lists of a closing, tills, lengths and how many bytes, and what it is answered as a whole.
+type Lists = (&'static [u32], &'static [u32], usize, u32);
+
+/// Too many images, lists of unequal count, lengths that do not add up to the bytes, also where they do so in 32 bits; and
+/// lists that fit, though their images are refused.
+const LISTS: [Lists; 17] = [
+    (&[0; 17], &[0; 17], 0, 4),
+    (&[0; 17], &[1; 17], 17, 4),
+    (&[0, 1], &[1], 1, 4),
+    (&[0], &[1, 0], 1, 4),
+    (&[], &[], 1, 4),
+    (&[9], &[0], 1, 4),
+    (&[9], &[1], 0, 4),
+    (&[0], &[2_000], 1_999, 4),
+    (&[0, 1], &[u32::MAX, 1], 0, 4),
+    (&[0, 1], &[8, u32::MAX], 7, 4),
+    (&[0; 16], &[1 << 28; 16], 0, 4),
+    (&[0; 4], &[u32::MAX; 4], 0, 4),
+    (&[], &[], 0, 0),
+    (&[0], &[64], 64, 0),
+    (&[9, 9], &[0, 1], 1, 0),
+    (&[0], &[2_000], 2_000, 0),
+    (&[0; 16], &[64; 16], 1_024, 0),
+];
+
+/// A closing 10, then 4.
+fn closings(store: &dyn Calls) -> Vec<(u32, u32)> {
+    let mut one = Trial::new(store, Capacities::new(2, 2, 17, 2, 9));
+    let mut cases = Vec::new();
+    // In the end a cell that nothing leads to is not all zero.
+    for byte in [0, 1] {
+        one.pool[64 * 8] = byte;
+        for (tills, lengths, bytes, expected) in LISTS {
+            let (before, images) = ((one.pool.clone(), one.table.clone()), &vec![7; bytes]);
+            let answer = store.backup_all(&mut one.pool, &mut one.table, Closing { tills, lengths, images });
+            let stays = answer[1..].iter().all(|&field| field == 0) && before == (one.pool.clone(), one.table.clone());
+            assert!(answer[0] == 0 || stays, "altered though refused with {}", answer[0]);
+            cases.push((answer[0], if byte == 0 { expected } else { 10 }));
+        }
+    }
+    cases
+}
+
 /// Turn 27: the till count, a mark, the last till.
 fn turns(store: &dyn Calls) -> Vec<(u32, u32)> {
     let refused = [[0, 0, 0], [17, 0, 0], [u32::MAX, 0, 0], [3, 8, 0], [3, 1 << 31, 0], [3, 0, 3], [3, 0, u32::MAX]];
@@ -321,6 +364,7 @@ fn every_number() {
     met.extend(numbers(streams));
     met.extend(numbers(offers));
     met.extend(numbers(messages));
+    met.extend(numbers(closings));
     met.extend(numbers(turns));
     let all: BTreeSet<u32> = Refusal::ALL.iter().map(|refusal| refusal.number()).chain([0]).collect();
     assert_eq!(met, all);

@@ -1,7 +1,7 @@
 //! The twin's calls with answers as bare numbers.
 
 use crate::Era;
-use terms::{numbers, Calls, Capacities, Message};
+use terms::{numbers, Calls, Capacities, Closing, Message, CLOSING_NUMBERS};
 
 /// The twin, where a test can be put to more than one store.
 pub struct Twin;
@@ -26,6 +26,10 @@ impl Calls for Twin {
 
     fn backup(&self, pool: &mut [u8], table: &mut [u32], till: u32, image: &[u8]) -> [u32; 2] {
         numbers(crate::backup(pool, table, till, image))
+    }
+
+    fn backup_all(&self, pool: &mut [u8], table: &mut [u32], closing: Closing) -> [u32; CLOSING_NUMBERS] {
+        numbers(crate::backup_all(pool, table, closing))
     }
 
     fn restore(&self, pool: &[u8], table: &[u32], till: u32, version: u32, output: &mut [u8]) -> [u32; 3] {

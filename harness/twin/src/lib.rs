@@ -2,6 +2,7 @@
 //! the proved store has something to be compared with and raced against. Nothing here is proved.
 
 mod bare;
+mod closing;
 mod era;
 mod layout;
 mod line;
@@ -18,6 +19,7 @@ mod trace;
 mod turn;
 
 pub use bare::{earlier, Twin};
+pub use closing::backup_all;
 pub use era::Era;
 use layout::{Layout, Place, Pointer, Record, HEADER, SLOT_HEAD, TILL_HEAD};
 pub use line::take_turn;
@@ -76,7 +78,18 @@ pub fn backup(pool: &mut [u8], table: &mut [u32], till: u32, image: &[u8]) -> Re
 
 /// The same by the rule of an era.
 pub fn backup_by(era: Era, pool: &mut [u8], table: &mut [u32], till: u32, image: &[u8]) -> Result<u32, Refusal> {
-    let found = sound::check(pool, table)?;
+    backup_in(&mut sound::check(pool, table)?, era, pool, table, till, image)
+}
+
+/// The same in a store that was found sound. What was found then goes for the store that is left.
+fn backup_in(
+    found: &mut Found,
+    era: Era,
+    pool: &mut [u8],
+    table: &mut [u32],
+    till: u32,
+    image: &[u8],
+) -> Result<u32, Refusal> {
     let till = found.layout.till(till)?;
     if image.is_empty() || image.len() > found.layout.bytes * found.layout.blocks {
         return Err(Refusal::ImageLength);
@@ -99,7 +112,7 @@ fn room_in(layout: &Layout, table: &[u32], till: usize) -> Result<(), Refusal> {
 
 /// Files an image that has a length, for a till that has room.
 fn file(
-    Found { layout, mut occupied }: Found,
+    Found { layout, occupied }: &mut Found,
     era: Era,
     pool: &mut [u8],
     table: &mut [u32],
@@ -109,10 +122,13 @@ fn file(
     let (last, held) = (layout.till_of(table, till).last(), layout.till_of(table, till).held());
     let mut cells = layout.cells_of_mut(pool);
     let (words, mut records) = layout.parts(table);
-    let bytes = place::fill_up(image, &layout);
-    let segments = place::segments(&bytes, &layout);
-    let plan = place::plan(&segments, era, cells.read(), records.read(), &mut occupied)?;
-    let pointers = plan.carry_out(&layout, &segments, &mut cells, &mut records);
+    let bytes = place::fill_up(image, layout);
+    let segments = place::segments(&bytes, layout);
+    let before = occupied.clone();
+    let plan = place::plan(&segments, era, cells.read(), records.read(), occupied);
+    // A refusal leaves the cells free that were planned before it.
+    let plan = plan.inspect_err(|_| *occupied = before)?;
+    let pointers = plan.carry_out(layout, &segments, &mut cells, &mut records);
 
     let blocks = image.len().div_ceil(layout.bytes);
     let (before, slot) = words[layout.till_at(till) + TILL_HEAD..].split_at_mut(held * layout.slot_words());
@@ -120,7 +136,7 @@ fn file(
         let used = (previous[1] as usize).div_ceil(layout.bytes);
         let image = Rows::new(&bytes[..blocks * layout.bytes], layout.bytes);
         let let_go = turn::turn(&mut previous[SLOT_HEAD..][..used], era, image, cells.read(), records.read());
-        sweep::let_go(let_go, &mut cells, &mut records, &mut occupied, layout.percent);
+        sweep::let_go(let_go, &mut cells, &mut records, occupied, layout.percent);
     }
     slot[..2].copy_from_slice(&[last + 1, image.len() as u32]);
     slot[SLOT_HEAD..][..blocks].copy_from_slice(&pointers[..blocks]);

@@ -25,14 +25,14 @@ pub fn offer(pool: &[u8], table: &[u32], till: u32, fingerprints: &[u8], marks: 
 
 /// Puts an image together from what was sent and what the box has, files it and answers its number.
 pub fn backup_sent(pool: &mut [u8], table: &mut [u32], till: u32, message: Message) -> Result<u32, Refusal> {
-    let found = sound::check(pool, table)?;
+    let mut found = sound::check(pool, table)?;
     let till = found.layout.till(till)?;
     if !fits(message, &found.layout) {
         return Err(Refusal::ImageLength);
     }
     room_in(&found.layout, table, till)?;
     let image = assembled(message, &Kept::of(&found.layout, pool, table))?;
-    file(found, Era::WithBlanks, pool, table, till, &image)
+    file(&mut found, Era::WithBlanks, pool, table, till, &image)
 }
 
 /// Whether a message has a length that an image can have, and lists that fit it.

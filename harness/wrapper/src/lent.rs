@@ -2,7 +2,7 @@
 //! the refusal first.
 
 use crate::raw;
-use terms::{Calls, Capacities, Message};
+use terms::{Calls, Capacities, Closing, Message, CLOSING_NUMBERS, MOST_IMAGES};
 
 /// The proved store. Slices that are lent are valid for as long as a call lasts, lengths are theirs, and the lent
 /// buffers do not overlap, since one that is written is lent to nobody else: this is all that the archive asks for.
@@ -40,6 +40,22 @@ impl Calls for Proved {
         // SAFETY: all three are slices, the first two lent for writing to this call alone.
         let answer = unsafe { raw::lurdempos_backup(pool, bytes, table, words, till, image.as_ptr(), image.len()) };
         [answer.refusal, answer.version]
+    }
+
+    fn backup_all(&self, pool: &mut [u8], table: &mut [u32], closing: Closing) -> [u32; CLOSING_NUMBERS] {
+        let Closing { tills, lengths, images } = closing;
+        let (bytes, words) = (pool.len(), table.len());
+        let (pool, table) = (pool.as_mut_ptr(), table.as_mut_ptr());
+        // SAFETY: all five are slices, the first two lent for writing to this call alone.
+        let raw::BackupAllAnswer { refusal, refusals, versions } = unsafe {
+            let (named, told, sent) = (tills.len(), lengths.len(), images.len());
+            let (tills, lengths, images) = (tills.as_ptr(), lengths.as_ptr(), images.as_ptr());
+            raw::lurdempos_backup_all(pool, bytes, table, words, tills, named, lengths, told, images, sent)
+        };
+        let mut numbers = [refusal; CLOSING_NUMBERS];
+        numbers[1..=MOST_IMAGES].copy_from_slice(&refusals);
+        numbers[1 + MOST_IMAGES..].copy_from_slice(&versions);
+        numbers
     }
 
     fn restore(&self, pool: &[u8], table: &[u32], till: u32, version: u32, output: &mut [u8]) -> [u32; 3] {

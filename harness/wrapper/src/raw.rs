@@ -23,6 +23,15 @@ pub struct BackupAnswer {
     pub version: u32,
 }
 
+/// Of a backup of several images: the refusal of the whole, and each image's refusal and version.
+#[repr(C)]
+#[derive(Clone, Copy, Debug, PartialEq, Eq)]
+pub struct BackupAllAnswer {
+    pub refusal: u32,
+    pub refusals: [u32; 16],
+    pub versions: [u32; 16],
+}
+
 /// Of a restore.
 #[repr(C)]
 #[derive(Clone, Copy, Debug, PartialEq, Eq)]
@@ -156,6 +165,19 @@ extern "C" {
         image: *const u8,
         image_len: usize,
     ) -> BackupAnswer;
+
+    pub fn lurdempos_backup_all(
+        pool: *mut u8,
+        pool_len: usize,
+        table: *mut u32,
+        table_len: usize,
+        tills: *const u32,
+        tills_len: usize,
+        lengths: *const u32,
+        lengths_len: usize,
+        images: *const u8,
+        images_len: usize,
+    ) -> BackupAllAnswer;
 
     pub fn lurdempos_restore(
         pool: *const u8,

@@ -1,7 +1,10 @@
 //! A store that owns its two buffers.
 
 use crate::Proved;
-use terms::{Calls, Capacities, Listing, Message, Refusal, Restored, Tally, FINGERPRINT, LONGEST_STREAM};
+use terms::{
+    Calls, Capacities, Collected, Each, Listing, Message, Refusal, Restored, Tally, FINGERPRINT, LONGEST_STREAM,
+    MOST_IMAGES,
+};
 
 /// Words of the table that these capacities need.
 pub fn table_length(capacities: Capacities) -> Result<usize, Refusal> {
@@ -53,6 +56,16 @@ impl Store {
     pub fn backup(&mut self, till: u32, image: &[u8]) -> Result<u32, Refusal> {
         let [refusal, version] = Proved.backup(&mut self.pool, &mut self.table, till, image);
         accepted(refusal).map(|()| version)
+    }
+
+    /// Files up to 16 images, each as its till's next version, in their order, and answers what became of each: a refused
+    /// one does not stop the later ones. The store is checked once for all. [`Proved`] takes lists of any kind.
+    pub fn backup_all(&mut self, images: &[(u32, &[u8])]) -> Result<Each, Refusal> {
+        let collected = Collected::of(images.iter().copied());
+        let [refusal, rest @ ..] = Proved.backup_all(&mut self.pool, &mut self.table, collected.closing());
+        let (refusals, versions) = rest.split_at(MOST_IMAGES);
+        let one = |(&refusal, &version): (&u32, &u32)| accepted(refusal).map(|()| version);
+        accepted(refusal).map(|()| refusals.iter().zip(versions).map(one).take(images.len()).collect())
     }
 
     /// Writes a version's image to the start of the output.

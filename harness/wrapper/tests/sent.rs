@@ -75,7 +75,7 @@ fn refusals_by_name() {
     assert_eq!(other.to_string(), words);
     let misfit = store.backup_sent(0, Sending { length: 1_600, ..whole }.message()).unwrap_err();
     let words = "refused, 4: image empty, or longer than block size × blocks per image, \
-                 or lists of a message that do not fit";
+                 or lists of a message or a closing that do not fit";
     assert_eq!(misfit.to_string(), words);
     assert_eq!(store, Store::new(capacities).unwrap());
 }

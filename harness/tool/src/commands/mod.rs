@@ -4,6 +4,7 @@ mod backup;
 mod backup_sent;
 mod capacities;
 mod check;
+mod closing;
 mod demo;
 mod diff;
 mod dry_run;
@@ -31,9 +32,10 @@ use crate::syntax::Command;
 use crate::{completions, help, manual, Failure};
 use std::ffi::{OsStr, OsString};
 
-pub static COMMANDS: [&Command; 20] = [
+pub static COMMANDS: [&Command; 21] = [
     &init::COMMAND,
     &backup::COMMAND,
+    &closing::COMMAND,
     &restore::COMMAND,
     &verify::COMMAND,
     &diff::COMMAND,

@@ -1,0 +1,3 @@
+-- "All tills at closing" (§7).
+pub mod Closing
+pub mod Singly

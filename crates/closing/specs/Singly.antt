@@ -1,0 +1,35 @@
+-- The same on the buffers, as calls of `backupOf` one after the other; and the claim that a closing is these.
+use Prim.Native.Nat.{ℕ}
+use mathlib.Core.Path.{_≡_}
+use mathlib.Core.List.{List, [], _∷_}
+use Rattle.lists.specs.Rows.{fill}
+use Rattle.model.specs.Calls.{BackupAnswer, backupOf}
+use Rattle.closing.specs.Closing.{TillImage, imagesIn, BackupAllAnswer, backupAllOf}
+
+-- the buffers in the end, and what each call answered
+pub record Made : Type 0 where
+  pub refusals : List ℕ
+  pub versions : List ℕ
+  pub pool : List ℕ
+  pub table : List ℕ
+
+unfoldable pub madeSingly : List ℕ → List ℕ → List TillImage → Made
+madeSingly pool table [] = record { refusals = []; versions = []; pool = pool; table = table }
+madeSingly pool table (x ∷ xs) =
+    let a : BackupAnswer = backupOf pool table (x .till) (x .image) in
+    let later : Made = madeSingly (a .pool) (a .table) xs in
+    record { refusals = a .refusal ∷ later .refusals; versions = a .version ∷ later .versions; pool = later .pool; table = later .table }
+
+-- the answer of a call that is not refused whole
+unfoldable pub answerTo : Made → BackupAllAnswer
+answerTo m = record {
+  answer = record { refusal = 0; refusals = fill 16 (m .refusals); versions = fill 16 (m .versions) };
+  pool = m .pool;
+  table = m .table;
+}
+
+-- For all buffers and lists: a closing that is not refused whole is the calls made singly, to the last byte and word.
+abbrev pub ClosingIsSingly : Type 0
+ClosingIsSingly =
+    (pool table tills lengths bytes : List ℕ) → backupAllOf pool table tills lengths bytes .answer .refusal ≡ 0
+    → backupAllOf pool table tills lengths bytes ≡ answerTo (madeSingly pool table (imagesIn tills lengths bytes))

@@ -1,0 +1,4 @@
+-- Lists that fit, the loop over the images, and the whole call.
+pub mod Fits
+pub mod Going
+pub mod Whole

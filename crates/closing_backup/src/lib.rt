@@ -1,0 +1,105 @@
+// §7's call, on a sound store: the images are backed up one after the other, with no second check between them.
+ghost use mathlib.Core.Path.{_≡_};
+ghost use mathlib.Core.Bool.{true};
+ghost use Prim.Native.Nat.{ℕ, _≤_};
+ghost use lib.ListN.{length, replicate};
+ghost use Rattle.lists.specs.Lists.{total};
+ghost use Rattle.laws.specs.Stores.{Sound};
+ghost use Rattle.closing.specs.Closing.{imagesIn, closingFits, backupAllOf};
+ghost use Rattle.closing.specs.Singly.{madeSingly, answerTo};
+ghost use Rattle.closing_backup.specs.Answers.{allAnswered, allBackedUp};
+
+// Refusal 0 is a call that is not refused whole. The images' own refusals and versions stand in their order, 0 past the last image.
+#[repr(C)]
+pub struct AllBackedUp {
+    pub refusal: u32,
+    pub refusals: [u32; 16],
+    pub versions: [u32; 16],
+}
+
+// So few lengths of 32 bits do not wrap in 64.
+fn sum_of(lengths: &[u32]) -> u64
+    requires { ⌜ length (now lengths) ≤ 16 ⌝ }
+    ensures { λ r. ⌜ r ≡ total (λ n. n) (now (lengths .entry)) ⌝ }
+{
+    let mut sum: u64 = 0;
+    let mut j: usize = 0;
+    while j < lengths.len() {
+        sum += lengths[j] as u64;
+        j += 1;
+    }
+    sum
+}
+
+// Whether the lists fit each other and the bytes.
+fn lists_fit(tills: &[u32], lengths: &[u32], images: &[u8]) -> bool
+    ensures { λ r. ⌜ r ≡ closingFits (now (tills .entry)) (now (lengths .entry)) (now (images .entry)) ⌝ }
+{
+    if tills.len() > 16 {
+        return false;
+    }
+    if lengths.len() != tills.len() {
+        return false;
+    }
+    sum_of(lengths) == images.len() as u64
+}
+
+// Each image in turn; its answer goes to its place in the lists, which come with zeros.
+fn back_up_each(
+    pool: &mut [u8],
+    table: &mut [u32],
+    tills: &[u32],
+    lengths: &[u32],
+    images: &[u8],
+    refusals: &mut [u32],
+    versions: &mut [u32],
+)
+    requires { ⌜ Sound (now pool) (now table) × (closingFits (now tills) (now lengths) (now images) ≡ true) × (now refusals ≡ replicate 16 0) × (now versions ≡ replicate 16 0) ⌝ }
+    ensures { λ _. ⌜ allAnswered (now (refusals .exit)) (now (versions .exit)) (now (pool .exit)) (now (table .exit)) ≡ answerTo (madeSingly (now (pool .entry)) (now (table .entry)) (imagesIn (now (tills .entry)) (now (lengths .entry)) (now (images .entry)))) ⌝ }
+{
+    let mut from: usize = 0;
+    let mut i: usize = 0;
+    while i < tills.len() {
+        let end = from + lengths[i] as usize;
+        let r = backup::back_up(pool, table, tills[i], &images[from..end]);
+        refusals[i] = r.refusal;
+        versions[i] = r.version;
+        from = end;
+        i += 1;
+    }
+}
+
+pub fn back_up_all(
+    pool: &mut [u8],
+    table: &mut [u32],
+    tills: &[u32],
+    lengths: &[u32],
+    images: &[u8],
+) -> AllBackedUp
+    requires { ⌜ Sound (now pool) (now table) ⌝ }
+    ensures { λ r. ⌜ allBackedUp r (now (pool .exit)) (now (table .exit)) ≡ backupAllOf (now (pool .entry)) (now (table .entry)) (now (tills .entry)) (now (lengths .entry)) (now (images .entry)) ⌝ }
+{
+    let mut refusals = [0u32; 16];
+    let mut versions = [0u32; 16];
+    if !lists_fit(tills, lengths, images) {
+        return AllBackedUp {
+            refusal: 4,
+            refusals: refusals,
+            versions: versions,
+        };
+    }
+    back_up_each(
+        pool,
+        table,
+        tills,
+        lengths,
+        images,
+        &mut refusals,
+        &mut versions,
+    );
+    AllBackedUp {
+        refusal: 0,
+        refusals: refusals,
+        versions: versions,
+    }
+}

@@ -1,0 +1,28 @@
+//! All tills at closing: several images in one call, each filed as a backup of its own.
+
+use crate::{backup_in, sound, Era};
+use terms::{Closing, Each, Refusal, MOST_IMAGES};
+
+/// Files each image in turn and answers what became of it; a refused one does not stop the later ones. The store is
+/// checked once, since a backup leaves it sound.
+pub fn backup_all(pool: &mut [u8], table: &mut [u32], closing: Closing) -> Result<Each, Refusal> {
+    let mut found = sound::check(pool, table)?;
+    if !fits(closing) {
+        return Err(Refusal::ImageLength);
+    }
+    let mut left = closing.images;
+    let file = |(&till, &length): (&u32, &u32)| {
+        let image;
+        (image, left) = left.split_at(length as usize);
+        backup_in(&mut found, Era::WithBlanks, pool, table, till, image)
+    };
+    Ok(closing.tills.iter().zip(closing.lengths).map(file).collect())
+}
+
+/// Whether there are no more images than may be, a till for each, and lengths that add up to the bytes. So few lengths
+/// of 32 bits cannot add up to more than 64.
+fn fits(Closing { tills, lengths, images }: Closing) -> bool {
+    tills.len() == lengths.len()
+        && lengths.len() <= MOST_IMAGES
+        && lengths.iter().map(|&length| u64::from(length)).sum::<u64>() == images.len() as u64
+}
