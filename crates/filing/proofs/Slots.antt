@@ -13,19 +13,18 @@ use Rattle.lists.proofs.Rows.{fill-split, fill-zeros, length-fill, fill-add, le
 use Rattle.lists.proofs.Slices.{mid-is, mid-put, drop-same, tail-is, tail-put, none-left}
 use Rattle.lists.proofs.Filled.{over-fill, over-zeros}
 use Rattle.model.specs.Measures.{partsFor}
-use Rattle.model.specs.State.{Pointer, Version, Till}
+use Rattle.model.specs.State.{Pointer, Version, withPointers, Till}
 use Rattle.model.specs.Table.{pointerWord, versionToWords, tillToWords}
 use Rattle.model.specs.Calls.{newestPointers, withNewestPointers, tillWith}
 use Rattle.laws.proofs.Newest.{newest-last, with-last}
 use Rattle.laws.proofs.RoundTrip.{length-version, length-till, held-word, last-word}
-use Rattle.slots.specs.Slots.{repointed}
 use Rattle.slots.proofs.Slots.{Ends, ends, front, front-length, rows-length, slot-head}
 use Rattle.laws.proofs.Measures.{parts-enough}
 use Rattle.filing.specs.Filing.{newestAt, Room, FewBlocks, Whole, Held, turnedTill, addedTill, SameHead, SlotLeft}
 
 -- ---- the versions before the newest, and the newest
 
-pub turned-is : (us : List Version) (u : Version) (ps : List Pointer) → withNewestPointers (us ++ (u ∷ [])) ps ≡ us ++ (repointed u ps ∷ [])
+pub turned-is : (us : List Version) (u : Version) (ps : List Pointer) → withNewestPointers (us ++ (u ∷ [])) ps ≡ us ++ (withPointers u ps ∷ [])
 turned-is us u ps = sym (append-nil (withNewestPointers (us ++ (u ∷ [])) ps)) ∙ with-last us u ps []
 
 length-one : (us : List Version) (u : Version) → length (us ++ (u ∷ [])) ≡ suc (length us)
@@ -163,9 +162,9 @@ module _ (v b : ℕ) (t : Till) (till : List ℕ) (most : length (t .versions) �
       let y : ys ≡ fill b pws = ey ∙ ap (λ (x : List ℕ). pws ++ drop (length pws) x) mid ∙ over-fill b ws pws same lp in
       ap (λ (x : List ℕ). take a till ++ (x ++ drop b (drop a till))) (y ∙ ap (fill b) ep)
       ∙ mid-put head (fill b ws) z till a b pointed head-length (length-fill b ws) (fill b (map pointerWord ps))
-      ∙ sym (slot-head b (front b (t .last) (suc (length us)) us) (repointed u ps) z)
-      ∙ sym (till-split v b (t .last) us (repointed u ps) room)
-      ∙ cong-till v b (t .last) (us ++ (repointed u ps ∷ [])) (withNewestPointers (t .versions) ps) (sym (turned-is us u ps) ∙ ap (λ (vs : List Version). withNewestPointers vs ps) (sym is))
+      ∙ sym (slot-head b (front b (t .last) (suc (length us)) us) (withPointers u ps) z)
+      ∙ sym (till-split v b (t .last) us (withPointers u ps) room)
+      ∙ cong-till v b (t .last) (us ++ (withPointers u ps ∷ [])) (withNewestPointers (t .versions) ps) (sym (turned-is us u ps) ∙ ap (λ (vs : List Version). withNewestPointers vs ps) (sym is))
 
 some-versions : (v b : ℕ) (t : Till) (till : List ℕ) → till ≡ tillToWords v b t → 0 < getD till 1 0 → Ends (t .versions)
 some-versions v b t till et some = ends (t .versions) (omega (arith, some, ap (λ (l : List ℕ). getD l 1 0) et, held-word v b t))

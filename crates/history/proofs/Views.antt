@@ -18,7 +18,7 @@ use Rattle.lists.proofs.Counts.{count-append}
 use Rattle.lists.proofs.Sets.{map-at}
 use Rattle.lists.proofs.Tests.{clause}
 use Rattle.model.specs.Measures.{Measures, Shape, partsFor}
-use Rattle.model.specs.State.{Block, Pointer, nullPointer, blankPointer, direct, indirect, Shelf, Version, Till}
+use Rattle.model.specs.State.{Block, Pointer, nullPointer, blankPointer, direct, indirect, Shelf, Version, withPointers, Till}
 use Rattle.model.specs.Image.{Era, isBare, imageBlocks}
 use Rattle.model.specs.Turn.{target, foundOr, turn}
 use Rattle.model.specs.Trace.{endOf, blockAt, tracedBlock, tracedBlocks, imageOf}
@@ -160,7 +160,7 @@ module _ (era : Era) (s : Shape) (p : Shelf) (x : Exact p) (bs : List Block) (ne
   views-extended (v ∷ []) h c =
       ap {B = List VersionView} (λ (w : VersionView). w ∷ viewVersions (s .measures .blockBytes) p (newV ∷ []))
       (view-path _ _ _ _ _ _ _ _ refl refl
-      (image-same (s .measures) p p v (record { number = v .number; length = v .length; pointers = turn era p bs (v .pointers) }) [] (newV ∷ []) refl
+      (image-same (s .measures) p p v (withPointers v (turn era p bs (v .pointers))) [] (newV ∷ []) refl
       (turn-length era p bs (v .pointers)) (traced-same era s p x bs newV ok v [] h))
       (turned-kinds era (s .measures) p bs (v .pointers)
       ∙ ap (over (turnedKind era bs) (map kindOf (v .pointers)))
@@ -198,7 +198,7 @@ module _ (m : Measures) (a : Shelf) (n : ℕ) (v : Version) (newer : List Versio
       rw (o .0, named)
       (ap {B = List VersionView} (λ (w : VersionView). w ∷ viewVersions (m .blockBytes) a newer)
       (view-path _ _ _ _ _ _ _ _ refl refl
-      (image-same m a a u (record { number = u .number; length = u .length; pointers = map (takeOver (v .pointers)) (u .pointers) }) (v ∷ newer) newer refl
+      (image-same m a a u (withPointers u (map (takeOver (v .pointers)) (u .pointers))) (v ∷ newer) newer refl
       (length-map (u .pointers) (takeOver (v .pointers))) (close-traced v newer (m .blockBytes) a u []))
       (take-kinds (v .pointers) (u .pointers))))
   views-closed (u ∷ w ∷ older) o =

@@ -8,7 +8,7 @@ use lib.ListN.{length}
 use Rattle.lists.specs.Lists.{count}
 use Rattle.lists.specs.Rows.{joined}
 use Rattle.lists.proofs.Counts.{count-append}
-use Rattle.model.specs.State.{Pointer, Version}
+use Rattle.model.specs.State.{Pointer, Version, withPointers}
 use Rattle.model.specs.Sound.{leadsTo}
 use Rattle.model.specs.Calls.{newestPointers, withNewestPointers}
 use Rattle.laws.proofs.Serves.{pointersOf}
@@ -65,7 +65,7 @@ newest-last (v ∷ []) u = refl
 newest-last (v ∷ w ∷ us) u = newest-last (w ∷ us) u
 
 pub with-last : (us : List Version) (u : Version) (ps : List Pointer) (ws : List Version)
-    → withNewestPointers (us ++ (u ∷ [])) ps ++ ws ≡ us ++ (record { number = u .number; length = u .length; pointers = ps } ∷ ws)
+    → withNewestPointers (us ++ (u ∷ [])) ps ++ ws ≡ us ++ (withPointers u ps ∷ ws)
 unfolding withNewestPointers
 with-last [] u ps ws = refl
 with-last (v ∷ []) u ps ws = refl

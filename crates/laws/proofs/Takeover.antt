@@ -12,7 +12,7 @@ use Rattle.lists.specs.Rows.{joined}
 use Rattle.lists.specs.Each.{Each}
 use Rattle.lists.proofs.Tests.{all-true, clause}
 use Rattle.model.specs.Measures.{Shape, partsFor}
-use Rattle.model.specs.State.{Pointer, nullPointer, blankPointer, direct, indirect, Shelf, Version}
+use Rattle.model.specs.State.{Pointer, nullPointer, blankPointer, direct, indirect, Shelf, Version, withPointers}
 use Rattle.model.specs.Trace.{endVia, endOf, blockAt, tracedBlock}
 use Rattle.model.specs.Sound.{isNull, leads, leadsTo, nextPointers, hasLength, areTraceable}
 use Rattle.model.specs.Calls.{heldFrom, heldBefore, newestPointers, withNewestPointers, takeOver, taken, closeUp}
@@ -118,7 +118,7 @@ module _ (v : Version) (newer : List Version) where
   close-none = refl
 
   pub close-last : (us : List Version) (u : Version)
-      → closeUp (us ++ (u ∷ [])) v newer ≡ us ++ (record { number = u .number; length = u .length; pointers = map (takeOver (v .pointers)) (u .pointers) } ∷ newer)
+      → closeUp (us ++ (u ∷ [])) v newer ≡ us ++ (withPointers u (map (takeOver (v .pointers)) (u .pointers)) ∷ newer)
   unfolding closeUp
   close-last us u =
       ap (λ (ps : List Pointer). withNewestPointers (us ++ (u ∷ [])) (map (takeOver (v .pointers)) ps) ++ newer) (newest-last us u)
@@ -171,7 +171,7 @@ module _ (v : Version) (newer : List Version) where
           (
             every-map a (takeOver (v .pointers)) (v .pointers) (nextPointers newer) (take-leads (v .pointers) a (nextPointers newer) (clause _ 1 (clause _ 3 h))) (u .pointers) (clause _ 1 h),
             (
-              ends-same (s .measures) a u (record { number = u .number; length = u .length; pointers = map (takeOver (v .pointers)) (u .pointers) }) (v ∷ newer) newer refl
+              ends-same (s .measures) a u (withPointers u (map (takeOver (v .pointers)) (u .pointers))) (v ∷ newer) newer refl
                   (length-map (u .pointers) (takeOver (v .pointers))) (close-traced (s .measures .blockBytes) a u []) (clause _ 2 h),
               (clause _ 3 (clause _ 3 h), tt),
             ),

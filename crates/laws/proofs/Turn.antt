@@ -12,7 +12,7 @@ use borrow.Author.Tests.{ltb-true, ltb-false}
 use Rattle.lists.specs.Lists.{every, keep, count, firstFrom, sameNumbers, allZero}
 use Rattle.lists.specs.Each.{Each}
 use Rattle.model.specs.Measures.{Measures, Shape, partsFor}
-use Rattle.model.specs.State.{Block, Pointer, nullPointer, blankPointer, direct, indirect, Shelf, Version}
+use Rattle.model.specs.State.{Block, Pointer, nullPointer, blankPointer, direct, indirect, Shelf, Version, withPointers}
 use Rattle.model.specs.Image.{Era, isBlank, isBare}
 use Rattle.model.specs.Records.{isHeld, cellOf, cellAt, positionAt}
 use Rattle.model.specs.Turn.{indirectAt, turnsTo, target, isFound, foundOr, turn, turning}
@@ -247,7 +247,7 @@ module _ (era : Era) (s : Shape) (p : Shelf) (x : Exact p) (bs : List Block) (ne
           (
             every-map p (turned era (s .measures) p x bs) [] (newV .pointers) (turned-leads era (s .measures) p x bs (newV .pointers) ok) (v .pointers) (clause _ 1 h),
             (
-              ends-same (s .measures) p v (record { number = v .number; length = v .length; pointers = turn era p bs (v .pointers) }) [] (newV ∷ []) refl
+              ends-same (s .measures) p v (withPointers v (turn era p bs (v .pointers))) [] (newV ∷ []) refl
                   (turn-length era p bs (v .pointers)) (traced-same v [] h) (clause _ 2 h),
               (all-true _ (len, (lead, (end, (refl, tt)))), tt),
             ),

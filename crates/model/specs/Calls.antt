@@ -8,7 +8,7 @@ use lib.ListN.{length, getD, set, take, drop, replicate}
 use lib.Dec.{eqb, ltb, leb}
 use Rattle.lists.specs.Lists.{count, total}
 use Rattle.model.specs.Measures.{Shape, inRange, tableWords, poolBytes}
-use Rattle.model.specs.State.{Block, Pointer, nullPointer, blankPointer, direct, indirect, Shelf, Version, Till, State, Outcome, refused, done}
+use Rattle.model.specs.State.{Block, Pointer, nullPointer, blankPointer, direct, indirect, Shelf, Version, withPointers, Till, State, Outcome, refused, done}
 use Rattle.model.specs.Image.{zeroBlock, Era, withBlanks, imageBlocks, imageSegments}
 use Rattle.model.specs.Records.{freeSegment, isFree, namedCells, countOf}
 use Rattle.model.specs.Place.{Placed, placeAll}
@@ -102,7 +102,7 @@ newestPointers (v ∷ w ∷ vs) = newestPointers (w ∷ vs)
 
 unfoldable pub withNewestPointers : List Version → List Pointer → List Version
 withNewestPointers [] ps = []
-withNewestPointers (v ∷ []) ps = record { number = v .number; length = v .length; pointers = ps } ∷ []
+withNewestPointers (v ∷ []) ps = withPointers v ps ∷ []
 withNewestPointers (v ∷ w ∷ vs) ps = v ∷ withNewestPointers (w ∷ vs) ps
 
 -- the till with the new version, the previous one's pointers turned

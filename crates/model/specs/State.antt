@@ -36,6 +36,10 @@ pub record Version : Type 0 where
   pub length : ℕ
   pub pointers : List Pointer
 
+-- a version with other pointers
+abbrev pub withPointers : Version → List Pointer → Version
+withPointers v ps = record { number = v .number; length = v .length; pointers = ps }
+
 -- the last number given, and the held versions, the oldest first
 pub record Till : Type 0 where
   pub last : ℕ

@@ -11,12 +11,12 @@ use Rattle.lists.specs.Rows.{fill, rows, joined}
 use Rattle.lists.proofs.Rows.{length-rows, length-fill, wide-all, rows-append}
 use Rattle.lists.proofs.Slices.{mid-is, mid-put, tail-is, tail-put}
 use Rattle.lists.proofs.Filled.{fill-append, over-fill, shift-fill}
-use Rattle.model.specs.State.{Pointer, Version}
+use Rattle.model.specs.State.{Pointer, Version, withPointers}
 use Rattle.model.specs.Table.{pointerWord, versionToWords, tillToWords}
 use Rattle.model.specs.Calls.{newestPointers, withNewestPointers}
 use Rattle.laws.proofs.RoundTrip.{length-version, held-word}
 use Rattle.laws.proofs.Newest.{newest-last, with-last}
-use Rattle.slots.specs.Slots.{HasSlot, repointed}
+use Rattle.slots.specs.Slots.{HasSlot}
 
 -- ---- the versions before the newest, and the newest
 
@@ -125,7 +125,7 @@ module _ (b j : ℕ) (till : List ℕ) (v last : ℕ) (older : List Version) (u 
 
   pub pointers-put : (pws ys : List ℕ) (ps : List Pointer) → length pws ≤ b → pws ≡ map pointerWord ps → length ps ≡ length (u .pointers)
       → ys ≡ pws ++ drop (length pws) (midOf (4 + j * (3 + b) + 3) (4 + j * (3 + b) + 3 + b - (4 + j * (3 + b) + 3)) till)
-      → putMid (4 + j * (3 + b) + 3) (4 + j * (3 + b) + 3 + b - (4 + j * (3 + b) + 3)) till ys ≡ tillToWords v b (record { last = last; versions = older ++ (repointed u ps ∷ newer) })
+      → putMid (4 + j * (3 + b) + 3) (4 + j * (3 + b) + 3 + b - (4 + j * (3 + b) + 3)) till ys ≡ tillToWords v b (record { last = last; versions = older ++ (withPointers u ps ∷ newer) })
   pointers-put pws ys ps lp ep l ey =
       let s : ℕ = 4 + j * (3 + b) + 3 in
       let k : s + b - s ≡ b = omega arith in
@@ -139,7 +139,7 @@ module _ (b j : ℕ) (till : List ℕ) (v last : ℕ) (older : List Version) (u 
       ap (λ (x : ℕ). take s till ++ (ys ++ drop x (drop s till))) k
       ∙ mid-put p (fill b (map pointerWord (u .pointers))) q till s b e start-is (length-fill b (map pointerWord (u .pointers))) ys
       ∙ ap (λ (x : List ℕ). p ++ (x ++ q)) y
-      ∙ sym (around (repointed u ps) (same-count (repointed u ps)))
+      ∙ sym (around (withPointers u ps) (same-count (withPointers u ps)))
 
   -- ---- a version that goes
 
@@ -175,7 +175,7 @@ abbrev Puts : ℕ → ℕ → List ℕ → List ℕ → List ℕ → Type 0
 Puts b j pws till one =
     (v last : ℕ) (older : List Version) (u : Version) (newer : List Version) (ps : List Pointer) → length older ≡ j → length (older ++ (u ∷ newer)) ≤ v
     → till ≡ tillToWords v b (record { last = last; versions = older ++ (u ∷ newer) }) → pws ≡ map pointerWord ps → length ps ≡ length (u .pointers)
-    → one ≡ tillToWords v b (record { last = last; versions = older ++ (repointed u ps ∷ newer) })
+    → one ≡ tillToWords v b (record { last = last; versions = older ++ (withPointers u ps ∷ newer) })
 
 abbrev Drops : ℕ → ℕ → List ℕ → List ℕ → Type 0
 Drops b j till one =
@@ -206,13 +206,13 @@ module _ (b j v last : ℕ) (till : List ℕ) (older : List Version) (u : Versio
           let x : Version = e .newest in
           let w : os ++ (u ∷ newer) ≡ us ++ (x ∷ u ∷ newer) = ap (λ (r : List Version). r ++ (u ∷ newer)) (e .is) ∙ split us x u newer in
           let lx : length os ≡ suc (length us) = omega (arith, ap length (e .is), length-append us (x ∷ [])) in
-          let here : mid ≡ tillToWords v b (record { last = last; versions = us ++ (repointed x ps ∷ u ∷ newer) }) =
+          let here : mid ≡ tillToWords v b (record { last = last; versions = us ++ (withPointers x ps ∷ u ∷ newer) }) =
           f v last us x (u ∷ newer) ps (omega (arith, l, lx)) (omega (arith, m, ap length w))
           (q ∙ ap (λ (r : List Version). tillToWords v b (record { last = last; versions = r })) w) ep (k ∙ ap (λ (r : List Version). length (newestPointers r)) (e .is) ∙ ap length (newest-last us x)) in
-          let gone : one ≡ tillToWords v b (record { last = last; versions = (us ++ (repointed x ps ∷ [])) ++ newer }) =
-          d v last (us ++ (repointed x ps ∷ [])) u newer (omega (arith, l, lx, length-append us (repointed x ps ∷ [])))
-          (omega (arith, m, lx, length-append os (u ∷ newer), length-append (us ++ (repointed x ps ∷ [])) (u ∷ newer), length-append us (repointed x ps ∷ [])))
-          (here ∙ ap (λ (r : List Version). tillToWords v b (record { last = last; versions = r })) (sym (split us (repointed x ps) u newer))) in
+          let gone : one ≡ tillToWords v b (record { last = last; versions = (us ++ (withPointers x ps ∷ [])) ++ newer }) =
+          d v last (us ++ (withPointers x ps ∷ [])) u newer (omega (arith, l, lx, length-append us (withPointers x ps ∷ [])))
+          (omega (arith, m, lx, length-append os (u ∷ newer), length-append (us ++ (withPointers x ps ∷ [])) (u ∷ newer), length-append us (withPointers x ps ∷ [])))
+          (here ∙ ap (λ (r : List Version). tillToWords v b (record { last = last; versions = r })) (sym (split us (withPointers x ps) u newer))) in
           gone
           ∙ ap (λ (r : List Version). tillToWords v b (record { last = last; versions = r }))
-          (append-assoc us (repointed x ps ∷ []) newer ∙ sym (with-last us x ps newer) ∙ ap (λ (r : List Version). withNewestPointers r ps ++ newer) (sym (e .is)))
+          (append-assoc us (withPointers x ps ∷ []) newer ∙ sym (with-last us x ps newer) ∙ ap (λ (r : List Version). withNewestPointers r ps ++ newer) (sym (e .is)))
