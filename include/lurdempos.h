@@ -38,6 +38,8 @@
  *       zero after the length
  *   27  a till count outside 1 to 16, a mark at or above it, or a last till at
  *       or above it
+ *   28  a day before that of the till's newest held version
+ *   29  no held version of the till is as early as that day
  *
  * 13 and 15 are no longer answered: any held version can be retired, and 17 and
  * 18 tell apart why a version is not held.
@@ -75,6 +77,8 @@ extern "C" {
 #define LURDEMPOS_STREAM_LENGTH 25
 #define LURDEMPOS_STREAM_BITS 26
 #define LURDEMPOS_NO_TURN 27
+#define LURDEMPOS_EARLIER_DAY 28
+#define LURDEMPOS_NONE_SO_EARLY 29
 
 /* The bytes that the longest stream has: that of an image of 65,536 bytes
  * without a block of zeros. */
@@ -132,6 +136,12 @@ struct lurdempos_listing_answer {
     uint32_t oldest;
     uint32_t newest;
     uint32_t last;
+};
+
+/* The number of the version that was looked up by its day. */
+struct lurdempos_version_on_answer {
+    uint32_t refusal;
+    uint32_t version;
 };
 
 /* Occupied cells, records in use, and the sum of all counts. */
@@ -218,12 +228,23 @@ struct lurdempos_lay_out_answer lurdempos_lay_out(
     uint32_t cells, uint32_t block_bytes, uint32_t segment_blocks,
     uint32_t rebuild_percent);
 
-/* Keeps the image as the till's newest version.
+/* Keeps the image as the till's newest version. Its day is that of the till's
+ * newest held version until then, or 0 if none is held; so it is with every call
+ * that keeps an image, but for lurdempos_backup_dated.
  * Refusals: 10, 3, 4, 11, 12, then, at the first segment that cannot be
  * placed, 14 before 16. */
 struct lurdempos_backup_answer lurdempos_backup(
     uint8_t *pool, size_t pool_bytes, uint32_t *table, size_t table_words,
     uint32_t till, const uint8_t *image, size_t image_bytes);
+
+/* The same with a day, any number of 32 bits: what it counts, and from when, is
+ * for the caller to say. It must not be before the day of the till's newest held
+ * version, so that the days of a till's versions never fall from an older one to
+ * a newer one. Versions from before there were days have day 0.
+ * Refusals: 10, 3, 4, 11, 12, 28, then 14 and 16 as in a backup. */
+struct lurdempos_backup_answer lurdempos_backup_dated(
+    uint8_t *pool, size_t pool_bytes, uint32_t *table, size_t table_words,
+    uint32_t till, uint32_t day, const uint8_t *image, size_t image_bytes);
 
 /* A closing of several tills: keeps up to LURDEMPOS_MOST_IMAGES images, each as
  * lurdempos_backup keeps one, in their order. Image i is the next lengths[i] of
@@ -257,6 +278,13 @@ struct lurdempos_retire_answer lurdempos_retire(
 struct lurdempos_listing_answer lurdempos_listing(
     const uint8_t *pool, size_t pool_bytes, const uint32_t *table,
     size_t table_words, uint32_t till);
+
+/* The version that a till had on a day: of its held versions whose day is that
+ * one or an earlier one, the newest, which is the one with the highest number.
+ * Refusals: 10, 3, 29. */
+struct lurdempos_version_on_answer lurdempos_version_on(
+    const uint8_t *pool, size_t pool_bytes, const uint32_t *table,
+    size_t table_words, uint32_t till, uint32_t day);
 
 /* Refusals: 10. */
 struct lurdempos_tally_answer lurdempos_tally(

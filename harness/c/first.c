@@ -1,6 +1,6 @@
 /*
  * A first image kept and restored, moved as a stream, the next sent without
- * what the box has, a closing of both tills, and two turns on the line, from C (and, since it compiles as both, from C++). Prints what the calls answer; ends with status 1 at the first
+ * what the box has, a closing of both tills, versions by their day, and two turns on the line, from C (and, since it compiles as both, from C++). Prints what the calls answer; ends with status 1 at the first
  * answer that is not as expected.
  */
 #include "lurdempos.h"
@@ -175,6 +175,57 @@ static int closed(size_t words)
         && all.versions[0] == 0;
 }
 
+static int gone(size_t words, uint32_t version)
+{
+    struct lurdempos_retire_answer answer =
+        lurdempos_retire(pool, sizeof pool, table, words, 0, version);
+
+    return expect("retire", answer.refusal, LURDEMPOS_ACCEPTED);
+}
+
+/* Till 0's version 4 has no day, so that it has day 0; version 5 has day 20 and
+ * version 6, which is kept without one, takes it. A day before 20 is refused,
+ * and a lookup finds the newest that is not after its day. */
+static int dated(size_t words)
+{
+    static uint8_t image[200];
+    struct lurdempos_backup_answer backup;
+    struct lurdempos_version_on_answer found;
+
+    memset(image, 'd', sizeof image);
+    if (!gone(words, 1) || !gone(words, 2))
+        return 0;
+    backup = lurdempos_backup_dated(pool, sizeof pool, table, words, 0, 20,
+                                    image, sizeof image);
+    if (!expect("backup with a day", backup.refusal, LURDEMPOS_ACCEPTED)
+        || backup.version != 5)
+        return 0;
+    backup = lurdempos_backup_dated(pool, sizeof pool, table, words, 0, 19,
+                                    image, sizeof image);
+    if (!expect("backup with an earlier day", backup.refusal,
+                LURDEMPOS_EARLIER_DAY)
+        || backup.version != 0)
+        return 0;
+    backup = lurdempos_backup(pool, sizeof pool, table, words, 0, image, 100);
+    if (!expect("backup", backup.refusal, LURDEMPOS_ACCEPTED)
+        || backup.version != 6)
+        return 0;
+    found = lurdempos_version_on(pool, sizeof pool, table, words, 0, 19);
+    if (!expect("version on day 19", found.refusal, LURDEMPOS_ACCEPTED)
+        || found.version != 4)
+        return 0;
+    found = lurdempos_version_on(pool, sizeof pool, table, words, 0, UINT32_MAX);
+    if (!expect("version on the last day", found.refusal, LURDEMPOS_ACCEPTED)
+        || found.version != 6)
+        return 0;
+    if (!gone(words, 3) || !gone(words, 4))
+        return 0;
+    found = lurdempos_version_on(pool, sizeof pool, table, words, 0, 19);
+    return expect("version on day 19, none so early", found.refusal,
+                  LURDEMPOS_NONE_SO_EARLY)
+        && found.version == 0;
+}
+
 int main(void)
 {
     uint8_t image[500], output[512];
@@ -246,7 +297,7 @@ int main(void)
     if (!expect("listing", listing.refusal, LURDEMPOS_ACCEPTED)
         || listing.oldest != 1 || listing.newest != 1 || listing.last != 2)
         return 1;
-    if (!sent(words) || !closed(words))
+    if (!sent(words) || !closed(words) || !dated(words))
         return 1;
     pool[0] ^= 1;
     table[0] = 17;

@@ -4,7 +4,7 @@ ghost use Prim.Native.Nat.{ℕ, _<_};
 ghost use lib.ListN.{length, getD};
 ghost use Rattle.model.specs.Table.{shapeOf, stateIn};
 ghost use Rattle.laws.specs.Stores.{Sound, Header};
-ghost use Rattle.accept.specs.Accept.{mostBytes, tillRefusal, Judged};
+ghost use Rattle.accept.specs.Accept.{mostBytes, tillRefusal, datedRefusal, Judged};
 use numbers::Block;
 
 // The longest image's bytes: where the block past its last one would begin.
@@ -32,10 +32,25 @@ pub fn till_refusal(pool: &[u8], table: &[u32], till: u32) -> u32
     0
 }
 
-// Refusals 3, 4, 11 and 12, in this order; 0 where there is none.
-pub fn backup_refusal(pool: &[u8], table: &[u32], till: u32, image: &[u8]) -> u32
+// Refusals 11, 12 and 28, in this order; 0 where there is none.
+fn dated_refusal(pool: &[u8], table: &[u32], till: u32, day: u32) -> u32
+    requires { ⌜ Sound (now pool) (now table) × (till < getD (now table) 0 0) ⌝ }
+    ensures { λ r. ⌜ r ≡ datedRefusal (shapeOf (now (table .entry))) (stateIn (shapeOf (now (table .entry))) (now (pool .entry)) (now (table .entry))) till day ⌝ }
+{
+    let refusal = till_refusal(pool, table, till);
+    if refusal != 0 {
+        return refusal;
+    }
+    if day < tills::newest_day(pool, table, till) {
+        return 28;
+    }
+    refusal
+}
+
+// Refusals 3, 4, 11, 12 and 28, in this order; 0 where there is none.
+pub fn backup_refusal(pool: &[u8], table: &[u32], till: u32, day: u32, image: &[u8]) -> u32
     requires { ⌜ Sound (now pool) (now table) ⌝ }
-    ensures { λ r. ⌜ Judged (now (pool .entry)) (now (table .entry)) till (now (image .entry)) r ⌝ }
+    ensures { λ r. ⌜ Judged (now (pool .entry)) (now (table .entry)) till day (now (image .entry)) r ⌝ }
 {
     if table[0] <= till {
         return 3;
@@ -47,5 +62,5 @@ pub fn backup_refusal(pool: &[u8], table: &[u32], till: u32, image: &[u8]) -> u3
     if bytes > most_bytes(table) {
         return 4;
     }
-    till_refusal(pool, table, till)
+    dated_refusal(pool, table, till, day)
 }

@@ -42,9 +42,9 @@ module _ (bytes : ℕ) (some : 0 < bytes) (b : ℕ) (row : List ℕ) (l : length
   pub form-same : SlotForm bytes b row → versionToWords b (versionIn bytes row) ≡ row
   unfolding versionToWords versionIn
   form-same f =
-      ap (λ (r : List ℕ). getD row 0 0 ∷ getD row 1 0 ∷ 0 ∷ fill b r) (map-back wordToPointer pointerWord words (f .pointers))
-      ∙ ap (λ (r : List ℕ). getD row 0 0 ∷ getD row 1 0 ∷ 0 ∷ r) (fill-back b blocks (drop 3 row) rest-long (ap allZero (drop-drop blocks 3 row) ∙ f .rest))
-      ∙ ap (λ (x : ℕ). getD row 0 0 ∷ getD row 1 0 ∷ x ∷ drop 3 row) (sym (f .third)) ∙ sym apart
+      ap (λ (r : List ℕ). getD row 0 0 ∷ getD row 1 0 ∷ getD row 2 0 ∷ fill b r) (map-back wordToPointer pointerWord words (f .pointers))
+      ∙ ap (λ (r : List ℕ). getD row 0 0 ∷ getD row 1 0 ∷ getD row 2 0 ∷ r) (fill-back b blocks (drop 3 row) rest-long (ap allZero (drop-drop blocks 3 row) ∙ f .rest))
+      ∙ sym apart
 
   pub form-length : SlotForm bytes b row → hasLength bytes b (versionIn bytes row) ≡ true
   unfolding hasLength isWithin versionIn
@@ -59,10 +59,6 @@ module _ (bytes : ℕ) (some : 0 < bytes) (b : ℕ) (row : List ℕ) (l : length
   length-at h = (leb-true _ _ (clause _ 0 (clause _ 0 h)), leb-true _ _ (clause _ 1 (clause _ 0 h)))
 
   module _ (e : versionToWords b (versionIn bytes row) ≡ row) (high : getD row 1 0 ≤ bytes * b) where
-    third : getD row 2 0 ≡ 0
-    unfolding versionToWords
-    third = sym (ap (λ (r : List ℕ). getD r 2 0) e)
-
     filled : fill b (map pointerWord (map wordToPointer words)) ≡ drop 3 row
     unfolding versionToWords versionIn
     filled = ap (drop 3) e
@@ -76,7 +72,6 @@ module _ (bytes : ℕ) (some : 0 < bytes) (b : ℕ) (row : List ℕ) (l : length
     same-form low = record {
       some = low;
       most = high;
-      third = third;
       pointers = map-fixed pointerWord wordToPointer words says;
       rest = ap allZero (sym (drop-drop blocks 3 row)) ∙ back-fill b blocks (drop 3 row) (ap (fill b) (sym says) ∙ filled);
     }

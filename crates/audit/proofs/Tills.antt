@@ -1,34 +1,31 @@
 -- A till's words say what the checks ask if and only if they are those of the till that they are read as, and it is sound.
 use mathlib.Core.Path.{_≡_, refl, sym, ap, _∙_}
-use mathlib.Core.Bool.{Bool, true, false}
-use mathlib.Core.List.{List, [], _∷_, map}
-use Prim.Native.Nat.{ℕ, zero, suc, _+_, _-_, _*_, _/_, _≤_, _<_, min}
-use native.Mathlib.Nat.{not-suc-le-zero, le-of-suc-le-suc, zero-mul, suc-mul, sub-zero, suc-sub-suc, mul-le-mul, mul-le-mul-right, min-eq-left, min-le-right}
+use mathlib.Core.Bool.{true}
+use mathlib.Core.List.{List, [], _∷_, map, map-map}
+use Prim.Native.Nat.{ℕ, zero, suc, _+_, _-_, _*_, _≤_, _<_, min}
+use native.Mathlib.Nat.{not-suc-le-zero, le-of-suc-le-suc, zero-mul, suc-mul, sub-zero, suc-sub-suc, mul-le-mul-right, min-eq-left, min-le-right}
 use native.Mathlib.Omega.{arith}
-use borrow.Author.Tests.{eqb-true, eqb-false, leb-true, le-leb}
-use lib.Dec.{eqb}
+use borrow.Author.Tests.{leb-true, le-leb}
 use lib.ListN.{length, getD, take, drop, length-drop, length-map}
 use lib.Seq.{drop-drop, length-take-le}
-use Rattle.lists.specs.Lists.{every, rises, allZero}
-use Rattle.lists.specs.Rows.{rows, parts, fill}
+use Rattle.lists.specs.Lists.{every, count, rises, allZero}
+use Rattle.lists.specs.Rows.{joined, rows, parts, fill}
 use Rattle.lists.specs.Each.{Each}
 use Rattle.lists.proofs.Tests.{clause, all-true}
-use Rattle.lists.proofs.Each.{each-all, each-weaken, each-map}
-use Rattle.lists.proofs.Rises.{rises-within}
+use Rattle.lists.proofs.Each.{each-all}
 use Rattle.lists.proofs.Same.{zeros-eq}
 use Rattle.lists.proofs.Rows.{length-rows, wide-all}
-use Rattle.lists.proofs.Cuts.{length-parts, rows-parts}
+use Rattle.lists.proofs.Cuts.{length-parts, each-part, rows-parts}
 use Rattle.lists.proofs.Slices.{drop-next}
-use Rattle.model.specs.Measures.{Shape, partsFor, slotWords, tillWords}
-use Rattle.model.specs.State.{Shelf, Version}
-use Rattle.model.specs.Table.{kindUnit, wordToPointer, versionIn, versionsIn, tillIn, versionToWords, tillToWords}
-use Rattle.model.specs.Sound.{isNumbered, areTraceable, isTill}
-use Rattle.laws.proofs.Fits.{PointerFits}
+use Rattle.model.specs.Measures.{Shape, tillWords}
+use Rattle.model.specs.State.{Pointer, Shelf, Version, Till}
+use Rattle.model.specs.Table.{kindUnit, versionIn, versionsIn, tillIn, versionToWords, tillToWords}
+use Rattle.model.specs.Sound.{leadsTo, isNumbered, areTraceable, isTill}
 use Rattle.laws.proofs.RoundTrip.{length-version}
-use Rattle.audit_words.proofs.Pointers.{read-direct, read-indirect, read-blank, read-other}
-use Rattle.audit_pointers.proofs.Slots.{pointers-count}
-use Rattle.audit_counts.proofs.Pointers.{SmallVersion, SmallTill}
-use Rattle.audit_tills.specs.Says.{numbersIn, SlotSays, TillSays}
+use Rattle.audit_words.specs.Words.{PointerSays}
+use Rattle.audit_counts.specs.Counters.{pointersTo}
+use Rattle.audit_counts.proofs.Pointers.{words-count, rows-count}
+use Rattle.audit_tills.specs.Says.{numbersIn, pointerWords, tillPointers, SlotSays, TillSays}
 use Rattle.lists.proofs.Filled.{fill-back, back-fill, fill-front, rows-fixed}
 use Rattle.audit.proofs.Slots.{form-same, form-length, length-at, same-form}
 
@@ -56,21 +53,6 @@ module _ (w : ℕ) (S : ℕ → List ℕ → Type 0) where
   all-cons n xs s f (suc i) h = rw (suc-sub-suc n i, next i xs) (f i (le-of-suc-le-suc h))
 
 -- ---- the versions of a till's slots
-
-fits-word : (w : ℕ) → PointerFits (wordToPointer w)
-fits-word w = go (eqb (w / kindUnit) 1) (eqb (w / kindUnit) 2) (eqb (w / kindUnit) 3) refl refl refl
-  where
-    go : (a b c : Bool) → eqb (w / kindUnit) 1 ≡ a → eqb (w / kindUnit) 2 ≡ b → eqb (w / kindUnit) 3 ≡ c → PointerFits (wordToPointer w)
-    go true b c e g h = rw (read-direct w (eqb-true _ _ e)) (omega arith, omega arith)
-    go false true c e g h = rw (read-indirect w (eqb-true _ _ g)) (omega arith)
-    go false false true e g h = rw (read-blank w (eqb-true _ _ h)) tt
-    go false false false e g h = rw (read-other w (eqb-false _ _ e) (eqb-false _ _ g) (eqb-false _ _ h)) tt
-
-fits-words : (bytes : ℕ) (row : List ℕ) → Each PointerFits (versionIn bytes row .pointers)
-unfolding versionIn
-fits-words bytes row =
-    let ws : List ℕ = take (partsFor bytes (getD row 1 0)) (drop 3 row) in
-    each-map PointerFits wordToPointer ws (each-all (λ w. PointerFits (wordToPointer w)) fits-word ws)
 
 pub versions-long : (bytes b n : ℕ) (xs : List ℕ) → length (versionsIn bytes b n xs) ≡ n
 unfolding versionsIn
@@ -117,22 +99,6 @@ module _ (bytes : ℕ) (some : 0 < bytes) (shelf : Shelf) (b : ℕ) where
         ends = rw e (clause _ 2 (t .traceable));
       })
       (untraced n (drop (3 + b) xs) (fit .1) (record { traceable = clause _ 3 (t .traceable); words = t .words .1 }))
-
-  smalls : bytes ≤ 512 → b ≤ 1024 → (n : ℕ) (xs : List ℕ) → n * (3 + b) ≤ length xs → Each (λ (m : ℕ). m ≤ 65535) (numbersIn b n xs) → All (3 + b) (SlotSays bytes shelf b) n xs
-      → Each (SmallVersion b) (versionsIn bytes b n xs)
-  unfolding versionsIn numbersIn parts
-  smalls hy hb zero xs h k f = tt
-  smalls hy hb (suc n) xs h k f =
-      let s : SlotSays bytes shelf b (suc n) xs = all-head (3 + b) (SlotSays bytes shelf b) n xs f in
-      let fit = first-fits n xs h in (
-        record {
-          number = unfold versionIn in omega (arith, k .0);
-          bytes = let most : bytes * b ≤ 524288 = mul-le-mul hy hb in unfold versionIn in omega (arith, s .form .most, most);
-          few = rw (pointers-count bytes (take (3 + b) xs) b (fit .0)) (min-le-right (partsFor bytes (getD (take (3 + b) xs) 1 0)) b);
-          pointers = fits-words bytes (take (3 + b) xs);
-        },
-        smalls hy hb n (drop (3 + b) xs) (fit .1) (k .1) (all-tail (3 + b) (SlotSays bytes shelf b) n xs f),
-      )
 
 -- ---- a till's words
 
@@ -282,24 +248,17 @@ module _ (s : Shape) (some : 0 < s .measures .blockBytes) (shelf : Shelf) (row :
           ∙ back-fill (v * (3 + b)) (held * (3 + b)) (drop 4 row) (ap (fill (v * (3 + b))) (sym front) ∙ filled-at);
     }
 
-  pub till-small : bytes ≤ 512 → v ≤ 64 → b ≤ 1024 → TillSays bytes shelf v b row → SmallTill v b (tillIn bytes v b row)
-  till-small hy hv hb t =
-      rw (till-is (t .few))
-      (record {
-        last = omega (arith, t .most);
-        held = omega (arith, versions-long bytes b held (drop 4 row), t .few, hv);
-        few = few-rows;
-        versions = smalls bytes some shelf b hy hb held (drop 4 row) (slots-fit (t .few)) small-numbers (t .slots);
-      })
-    where
-      small-numbers : Each (λ (m : ℕ). m ≤ 65535) (numbersIn b held (drop 4 row))
-      small-numbers =
-          each-weaken (λ (m : ℕ). (0 < m) × (m ≤ last)) (λ m. m ≤ 65535) (λ m h. omega (arith, h .1, t .most)) (numbersIn b held (drop 4 row))
-          (rises-within 0 last (numbersIn b held (drop 4 row)) (t .rising))
+  -- the direct pointers among its pointer words are those of its versions
+  module _ (k i : ℕ) (hi : i < 16) (hq : k * 16 + i < kindUnit) where
+    slot-count : (x : List ℕ) → Each PointerSays (pointerWords bytes x) → pointersTo (k * 16 + i) (pointerWords bytes x) ≡ count (leadsTo k i) (versionIn bytes x .pointers)
+    unfolding versionIn
+    slot-count x says = words-count k i hi hq (pointerWords bytes x) says
 
-      few-rows : length (rows (versionToWords b) vs) ≤ v * slotWords b
-      few-rows =
-          let n : length (rows (versionToWords b) vs) ≡ length vs * (3 + b) = length-rows (versionToWords b) (3 + b) vs (wide-all (versionToWords b) (3 + b) (length-version b) vs) in
-          let m : held * (3 + b) ≤ v * (3 + b) = mul-le-mul-right (3 + b) (t .few) in
-          let k : length vs * (3 + b) ≡ held * (3 + b) = ap (λ (n : ℕ). n * (3 + b)) (versions-long bytes b held (drop 4 row)) in
-          omega (arith, n, m, k)
+    pub till-count : TillSays bytes shelf v b row → pointersTo (k * 16 + i) (tillPointers bytes b row) ≡ count (leadsTo k i) (rows (λ (u : Version). u .pointers) (tillIn bytes v b row .versions))
+    unfolding versionsIn
+    till-count t =
+        let slots : List (List ℕ) = parts (3 + b) held (drop 4 row) in
+        let says : Each (λ (x : List ℕ). Each PointerSays (pointerWords bytes x)) slots = each-part (λ x. Each PointerSays (pointerWords bytes x)) (3 + b) held (drop 4 row) (λ j g. t .slots j g .form .pointers) in
+        rows-count k i hi hq (λ (x : List ℕ). Each PointerSays (pointerWords bytes x)) (pointerWords bytes) (λ x. versionIn bytes x .pointers) slot-count slots says
+        ∙ ap (λ (ps : List (List Pointer)). count (leadsTo k i) (joined ps)) (sym (map-map (λ (u : Version). u .pointers) (versionIn bytes) slots))
+        ∙ ap (λ (u : Till). count (leadsTo k i) (rows (λ (u : Version). u .pointers) (u .versions))) (sym (till-is (t .few)))

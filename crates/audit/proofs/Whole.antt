@@ -1,7 +1,7 @@
 -- What the checks ask of the words behind the header, and of the pool, is that they are a sound store; for any shape whose measures code can have.
 use mathlib.Core.Path.{_≡_, refl, sym, ap, ap₂, _∙_}
 use mathlib.Core.Bool.{Bool, true, false, cond}
-use mathlib.Core.List.{List, [], _∷_, _++_, map}
+use mathlib.Core.List.{List, [], _∷_, _++_, map, map-map}
 use mathlib.Core.Option.{Option, none, some}
 use Prim.Native.Nat.{ℕ, _+_, _-_, _*_, _/_, _≤_, _<_}
 use native.Mathlib.Omega.{arith}
@@ -10,7 +10,7 @@ use lib.Dec.{eqb}
 use lib.ListN.{length, getD, take, drop, length-drop, length-map, take-append-drop}
 use lib.Seq.{take-at, drop-at, drop-drop, take-all, length-take-le}
 use Rattle.lists.specs.Lists.{every, count, sameNumbers, isSome}
-use Rattle.lists.specs.Rows.{rows, parts, chunks}
+use Rattle.lists.specs.Rows.{joined, rows, parts, chunks}
 use Rattle.lists.specs.Each.{Each}
 use Rattle.lists.proofs.Checkers.{clash}
 use Rattle.lists.proofs.Tests.{clause, all-true}
@@ -20,7 +20,7 @@ use Rattle.lists.proofs.Rows.{length-rows, wide-all}
 use Rattle.lists.proofs.Cuts.{length-parts, each-part, part-each, chunks-parts, rows-chunks}
 use Rattle.lists.proofs.Places.{rows-few}
 use Rattle.model.specs.Measures.{Shape, isWithin, inRange, tillWords, recordWords, recordsAt, tableWords, poolBytes}
-use Rattle.model.specs.State.{Block, Shelf, State, Segment}
+use Rattle.model.specs.State.{Block, Pointer, Shelf, Version, Till, State, Segment}
 use Rattle.model.specs.Table.{headerToWords, recordToWords, tillToWords, stateToWords, segmentIn, recordsIn, cellsIn, shelfIn, tillIn, tillsIn, tillsPart, recordsPart, stateIn}
 use Rattle.model.specs.Sound.{isShaped, isUsed, isTill, leadsTo, allPointers, allCounted, isSound, ifSound, hasLengths, storeAs}
 use Rattle.laws.specs.Ranges.{Measured}
@@ -32,12 +32,12 @@ use Rattle.audit_words.proofs.Positions.{segment-long}
 use Rattle.audit_words.proofs.Records.{RecordSays, record-says, says-record}
 use Rattle.audit_cells.specs.Cells.{CellsSay}
 use Rattle.audit_counts.specs.Counters.{pointersTo}
-use Rattle.audit_counts.proofs.Pointers.{SmallTill, tills-count}
+use Rattle.audit_counts.proofs.Pointers.{rows-count}
 use Rattle.audit_counts.proofs.Counts.{counts-sound, sound-counts}
-use Rattle.audit_tills.specs.Says.{TillSays}
+use Rattle.audit_tills.specs.Says.{tillPointers, tillsPointers, TillSays}
 use Rattle.audit.specs.Good.{Body}
 use Rattle.lists.proofs.Filled.{rows-fixed, parts-wide, with-long}
-use Rattle.audit.proofs.Tills.{TillFine, till-fine, fine-till, till-small}
+use Rattle.audit.proofs.Tills.{TillFine, till-fine, fine-till, till-count}
 
 -- ---- the answer
 
@@ -235,18 +235,25 @@ module _ (s : Shape) (ok : Measured (s .measures)) (pool ws : List ℕ) (h : has
   each-tills : Each (TillSays bytes shelf nv nb) (chunks tw tills) → (t : ℕ) → t < nt → TillSays bytes shelf nv nb (take tw (drop (t * tw) tills))
   each-tills e = part-each (TillSays bytes shelf nv nb) tw nt tills (rw (chunks-parts tw nt tills tills-long (omega arith)) at e)
 
-  small-tills : Each (TillSays bytes shelf nv nb) (chunks tw tills) → Each (SmallTill nv nb) (map (tillIn bytes nv nb) (chunks tw tills))
-  small-tills e =
-      each-map (SmallTill nv nb) (tillIn bytes nv nb) (chunks tw tills)
-      (with-long (TillSays bytes shelf nv nb) (λ x. SmallTill nv nb (tillIn bytes nv nb x)) tw (λ x e t. till-small s some-bytes shelf x e (ok .mostBytes) few-versions few-blocks t) (chunks tw tills) long-tills e)
+  -- a till's pointers
+  abbrev held : Till → List Pointer
+  held t = rows (λ (v : Version). v .pointers) (t .versions)
 
-  counted : Each (TillSays bytes shelf nv nb) (chunks tw tills) → Each Tilled (chunks tw tills) → (k i : ℕ) → k < length records / sw → i < n
-      → pointersTo (k * 16 + i) tills ≡ count (leadsTo k i) (allPointers (map (tillIn bytes nv nb) (chunks tw tills)))
-  unfolding Tilled
-  counted e s k i hk hi =
+  -- the direct pointers among a till's pointer words are those of its versions
+  abbrev Counted : ℕ → ℕ → List ℕ → Type 0
+  Counted k i x = pointersTo (k * 16 + i) (tillPointers bytes nb x) ≡ count (leadsTo k i) (held (tillIn bytes nv nb x))
+
+  counted : Each (TillSays bytes shelf nv nb) (chunks tw tills) → (k i : ℕ) → k < length records / sw → i < n
+      → pointersTo (k * 16 + i) (tillsPointers bytes nv nb nt tills) ≡ count (leadsTo k i) (allPointers (map (tillIn bytes nv nb) (chunks tw tills)))
+  unfolding allPointers
+  counted e k i hk hi =
       let few : k < 4096 = omega (arith, hk, rows-few (length records) sw (omega arith) nr (omega (arith, records-long)), few-records) in
-      ap (pointersTo (k * 16 + i)) (sym (rows-chunks (tillToWords nv nb) (tillIn bytes nv nb) tw nt tills tills-long (omega arith) s))
-      ∙ tills-count k i (omega (arith, hi, ok .mostBlocks)) (omega (arith, few, hi, ok .mostBlocks)) nv nb (map (tillIn bytes nv nb) (chunks tw tills)) (small-tills e)
+      let low : i < 16 = omega (arith, hi, ok .mostBlocks) in
+      let here : k * 16 + i < 16777216 = omega (arith, few, low) in
+      ap (λ (rs : List (List ℕ)). pointersTo (k * 16 + i) (rows (tillPointers bytes nb) rs)) (sym (chunks-parts tw nt tills tills-long (omega arith)))
+      ∙ rows-count k i low here (Counted k i) (tillPointers bytes nb) (λ x. held (tillIn bytes nv nb x)) (λ x c. c) (chunks tw tills)
+      (with-long (TillSays bytes shelf nv nb) (Counted k i) tw (λ x l t. till-count s some-bytes shelf x l k i low here t) (chunks tw tills) long-tills e)
+      ∙ ap (λ (ps : List (List Pointer)). count (leadsTo k i) (joined ps)) (sym (map-map held (tillIn bytes nv nb) (chunks tw tills)))
 
   module _ (b : Body (s .measures) pool tills records nt nv nb) where
     says : Each (TillSays bytes shelf nv nb) (chunks tw tills)
@@ -290,7 +297,7 @@ module _ (s : Shape) (ok : Measured (s .measures)) (pool ws : List ℕ) (h : has
         )
       where
         right : allCounted (allPointers (map (tillIn bytes nv nb) (chunks tw tills))) 0 (shelf .records) ≡ true
-        right = unfold shelfIn in counts-sound n (allPointers (map (tillIn bytes nv nb) (chunks tw tills))) tills records (counted says tilled) (b .counts)
+        right = unfold shelfIn in counts-sound n (allPointers (map (tillIn bytes nv nb) (chunks tw tills))) (tillsPointers bytes nv nb nt tills) records (counted says) (b .counts)
 
         used : every isUsed (shelf .records) ≡ true
         used = unfold shelfIn recordsIn in each-every (λ g. isUsed g ≡ true) isUsed (λ g e. e) (map (segmentIn n) (chunks sw records)) (each-map (λ g. isUsed g ≡ true) (segmentIn n) (chunks sw records) (each-weaken (RecordSays n) (λ x. isUsed (segmentIn n x) ≡ true) (λ x f. f .used) (chunks sw records) record-fines))
@@ -338,7 +345,7 @@ module _ (s : Shape) (ok : Measured (s .measures)) (pool ws : List ℕ) (h : has
       forms = forms-at;
       cells = cells-at;
       tillsSay = each-tills says-at;
-      counts = sound-counts n (allPointers (map (tillIn bytes nv nb) (chunks tw tills))) tills records (counted says-at tilled) right-at;
+      counts = sound-counts n (allPointers (map (tillIn bytes nv nb) (chunks tw tills))) (tillsPointers bytes nv nb nt tills) records (counted says-at) right-at;
     }
 
   -- ---- the store

@@ -10,7 +10,7 @@ use Rattle.model.specs.Table.{shapeOf, tillsPart, recordsPart, shelfIn}
 use Rattle.audit_words.specs.Words.{RecordForm}
 use Rattle.audit_cells.specs.Cells.{CellsSay}
 use Rattle.audit_counts.specs.Counters.{CountsSay}
-use Rattle.audit_tills.specs.Says.{TillSays}
+use Rattle.audit_tills.specs.Says.{tillsPointers, TillSays}
 
 -- a table's capacities are in range, and the buffers have the lengths of a store of these measures
 pub record Sized (m : Measures) (pool ws : List ℕ) : Type 0 where
@@ -27,7 +27,7 @@ pub record Body (m : Measures) (pool tills records : List ℕ) (count v b : ℕ)
   pub forms : Each (RecordForm (m .segmentBlocks)) (chunks (recordWords (m .segmentBlocks)) records)
   pub cells : CellsSay (shelfIn m pool records)
   pub tillsSay : (t : ℕ) → t < count → TillSays (m .blockBytes) (shelfIn m pool records) v b (take (tillWords v b) (drop (t * tillWords v b) tills))
-  pub counts : CountsSay (m .segmentBlocks) tills records
+  pub counts : CountsSay (m .segmentBlocks) (tillsPointers (m .blockBytes) v b count tills) records
 
 -- those behind a table's header
 abbrev pub TableBody : Measures → List ℕ → List ℕ → Type 0

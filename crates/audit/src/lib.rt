@@ -11,7 +11,7 @@ ghost use Rattle.model.specs.Sound.{storeOf};
 ghost use Rattle.laws.specs.Ranges.{Measured};
 ghost use Rattle.numbers.specs.Measures.{measuresOf};
 ghost use Rattle.audit_counts.specs.Counters.{CountsSay};
-ghost use Rattle.audit_tills.specs.Says.{TillSays};
+ghost use Rattle.audit_tills.specs.Says.{tillsPointers, TillSays};
 ghost use Rattle.audit.specs.Good.{Sized, Body, TableBody};
 use numbers::Measures;
 
@@ -26,7 +26,7 @@ fn counted_good(
     m: Measures,
 ) -> bool
     requires { ⌜ Measured (measuresOf m) × (count ≤ 16) × (versions ≤ 64) × (blocks ≤ 1024) × (length (now tills) ≡ count * tillWords versions blocks) × (length (now tills) ≤ 2000000) × (length (now records) ≤ 4096 * recordWords (m .blocks)) ⌝ }
-    ensures { λ r. ⌜ Tells r (((t : ℕ) → t < count → TillSays (m .bytes) (shelfIn (measuresOf m) (now (pool .entry)) (now (records .entry))) versions blocks (take (tillWords versions blocks) (drop (t * tillWords versions blocks) (now (tills .entry))))) × CountsSay (m .blocks) (now (tills .entry)) (now (records .entry))) ⌝ }
+    ensures { λ r. ⌜ Tells r (((t : ℕ) → t < count → TillSays (m .bytes) (shelfIn (measuresOf m) (now (pool .entry)) (now (records .entry))) versions blocks (take (tillWords versions blocks) (drop (t * tillWords versions blocks) (now (tills .entry))))) × CountsSay (m .blocks) (tillsPointers (m .bytes) versions blocks count (now (tills .entry))) (now (records .entry))) ⌝ }
 {
     let mut counts = [0u32; 65536];
     if !audit_tills::tills_say(

@@ -9,8 +9,7 @@ use borrow.Author.Tests.{eq-eqb, ne-eqb, eqb-true, eqb-false}
 use lib.Dec.{eqb}
 use lib.ListN.{length, drop, getD, set, replicate, length-set, length-replicate}
 use lib.Seq.{getD-set-same, getD-set-other}
-use Rattle.lists.specs.Lists.{count, every, allZero}
-use Rattle.lists.proofs.Tests.{cond-true}
+use Rattle.lists.specs.Lists.{count}
 use Rattle.lists.proofs.Slices.{drop-next, drop-end}
 use Rattle.model.specs.Table.{kindUnit}
 use Rattle.audit_counts.specs.Counters.{bumped, tallied, pointersTo}
@@ -99,18 +98,6 @@ pub tallied-append : (xs ys cs : List ℕ) → tallied (xs ++ ys) cs ≡ tallied
 unfolding tallied
 tallied-append [] ys cs = refl
 tallied-append (x ∷ xs) ys cs = tallied-append xs ys (bumped x cs)
-
--- small numbers are no direct pointers
-pub tallied-small : (w : ℕ) (ws cs : List ℕ) → w < kindUnit → tallied (w ∷ ws) cs ≡ tallied ws cs
-unfolding tallied bumped
-tallied-small w ws cs h = let e : w / kindUnit ≡ 0 = omega arith in rw e
-
-pub tallied-blank : (ws cs : List ℕ) → allZero ws ≡ true → tallied ws cs ≡ cs
-unfolding allZero every tallied
-tallied-blank [] cs h = refl
-tallied-blank (w ∷ ws) cs h =
-    let b = cond-true (eqb w 0) (every (λ x. eqb x 0) ws) h in
-    tallied-small w ws cs (omega (arith, eqb-true w 0 (b .0))) ∙ tallied-blank ws cs (b .1)
 
 -- ---- from counters of zero
 

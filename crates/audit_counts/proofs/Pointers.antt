@@ -1,55 +1,38 @@
--- The direct pointers among the words of tills are those of the tills' versions.
+-- The direct pointers among pointer words are those among the pointers that the words are read as.
 use mathlib.Core.Path.{_≡_, refl, sym, ap, ap₂, _∙_}
 use mathlib.Core.Bool.{Bool, true, false, cond}
 use mathlib.Core.List.{List, [], _∷_, _++_, map}
-use Prim.Native.Nat.{ℕ, zero, suc, _+_, _*_, _≤_, _<_}
-use native.Mathlib.Nat.{zero-add, not-suc-le-zero, le-of-suc-le-suc}
+use Prim.Native.Nat.{ℕ, _+_, _*_, _/_, _<_}
 use native.Mathlib.Omega.{arith}
 use borrow.Author.Tests.{eqb-true, eqb-false, eq-eqb, ne-eqb}
 use lib.Dec.{eqb}
-use lib.ListN.{length, length-map}
 use Rattle.lists.specs.Lists.{allOf, count}
-use Rattle.lists.specs.Rows.{joined, rows, fill}
+use Rattle.lists.specs.Rows.{joined, rows}
 use Rattle.lists.specs.Each.{Each}
 use Rattle.lists.proofs.Counts.{count-append}
-use Rattle.model.specs.Measures.{slotWords}
-use Rattle.model.specs.State.{Pointer, nullPointer, blankPointer, direct, indirect, Version, Till}
-use Rattle.model.specs.Table.{kindUnit, pointerWord, versionToWords, tillToWords}
-use Rattle.model.specs.Sound.{leadsTo, allPointers}
+use Rattle.lists.proofs.Cuts.{map-back}
+use Rattle.lists.proofs.Each.{each-all, each-map}
+use Rattle.model.specs.State.{Pointer, nullPointer, blankPointer, direct, indirect}
+use Rattle.model.specs.Table.{kindUnit, pointerWord, wordToPointer}
+use Rattle.model.specs.Sound.{leadsTo}
 use Rattle.laws.proofs.Fits.{PointerFits}
+use Rattle.audit_words.specs.Words.{PointerSays}
+use Rattle.audit_words.proofs.Pointers.{read-direct, read-indirect, read-blank, read-other}
 use Rattle.audit_counts.specs.Counters.{pointersTo}
 
--- numbers that are no direct pointers, and pointers that fit their words
-pub record SmallVersion (b : ℕ) (v : Version) : Type 0 where
-  pub number : v .number < kindUnit
-  pub bytes : v .length < kindUnit
-  pub few : length (v .pointers) ≤ b
-  pub pointers : Each PointerFits (v .pointers)
-
-pub record SmallTill (v b : ℕ) (t : Till) : Type 0 where
-  pub last : t .last < kindUnit
-  pub held : length (t .versions) < kindUnit
-  pub few : length (rows (versionToWords b) (t .versions)) ≤ v * slotWords b
-  pub versions : Each (SmallVersion b) (t .versions)
+-- a pointer that was read from a word fits one
+fits-word : (w : ℕ) → PointerFits (wordToPointer w)
+fits-word w = go (eqb (w / kindUnit) 1) (eqb (w / kindUnit) 2) (eqb (w / kindUnit) 3) refl refl refl
+  where
+    go : (a b c : Bool) → eqb (w / kindUnit) 1 ≡ a → eqb (w / kindUnit) 2 ≡ b → eqb (w / kindUnit) 3 ≡ c → PointerFits (wordToPointer w)
+    go true b c e g h = rw (read-direct w (eqb-true _ _ e)) (omega arith, omega arith)
+    go false true c e g h = rw (read-indirect w (eqb-true _ _ g)) (omega arith)
+    go false false true e g h = rw (read-blank w (eqb-true _ _ h)) tt
+    go false false false e g h = rw (read-other w (eqb-false _ _ e) (eqb-false _ _ g) (eqb-false _ _ h)) tt
 
 module _ (k i : ℕ) (hi : i < 16) (hq : k * 16 + i < kindUnit) where
   abbrev q : ℕ
   q = k * 16 + i
-
-  skip : (w : ℕ) (ws : List ℕ) → w < kindUnit → pointersTo q (w ∷ ws) ≡ pointersTo q ws
-  unfolding pointersTo count
-  skip w ws h = rw (ne-eqb w (kindUnit + q) (λ e. absurd (omega arith))) (zero-add (count (λ w. eqb w (kindUnit + q)) ws))
-
-  append : (xs ys : List ℕ) → pointersTo q (xs ++ ys) ≡ pointersTo q xs + pointersTo q ys
-  unfolding pointersTo
-  append xs ys = count-append (λ w. eqb w (kindUnit + q)) xs ys
-
-  filled : (n : ℕ) (xs : List ℕ) → length xs ≤ n → pointersTo q (fill n xs) ≡ pointersTo q xs
-  unfolding fill pointersTo count
-  filled zero [] h = refl
-  filled zero (x ∷ xs) h = absurd (not-suc-le-zero h)
-  filled (suc n) [] h = skip 0 (fill n []) (omega arith) ∙ filled n [] (omega arith)
-  filled (suc n) (x ∷ xs) h = ap (λ (m : ℕ). cond (eqb x (kindUnit + q)) 1 0 + m) (filled n xs (le-of-suc-le-suc h))
 
   one : (p : Pointer) → PointerFits p → _≡_ {A = ℕ} (cond (eqb (pointerWord p) (kindUnit + q)) 1 0) (cond (leadsTo k i p) 1 0)
   unfolding pointerWord allOf
@@ -75,11 +58,15 @@ module _ (k i : ℕ) (hi : i < 16) (hq : k * 16 + i < kindUnit) where
   pointers [] h = refl
   pointers (p ∷ ps) h = ap₂ _+_ (one p (h .0)) (pointers ps (h .1))
 
-  version : (b : ℕ) (v : Version) → SmallVersion b v → pointersTo q (versionToWords b v) ≡ count (leadsTo k i) (v .pointers)
-  unfolding versionToWords
-  version b v s =
-      skip (v .number) _ (s .number) ∙ skip (v .length) _ (s .bytes) ∙ skip 0 _ (omega arith)
-      ∙ filled b (map pointerWord (v .pointers)) (rw (length-map (v .pointers) pointerWord) (s .few)) ∙ pointers (v .pointers) (s .pointers)
+  -- of words that say pointers
+  pub words-count : (ws : List ℕ) → Each PointerSays ws → pointersTo q ws ≡ count (leadsTo k i) (map wordToPointer ws)
+  words-count ws says =
+      ap (pointersTo q) (sym (map-back wordToPointer pointerWord ws says))
+      ∙ pointers (map wordToPointer ws) (each-map PointerFits wordToPointer ws (each-all (λ w. PointerFits (wordToPointer w)) fits-word ws))
+
+  append : (xs ys : List ℕ) → pointersTo q (xs ++ ys) ≡ pointersTo q xs + pointersTo q ys
+  unfolding pointersTo
+  append xs ys = count-append (λ w. eqb w (kindUnit + q)) xs ys
 
   -- rows whose words say as many as their things
   pub rows-count : {A : Type 0} (P : A → Type 0) (enc : A → List ℕ) (ps : A → List Pointer) → ((x : A) → P x → pointersTo q (enc x) ≡ count (leadsTo k i) (ps x))
@@ -88,14 +75,3 @@ module _ (k i : ℕ) (hi : i < 16) (hq : k * 16 + i < kindUnit) where
   rows-count P enc ps f [] h = unfold pointersTo count in refl
   rows-count P enc ps f (x ∷ xs) h =
       append (enc x) (rows enc xs) ∙ ap₂ _+_ (f x (h .0)) (rows-count P enc ps f xs (h .1)) ∙ sym (count-append (leadsTo k i) (ps x) (rows ps xs))
-
-  till : (v b : ℕ) (t : Till) → SmallTill v b t → pointersTo q (tillToWords v b t) ≡ count (leadsTo k i) (rows (λ (v : Version). v .pointers) (t .versions))
-  unfolding tillToWords
-  till v b t s =
-      skip (t .last) _ (s .last) ∙ skip (length (t .versions)) _ (s .held) ∙ skip 0 _ (omega arith) ∙ skip 0 _ (omega arith)
-      ∙ filled (v * slotWords b) (rows (versionToWords b) (t .versions)) (s .few)
-      ∙ rows-count (SmallVersion b) (versionToWords b) (λ (v : Version). v .pointers) (version b) (t .versions) (s .versions)
-
-  pub tills-count : (v b : ℕ) (ts : List Till) → Each (SmallTill v b) ts → pointersTo q (rows (tillToWords v b) ts) ≡ count (leadsTo k i) (allPointers ts)
-  unfolding allPointers
-  tills-count v b ts h = rows-count (SmallTill v b) (tillToWords v b) (λ (t : Till). rows (λ (v : Version). v .pointers) (t .versions)) (till v b) ts h

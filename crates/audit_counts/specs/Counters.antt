@@ -31,6 +31,6 @@ abbrev pub RecordCounts : ℕ → (ℕ → ℕ) → List ℕ → Type 0
 RecordCounts n counts ws =
     (k : ℕ) → k < length ws / recordWords n → (i : ℕ) → i < n → CountSays n (take (recordWords n) (drop (k * recordWords n) ws)) i (counts (k * 16 + i))
 
--- the counts in the records' words are the numbers of direct pointers among the tills' words
+-- the counts in the records' words are the numbers of direct pointers among the pointer words
 abbrev pub CountsSay : ℕ → List ℕ → List ℕ → Type 0
-CountsSay n tills ws = RecordCounts n (λ p. pointersTo p tills) ws
+CountsSay n pointers ws = RecordCounts n (λ p. pointersTo p pointers) ws

@@ -6,13 +6,10 @@ use Prim.Native.Nat.{ℕ, zero, suc, _+_, _-_, _*_, _≤_, _<_}
 use native.Mathlib.Nat.{zero-mul, sub-zero, add-zero}
 use native.Mathlib.Omega.{arith}
 use borrow.Author.Tests.{lt-ltb, le-ltb, le-leb, lt-leb}
-use lib.ListN.{length, getD, drop, length-map, List·getD-map}
+use lib.ListN.{getD, drop}
 use lib.Seq.{getD-take, getD-drop}
 use Rattle.lists.specs.Lists.{rises}
 use Rattle.lists.specs.Rows.{parts}
-use Rattle.lists.proofs.Cuts.{length-parts, part-at, part-word}
-use Rattle.lists.proofs.Each.{each-at}
-use Rattle.lists.proofs.Rises.{rises-within}
 use Rattle.audit_pointers.proofs.Slots.{slots-next}
 use Rattle.audit_tills.specs.Says.{numbersIn}
 
@@ -81,19 +78,3 @@ module _ (b last n : ℕ) (ws : List ℕ) where
       left-next next g k e =
           let f : next - 1 ≡ number = omega arith in
           record { some = omega arith; rest = ap (λ (m : ℕ). rises m last newer) f ∙ sym (first-good (least - 1) last number newer (omega (arith, l .some)) k) ∙ here }
-
-  number-at : (i : ℕ) → i < n → getD (numbersIn b n ws) i 0 ≡ getD ws (i * (3 + b)) 0
-  unfolding numbersIn
-  number-at i h =
-      List·getD-map (λ (row : List ℕ). getD row 0 0) (parts (3 + b) n ws) i [] ∙ ap (λ (row : List ℕ). getD row 0 0) (part-at (3 + b) n ws i h)
-      ∙ part-word (3 + b) ws i 0 0 (omega arith) ∙ ap (λ (m : ℕ). getD ws m 0) (add-zero (i * (3 + b)))
-
-  numbers-long : length (numbersIn b n ws) ≡ n
-  unfolding numbersIn
-  numbers-long = length-map (parts (3 + b) n ws) (λ (row : List ℕ). getD row 0 0) ∙ length-parts (3 + b) n ws
-
-  -- none is above the last
-  pub numbers-most : rises 0 last (numbersIn b n ws) ≡ true → (i : ℕ) → i < n → getD ws (i * (3 + b)) 0 ≤ last
-  numbers-most h i g =
-      let w = each-at (λ (m : ℕ). (0 < m) × (m ≤ last)) 0 (numbersIn b n ws) (rises-within 0 last (numbersIn b n ws) h) i (omega (arith, numbers-long, g)) in
-      omega (arith, number-at i g, w .1)

@@ -1,17 +1,18 @@
 -- Slots of a till, as the code lends them.
-use mathlib.Core.Path.{_≡_, refl, sym, ap, ap₂, _∙_}
-use mathlib.Core.Bool.{Bool, true}
+use mathlib.Core.Path.{_≡_, refl, sym, ap, _∙_}
+use mathlib.Core.Bool.{Bool}
 use mathlib.Core.List.{List, [], _∷_, map}
 use Prim.Native.Nat.{ℕ, _+_, _-_, _*_, _^_, _≤_, _<_}
-use native.Mathlib.Nat.{mul-le-mul, mul-le-mul-right, add-mul, suc-mul, zero-mul}
+use native.Mathlib.Nat.{mul-le-mul-right, add-mul}
 use native.Mathlib.Omega.{arith}
 use lib.Arith.{digits-lt}
-use lib.ListN.{length, getD, take, drop, length-drop, length-take, take-append-drop}
-use lib.Seq.{take-take, take-add, drop-drop}
-use Rattle.lists.specs.Lists.{allZero}
+use lib.ListN.{length, getD, take, drop, length-drop, length-take}
+use lib.Seq.{take-take, drop-drop}
+use Rattle.lists.specs.Rows.{joined, rows, parts}
 use Rattle.lists.specs.Tells.{Tells}
 use Rattle.lists.proofs.Answers.{part-is}
 use Rattle.lists.proofs.Checkers.{same-as}
+use Rattle.lists.proofs.Cuts.{cut-next, cut-most, cut-short}
 use Rattle.lists.proofs.Slices.{tail-all, drop-take, drop-next}
 use Rattle.model.specs.Measures.{Measures, partsFor}
 use Rattle.model.specs.State.{Shelf}
@@ -20,10 +21,10 @@ use Rattle.model.specs.Sound.{nextPointers}
 use Rattle.lists.specs.Each.{Each}
 use Rattle.audit_words.specs.Words.{PointerSays, SlotForm, SlotFrame}
 use Rattle.audit_counts.specs.Counters.{tallied}
-use Rattle.audit_counts.proofs.Counters.{tallied-le, tallied-append, tallied-small, tallied-blank}
+use Rattle.audit_counts.proofs.Counters.{tallied-le, tallied-append}
 use Rattle.audit_pointers.specs.Good.{PointersGood}
 use Rattle.audit_pointers.proofs.Slots.{words-are, pointers-of, versions-cons, versions-end}
-use Rattle.audit_tills.specs.Says.{pointerWords, SlotPoints}
+use Rattle.audit_tills.specs.Says.{pointerWords, tillPointers, SlotPoints}
 use Rattle.audit_tails.proofs.Blocks.{first-slot}
 
 -- ---- room
@@ -99,10 +100,10 @@ few-words ws n b h = omega (arith, ap length (part-is ws 3 n), length-take n (dr
 -- ---- a slot's words, and its pointers
 
 pub form-frame : {bytes b : ℕ} {row : List ℕ} → SlotForm bytes b row → SlotFrame bytes b row
-form-frame f = record { some = f .some; most = f .most; third = f .third; rest = f .rest }
+form-frame f = record { some = f .some; most = f .most; rest = f .rest }
 
 pub frame-form : {bytes b : ℕ} {row : List ℕ} → SlotFrame bytes b row → Each PointerSays (pointerWords bytes row) → SlotForm bytes b row
-frame-form f p = record { some = f .some; most = f .most; third = f .third; pointers = p; rest = f .rest }
+frame-form f p = record { some = f .some; most = f .most; pointers = p; rest = f .rest }
 
 -- ---- what is counted
 
@@ -111,43 +112,26 @@ three row l =
     drop-next row 0 0 (omega (arith, l)) ∙ ap (λ (r : List ℕ). getD row 0 0 ∷ r) (drop-next row 1 0 (omega (arith, l))
     ∙ ap (λ (r : List ℕ). getD row 1 0 ∷ r) (drop-next row 2 0 (omega (arith, l))))
 
--- the pointers alone, of a slot's words
-pub slot-tallied : (bytes b : ℕ) (row cs : List ℕ) → 3 ≤ length row → getD row 0 0 < 16777216 → SlotFrame bytes b row → bytes ≤ 512 → b ≤ 1024 → tallied row cs ≡ tallied (pointerWords bytes row) cs
-slot-tallied bytes b row cs l h f g₁ g₂ =
-    let most : bytes * b ≤ 524288 = mul-le-mul g₁ g₂ in
-    let n : ℕ = partsFor bytes (getD row 1 0) in
-    let rest : allZero (drop n (drop 3 row)) ≡ true = ap allZero (drop-drop n 3 row) ∙ f .rest in
-    ap (λ (ws : List ℕ). tallied ws cs) (three row l)
-    ∙ tallied-small (getD row 0 0) _ cs h ∙ tallied-small (getD row 1 0) _ cs (omega (arith, f .most)) ∙ tallied-small (getD row 2 0) _ cs (omega (arith, f .third))
-    ∙ ap (λ (ws : List ℕ). tallied ws cs) (sym (take-append-drop n (drop 3 row)))
-    ∙ tallied-append (take n (drop 3 row)) (drop n (drop 3 row)) cs ∙ tallied-blank (drop n (drop 3 row)) _ rest
+-- no more of them than words
+pub slot-short : (bytes : ℕ) (row : List ℕ) → length (pointerWords bytes row) ≤ length row
+slot-short bytes row = omega (arith, length-take (partsFor bytes (getD row 1 0)) (drop 3 row), length-drop 3 row)
 
--- the slots in use alone, m words, of a till's
-pub till-tallied : (row cs cs₁ : List ℕ) (m : ℕ) → 4 ≤ length row → getD row 0 0 ≤ 65535 → getD row 1 0 ≤ 64 → allZero (take 2 (drop 2 row)) ≡ true → allZero (drop (4 + m) row) ≡ true
-    → cs₁ ≡ tallied (take m (drop 4 row)) cs → cs₁ ≡ tallied row cs
-till-tallied row cs cs₁ m l h g z r e =
-    e
-    ∙ sym (
-    ap (λ (ws : List ℕ). tallied ws cs) (drop-next row 0 0 (omega (arith, l)) ∙ ap (λ (ws : List ℕ). getD row 0 0 ∷ ws) (drop-next row 1 0 (omega (arith, l))))
-    ∙ tallied-small (getD row 0 0) _ cs (omega (arith, h)) ∙ tallied-small (getD row 1 0) _ cs (omega (arith, g))
-    ∙ split 2 (drop 2 row) ∙ ap₂ tallied (drop-drop 2 2 row) (tallied-blank (take 2 (drop 2 row)) cs z)
-    ∙ split m (drop 4 row) ∙ tallied-blank (drop m (drop 4 row)) _ (ap allZero (drop-drop m 4 row) ∙ r)
-    )
-  where
-    split : (n : ℕ) (ws : List ℕ) → tallied ws cs ≡ tallied (drop n ws) (tallied (take n ws) cs)
-    split n ws = ap (λ (xs : List ℕ). tallied xs cs) (sym (take-append-drop n ws)) ∙ tallied-append (take n ws) (drop n ws) cs
+pub till-short : (bytes b : ℕ) (row : List ℕ) → length (tillPointers bytes b row) ≤ length row
+till-short bytes b row = omega (arith, cut-short (pointerWords bytes) (3 + b) (slot-short bytes) (getD row 1 0) (drop 4 row), length-drop 4 row)
 
-pub none-tallied : (w : ℕ) (ws cs : List ℕ) → cs ≡ tallied (take (0 * w) ws) cs
-unfolding tallied
-none-tallied w ws cs = rw (zero-mul w)
+-- the words that are counted of each of some rows of w words
+module _ (f : List ℕ → List ℕ) (w : ℕ) where
+  pub none-tallied : (ws cs : List ℕ) → cs ≡ tallied (rows f (parts w 0 ws)) cs
+  unfolding tallied parts joined
+  none-tallied ws cs = refl
 
--- row i of rows of w words, after those before it
-pub next-tallied : (i w : ℕ) (ws cs cs₀ cs₁ : List ℕ) → cs ≡ tallied (take (i * w) ws) cs₀ → cs₁ ≡ tallied (take w (drop (i * w) ws)) cs → cs₁ ≡ tallied (take ((i + 1) * w) ws) cs₀
-next-tallied i w ws cs cs₀ cs₁ e f =
-    let m : (i + 1) * w ≡ i * w + w = omega (arith, suc-mul i w) in
-    f ∙ ap (tallied (take w (drop (i * w) ws))) e ∙ sym (tallied-append (take (i * w) ws) (take w (drop (i * w) ws)) cs₀)
-    ∙ ap (λ (xs : List ℕ). tallied xs cs₀) (sym (take-add (i * w) w ws)) ∙ ap (λ (n : ℕ). tallied (take n ws) cs₀) (sym m)
+  -- row i, after those before it
+  pub next-tallied : (i : ℕ) (ws cs cs₀ cs₁ : List ℕ) → cs ≡ tallied (rows f (parts w i ws)) cs₀ → cs₁ ≡ tallied (f (take w (drop (i * w) ws))) cs → cs₁ ≡ tallied (rows f (parts w (i + 1) ws)) cs₀
+  next-tallied i ws cs cs₀ cs₁ e g =
+      g ∙ ap (tallied (f (take w (drop (i * w) ws)))) e ∙ sym (tallied-append (rows f (parts w i ws)) (f (take w (drop (i * w) ws))) cs₀)
+      ∙ ap (λ (xs : List ℕ). tallied xs cs₀) (sym (cut-next f w i ws))
 
--- the counters have room for m more words
-pub room-left : (n m : ℕ) (ws cs₀ cs : List ℕ) → cs ≡ tallied (take n ws) cs₀ → ((k : ℕ) → getD cs₀ k 0 + (n + m) < 2 ^ 32) → (k : ℕ) → getD cs k 0 + m < 2 ^ 32
-room-left n m ws cs₀ cs e h k = rw e (omega (arith, tallied-le (take n ws) cs₀ k, length-take n ws, h k))
+  -- the counters have room for m more words
+  pub room-left : ((x : List ℕ) → length (f x) ≤ length x) → (i m : ℕ) (ws cs₀ cs : List ℕ) → cs ≡ tallied (rows f (parts w i ws)) cs₀ → ((k : ℕ) → getD cs₀ k 0 + (i * w + m) < 2 ^ 32)
+      → (k : ℕ) → getD cs k 0 + m < 2 ^ 32
+  room-left short i m ws cs₀ cs e h k = rw e (omega (arith, tallied-le (rows f (parts w i ws)) cs₀ k, cut-most f w short i ws, h k))

@@ -5,12 +5,12 @@ use mathlib.Core.Path.{_≡_}
 use mathlib.Core.List.{List, map}
 use lib.ListN.{getD, take, drop}
 use Rattle.lists.specs.Lists.{every, rises, allZero}
-use Rattle.lists.specs.Rows.{parts}
+use Rattle.lists.specs.Rows.{rows, parts}
 use Rattle.lists.specs.Each.{Each}
 use Rattle.model.specs.State.{Shelf}
 use Rattle.model.specs.Table.{versionIn, versionsIn}
 use Rattle.model.specs.Sound.{leads, nextPointers, endsZero}
-use Rattle.model.specs.Measures.{partsFor, slotWords}
+use Rattle.model.specs.Measures.{partsFor, slotWords, tillWords}
 use Rattle.audit_words.specs.Words.{PointerSays, SlotForm}
 
 -- the numbers of the first `n` slots, for images of up to `b` blocks
@@ -20,6 +20,16 @@ numbersIn b n slots = map (λ (row : List ℕ). getD row 0 0) (parts (slotWords 
 -- a slot's pointer words, for blocks of so many bytes
 abbrev pub pointerWords : ℕ → List ℕ → List ℕ
 pointerWords bytes row = take (partsFor bytes (getD row 1 0)) (drop 3 row)
+
+-- those of the first `n` slots, of a till's slots in use, and of the first `n` tills: of all words, these alone are counted
+abbrev pub slotsPointers : ℕ → ℕ → ℕ → List ℕ → List ℕ
+slotsPointers bytes b n slots = rows (pointerWords bytes) (parts (slotWords b) n slots)
+
+abbrev pub tillPointers : ℕ → ℕ → List ℕ → List ℕ
+tillPointers bytes b row = slotsPointers bytes b (getD row 1 0) (drop 4 row)
+
+abbrev pub tillsPointers : ℕ → ℕ → ℕ → ℕ → List ℕ → List ℕ
+tillsPointers bytes v b n tills = rows (tillPointers bytes b) (parts (tillWords v b) n tills)
 
 -- the pointer words of the first of `count` slots, of which the others are newer: each says a pointer, which leads
 pub record SlotPoints (bytes : ℕ) (shelf : Shelf) (b count : ℕ) (slots : List ℕ) : Type 0 where

@@ -11,7 +11,7 @@ ghost use Rattle.model.specs.Table.{recordsIn, shelfIn};
 ghost use Rattle.laws.specs.Ranges.{Measured};
 ghost use Rattle.numbers.specs.Measures.{measuresOf};
 ghost use Rattle.audit_counts.specs.Counters.{tallied};
-ghost use Rattle.audit_tills.specs.Says.{numbersIn, pointerWords, SlotPoints, SlotSays, TillSays};
+ghost use Rattle.audit_tills.specs.Says.{numbersIn, pointerWords, slotsPointers, tillPointers, tillsPointers, SlotPoints, SlotSays, TillSays};
 use numbers::Measures;
 
 // Whether the numbers of some slots rise: the first is at least 1, each other above the one before it, and none above the last given.
@@ -70,7 +70,7 @@ fn slot_points(
     )
 }
 
-// Whether the first of some slots, whose number is in range, says a version.
+// Whether the first of some slots, but for its number, says a version.
 fn slot_says(
     pool: &[u8],
     records: &[u32],
@@ -80,8 +80,8 @@ fn slot_says(
     counts: &mut [u32],
     m: Measures,
 ) -> bool
-    requires { ⌜ Measured (measuresOf m) × (0 < count) × (blocks ≤ 1024) × (count ≤ 64) × (count * (3 + blocks) ≤ length (now slots)) × (getD (now slots) 0 0 ≤ 65535) × ((k : ℕ) → getD (now counts) k 0 + blocks < 2 ^ 32) ⌝ }
-    ensures { λ r. ⌜ Tells r (SlotSays (m .bytes) (shelfIn (measuresOf m) (now (pool .entry)) (now (records .entry))) blocks count (now (slots .entry))) × (r ≡ true → now (counts .exit) ≡ tallied (take (3 + blocks) (now (slots .entry))) (now (counts .entry))) ⌝ }
+    requires { ⌜ Measured (measuresOf m) × (0 < count) × (blocks ≤ 1024) × (count ≤ 64) × (count * (3 + blocks) ≤ length (now slots)) × ((k : ℕ) → getD (now counts) k 0 + blocks < 2 ^ 32) ⌝ }
+    ensures { λ r. ⌜ Tells r (SlotSays (m .bytes) (shelfIn (measuresOf m) (now (pool .entry)) (now (records .entry))) blocks count (now (slots .entry))) × (r ≡ true → now (counts .exit) ≡ tallied (pointerWords (m .bytes) (take (3 + blocks) (now (slots .entry)))) (now (counts .entry))) ⌝ }
 {
     let width = 3 + blocks;
     if !audit_words::slot_frame(&slots[0..width], blocks, m.bytes) {
@@ -103,8 +103,8 @@ fn slots_say(
     counts: &mut [u32],
     m: Measures,
 ) -> bool
-    requires { ⌜ Measured (measuresOf m) × (blocks ≤ 1024) × (count ≤ 64) × (count * (3 + blocks) ≤ length (now slots)) × ((i : ℕ) → i < count → getD (now slots) (i * (3 + blocks)) 0 ≤ 65535) × ((k : ℕ) → getD (now counts) k 0 + count * (3 + blocks) < 2 ^ 32) ⌝ }
-    ensures { λ r. ⌜ Tells r ((i : ℕ) → i < count → SlotSays (m .bytes) (shelfIn (measuresOf m) (now (pool .entry)) (now (records .entry))) blocks (count - i) (drop (i * (3 + blocks)) (now (slots .entry)))) × (r ≡ true → now (counts .exit) ≡ tallied (take (count * (3 + blocks)) (now (slots .entry))) (now (counts .entry))) ⌝ }
+    requires { ⌜ Measured (measuresOf m) × (blocks ≤ 1024) × (count ≤ 64) × (count * (3 + blocks) ≤ length (now slots)) × ((k : ℕ) → getD (now counts) k 0 + count * (3 + blocks) < 2 ^ 32) ⌝ }
+    ensures { λ r. ⌜ Tells r ((i : ℕ) → i < count → SlotSays (m .bytes) (shelfIn (measuresOf m) (now (pool .entry)) (now (records .entry))) blocks (count - i) (drop (i * (3 + blocks)) (now (slots .entry)))) × (r ≡ true → now (counts .exit) ≡ tallied (slotsPointers (m .bytes) blocks count (now (slots .entry))) (now (counts .entry))) ⌝ }
 {
     let mut i: usize = 0;
     while i < count {
@@ -128,7 +128,7 @@ fn till_says(
     m: Measures,
 ) -> bool
     requires { ⌜ Measured (measuresOf m) × (versions ≤ 64) × (blocks ≤ 1024) × (length (now till) ≡ tillWords versions blocks) × ((k : ℕ) → getD (now counts) k 0 + length (now till) < 2 ^ 32) ⌝ }
-    ensures { λ r. ⌜ Tells r (TillSays (m .bytes) (shelfIn (measuresOf m) (now (pool .entry)) (now (records .entry))) versions blocks (now (till .entry))) × (r ≡ true → now (counts .exit) ≡ tallied (now (till .entry)) (now (counts .entry))) ⌝ }
+    ensures { λ r. ⌜ Tells r (TillSays (m .bytes) (shelfIn (measuresOf m) (now (pool .entry)) (now (records .entry))) versions blocks (now (till .entry))) × (r ≡ true → now (counts .exit) ≡ tallied (tillPointers (m .bytes) blocks (now (till .entry))) (now (counts .entry))) ⌝ }
 {
     let last = till[0];
     let count = till[1] as usize;
@@ -163,7 +163,7 @@ pub fn tills_say(
     m: Measures,
 ) -> bool
     requires { ⌜ Measured (measuresOf m) × (count ≤ 16) × (versions ≤ 64) × (blocks ≤ 1024) × (length (now tills) ≡ count * tillWords versions blocks) × ((k : ℕ) → getD (now counts) k 0 + length (now tills) < 2 ^ 32) ⌝ }
-    ensures { λ r. ⌜ Tells r ((t : ℕ) → t < count → TillSays (m .bytes) (shelfIn (measuresOf m) (now (pool .entry)) (now (records .entry))) versions blocks (take (tillWords versions blocks) (drop (t * tillWords versions blocks) (now (tills .entry))))) × (r ≡ true → now (counts .exit) ≡ tallied (now (tills .entry)) (now (counts .entry))) ⌝ }
+    ensures { λ r. ⌜ Tells r ((t : ℕ) → t < count → TillSays (m .bytes) (shelfIn (measuresOf m) (now (pool .entry)) (now (records .entry))) versions blocks (take (tillWords versions blocks) (drop (t * tillWords versions blocks) (now (tills .entry))))) × (r ≡ true → now (counts .exit) ≡ tallied (tillsPointers (m .bytes) versions blocks count (now (tills .entry))) (now (counts .entry))) ⌝ }
 {
     let width = 4 + versions * (3 + blocks);
     let mut t: usize = 0;

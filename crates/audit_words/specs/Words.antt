@@ -13,18 +13,16 @@ use Rattle.model.specs.Table.{pointerWord, wordToPointer}
 abbrev pub PointerSays : ℕ → Type 0
 PointerSays w = pointerWord (wordToPointer w) ≡ w
 
--- a slot of 3 + `b` words, for blocks of so many bytes, in use: a length in range, and zeros behind its pointers
+-- a slot of 3 + `b` words, for blocks of so many bytes, in use: a length in range, and zeros behind its pointers; its day is any number
 pub record SlotFrame (bytes b : ℕ) (row : List ℕ) : Type 0 where
   pub some : 1 ≤ getD row 1 0
   pub most : getD row 1 0 ≤ bytes * b
-  pub third : getD row 2 0 ≡ 0
   pub rest : allZero (drop (3 + partsFor bytes (getD row 1 0)) row) ≡ true
 
 -- and its pointers
 pub record SlotForm (bytes b : ℕ) (row : List ℕ) : Type 0 where
   pub some : 1 ≤ getD row 1 0
   pub most : getD row 1 0 ≤ bytes * b
-  pub third : getD row 2 0 ≡ 0
   pub pointers : Each PointerSays (take (partsFor bytes (getD row 1 0)) (drop 3 row))
   pub rest : allZero (drop (3 + partsFor bytes (getD row 1 0)) row) ≡ true
 

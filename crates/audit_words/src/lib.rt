@@ -37,9 +37,6 @@ pub fn slot_frame(row: &[u32], blocks: usize, bytes: usize) -> bool
     if bytes * blocks < length {
         return false;
     }
-    if row[2] != 0 {
-        return false;
-    }
     let end = 3 + numbers::parts_for(bytes, length);
     zeros(&row[end..])
 }

@@ -12,7 +12,7 @@ use Rattle.model.specs.Place.{Placed, placeAll}
 use Rattle.model.specs.Image.{imageBlocks, imageSegments}
 use Rattle.model.specs.Table.{shapeOf, stateIn, tillToWords, stateToWords, pointerWord, wordToPointer}
 use Rattle.model.specs.Turn.{turn}
-use Rattle.model.specs.Calls.{BackupAnswer, tillOf, newestPointers, backupOf}
+use Rattle.model.specs.Calls.{BackupAnswer, tillOf, newestPointers, backupDatedOf}
 use Rattle.laws.specs.Ranges.{Measured}
 use Rattle.laws.proofs.Image.{blocks-length}
 use Rattle.laws.proofs.Measures.{sizes, parts-enough, parts-few, parts-least}
@@ -47,7 +47,7 @@ module _ {pool table : List ℕ} (h : Sound pool table) (t : ℕ) (in-table : t 
 
 -- ---- the image
 
-module _ {pool table : List ℕ} {t : ℕ} {image : List ℕ} (h : Sound pool table) (a : Accepted pool table t image) where
+module _ {pool table : List ℕ} {t day : ℕ} {image : List ℕ} (h : Sound pool table) (a : Accepted pool table t day image) where
   pub image-most : length image ≤ 65536
   image-most = omega (arith, a .few, header h .image, mul-comm (measuresOn table .blockBytes) (getD table 2 0))
 
@@ -77,7 +77,7 @@ parts-in-segments bytes n len some pos =
 
 -- ---- from the newest version's pointers on
 
-module _ {mc : Measures} {pool table : List ℕ} {t : ℕ} {r : Head} {image prev words : List ℕ} (p : Begun mc pool table t r image prev words) where
+module _ {mc : Measures} {pool table : List ℕ} {t : ℕ} {r : Head} {day : ℕ} {image prev words : List ℕ} (p : Begun mc pool table t r day image prev words) where
   pub image-short : length image ≤ 65536
   image-short = image-most (p .sound) (p .accepted)
 
@@ -112,8 +112,8 @@ module _ {mc : Measures} {pool table : List ℕ} {t : ℕ} {r : Head} {image pre
         subst (λ (ps : List Pointer). DidOn image ps pool table (placedOn pool table image) n pool′ table′ words′ prev′)
         (prev-pointed (p .sound) t (p .accepted .there) prev (p .newest) .1) d
 
-    pub refused-all : (n ≡ 0 → ⊥) → record { refusal = n; version = 0; pool = pool′; table = table′ } ≡ backupOf pool table t image
-    refused-all z = refused-answer pool table (p .sound) t image (p .accepted) n pool′ table′ words′ prev′ did z
+    pub refused-all : (n ≡ 0 → ⊥) → record { refusal = n; version = 0; pool = pool′; table = table′ } ≡ backupDatedOf pool table t day image
+    refused-all z = refused-answer pool table (p .sound) t day image (p .accepted) n pool′ table′ words′ prev′ did z
 
     module _ (z : n ≡ 0) (m k : ℕ) (em : m ≡ tillSize table) (ek : k ≡ partsFor (mc .blockBytes) (length image)) where
       blocks-are : k ≡ partsFor (measuresOn table .blockBytes) (length image)
@@ -146,10 +146,10 @@ module _ {mc : Measures} {pool table : List ℕ} {t : ℕ} {r : Head} {image pre
             short = omega (arith, length-take k words′, blocks-are, blocks-most (p .sound) (p .accepted));
           }
 
-      pub filed-all : (out : List ℕ) → FiledOn (r .at) (r .at + m) (getD table 2 0) prev′ (length image) (take k words′) table′ out
-          → record { refusal = 0; version = r .last + 1; pool = pool′; table = out } ≡ backupOf pool table t image
+      pub filed-all : (out : List ℕ) → FiledOn (r .at) (r .at + m) (getD table 2 0) prev′ (length image) day (take k words′) table′ out
+          → record { refusal = 0; version = r .last + 1; pool = pool′; table = out } ≡ backupDatedOf pool table t day image
       filed-all out f =
-          filed-answer pool table (p .sound) t image (p .accepted) n pool′ table′ words′ prev′ did z (r .at) (r .at + m) (getD table 2 0) k (r .last) out (p .head .last) refl (p .head .at)
+          filed-answer pool table (p .sound) t day image (p .accepted) n pool′ table′ words′ prev′ did z (r .at) (r .at + m) (getD table 2 0) k (r .last) out (p .head .last) refl (p .head .at)
           (ap (λ (j : ℕ). r .at + j) em) (blocks-are ∙ sym (blocks-length (measuresOn table) (fit (p .sound) .proper) image)) f
 
 -- ---- the room for both
@@ -158,7 +158,7 @@ module _ {mc : Measures} {pool table : List ℕ} {t : ℕ} {r : Head} {image pre
 pub count-is : (m : Measures) (image : List ℕ) (k : ℕ) → k ≡ partsFor (m .segmentBlocks * m .blockBytes) (length image) → k * m .segmentBlocks ≡ segmentsIn m image * m .segmentBlocks
 count-is m image k e = ap (λ (n : ℕ). n * m .segmentBlocks) e
 
-module _ {mc : Measures} {pool table : List ℕ} {t : ℕ} {image : List ℕ} (h : Sound pool table) (em : mc ≡ shapeOf table .measures) (a : Accepted pool table t image) where
+module _ {mc : Measures} {pool table : List ℕ} {t day : ℕ} {image : List ℕ} (h : Sound pool table) (em : mc ≡ shapeOf table .measures) (a : Accepted pool table t day image) where
   pub measures-ok : Measured mc × (length image ≤ 4294967295)
   measures-ok = (rw em (header h .measured), omega (arith, image-most h a))
 
@@ -166,7 +166,7 @@ module _ {mc : Measures} {pool table : List ℕ} {t : ℕ} {image : List ℕ} (h
   few-segments = rw em (segments-most (measuresOn table) (length image) (header h .measured) (image-most h a))
 
   pub begun : (r : Head) → HeadOf pool table t r → (n count : ℕ) (prev words : List ℕ) → n ≤ length prev → take n prev ≡ map pointerWord (newestOf pool table t) → n ≤ getD table 2 0 → length words ≡ 1040
-      → count ≡ segmentsIn mc image * mc .segmentBlocks → Begun mc pool table t r image (take n prev) (take count words)
+      → count ≡ segmentsIn mc image * mc .segmentBlocks → Begun mc pool table t r day image (take n prev) (take count words)
   begun r o n count prev words l e b w ec = record {
     sound = h;
     measures = em;

@@ -62,9 +62,9 @@ pub record FileReady (table : List ℕ) (at end b : ℕ) (turned pointers : List
   pub short : length pointers ≤ b
 
 -- the table's state has the version filed in the till whose words they are
-abbrev pub FiledOn : ℕ → ℕ → ℕ → List ℕ → ℕ → List ℕ → List ℕ → List ℕ → Type 0
-FiledOn at end b turned bytes pointers table out =
+abbrev pub FiledOn : ℕ → ℕ → ℕ → List ℕ → ℕ → ℕ → List ℕ → List ℕ → List ℕ → Type 0
+FiledOn at end b turned bytes day pointers table out =
     (s : Shape) (st : State) (t : ℕ) (ps qs : List Pointer) → t < length (st .tills) → b ≡ s .capacities .blocks → at ≡ tillAt s t
     → end ≡ at + tillWords (s .capacities .versions) (s .capacities .blocks) → table ≡ stateToWords s st → length (tillOf st t .versions) < s .capacities .versions
     → turned ≡ map pointerWord ps → length ps ≡ length (newestPointers (tillOf st t .versions)) → pointers ≡ map pointerWord qs
-    → out ≡ stateToWords s (record { tills = set (st .tills) t (tillWith (tillOf st t) ps bytes qs); shelf = st .shelf })
+    → out ≡ stateToWords s (record { tills = set (st .tills) t (tillWith (tillOf st t) ps bytes day qs); shelf = st .shelf })

@@ -18,10 +18,10 @@ use Rattle.backup.specs.declared.BackedUp.{BackedUp}
 abbrev pub newestOf : List ℕ → List ℕ → ℕ → List Pointer
 newestOf pool table t = newestPointers (tillOf (stateIn (shapeOf table) pool table) t .versions)
 
-pub record Begun (m : Measures) (pool table : List ℕ) (t : ℕ) (r : Head) (image prev words : List ℕ) : Type 0 where
+pub record Begun (m : Measures) (pool table : List ℕ) (t : ℕ) (r : Head) (day : ℕ) (image prev words : List ℕ) : Type 0 where
   pub sound : Sound pool table
   pub measures : m ≡ shapeOf table .measures
-  pub accepted : Accepted pool table t image
+  pub accepted : Accepted pool table t day image
   pub head : HeadOf pool table t r
   pub newest : prev ≡ map pointerWord (newestOf pool table t)
   pub short : length prev ≤ getD table 2 0

@@ -5,7 +5,7 @@ ghost use Prim.Native.Nat.{ℕ, _+_, _*_, _/_, _≤_, _<_};
 ghost use lib.ListN.{length, getD, take};
 ghost use Rattle.numbers.specs.Measures.{measuresOf};
 ghost use Rattle.model.specs.Table.{shapeOf, stateIn, pointerWord, wordToPointer};
-ghost use Rattle.model.specs.Calls.{backupOf};
+ghost use Rattle.model.specs.Calls.{backupOf, backupDatedOf};
 ghost use Rattle.laws.specs.Stores.{Sound, tillAt};
 ghost use Rattle.accept.specs.Accept.{Accepted};
 ghost use Rattle.backup.specs.Backup.{placedOn, ShelfReady, DidOn, FileReady, FiledOn};
@@ -37,12 +37,13 @@ pub fn file_in(
     b: usize,
     turned: &[u32],
     bytes: u32,
+    day: u32,
     pointers: &[u32],
 )
     requires { ⌜ FileReady (now table) at end b (now turned) (now pointers) ⌝ }
-    ensures { λ _. ⌜ FiledOn at end b (now (turned .entry)) bytes (now (pointers .entry)) (now (table .entry)) (now (table .exit)) ⌝ }
+    ensures { λ _. ⌜ FiledOn at end b (now (turned .entry)) bytes day (now (pointers .entry)) (now (table .entry)) (now (table .exit)) ⌝ }
 {
-    filing::file_version(&mut table[at..end], b, turned, bytes, pointers);
+    filing::file_version(&mut table[at..end], b, turned, bytes, day, pointers);
 }
 
 // Refusal 0 is an accepted call.
@@ -75,13 +76,14 @@ fn shelve_and_file(
     table: &mut [u32],
     till: u32,
     head: Head,
+    day: u32,
     image: &[u8],
     prev: &mut [u32],
     words: &mut [u32],
     m: Measures,
 ) -> BackedUp
-    requires { ⌜ Begun (measuresOf m) (now pool) (now table) till head (now image) (now prev) (now words) ⌝ }
-    ensures { λ r. ⌜ backedUpAnswer r (now (pool .exit)) (now (table .exit)) ≡ backupOf (now (pool .entry)) (now (table .entry)) till (now (image .entry)) ⌝ }
+    requires { ⌜ Begun (measuresOf m) (now pool) (now table) till head day (now image) (now prev) (now words) ⌝ }
+    ensures { λ r. ⌜ backedUpAnswer r (now (pool .exit)) (now (table .exit)) ≡ backupDatedOf (now (pool .entry)) (now (table .entry)) till day (now (image .entry)) ⌝ }
 {
     let from = tills::records_at(table);
     let b = table[2] as usize;
@@ -95,7 +97,16 @@ fn shelve_and_file(
     }
     let bytes = image.len();
     let blocks = numbers::parts_for(m.bytes, bytes);
-    file_in(table, head.at, end, b, prev, bytes as u32, &words[..blocks]);
+    file_in(
+        table,
+        head.at,
+        end,
+        b,
+        prev,
+        bytes as u32,
+        day,
+        &words[..blocks],
+    );
     BackedUp {
         refusal: 0,
         version: head.last + 1,
@@ -107,13 +118,14 @@ fn back_up_with(
     pool: &mut [u8],
     table: &mut [u32],
     till: u32,
+    day: u32,
     image: &[u8],
     prev: &mut [u32],
     words: &mut [u32],
     m: Measures,
 ) -> BackedUp
-    requires { ⌜ Sound (now pool) (now table) × Accepted (now pool) (now table) till (now image) × (length (now prev) ≡ 1024) × (length (now words) ≡ 1040) × (measuresOf m ≡ shapeOf (now table) .measures) ⌝ }
-    ensures { λ r. ⌜ backedUpAnswer r (now (pool .exit)) (now (table .exit)) ≡ backupOf (now (pool .entry)) (now (table .entry)) till (now (image .entry)) ⌝ }
+    requires { ⌜ Sound (now pool) (now table) × Accepted (now pool) (now table) till day (now image) × (length (now prev) ≡ 1024) × (length (now words) ≡ 1040) × (measuresOf m ≡ shapeOf (now table) .measures) ⌝ }
+    ensures { λ r. ⌜ backedUpAnswer r (now (pool .exit)) (now (table .exit)) ≡ backupDatedOf (now (pool .entry)) (now (table .entry)) till day (now (image .entry)) ⌝ }
 {
     let head = tills::till_head(pool, table, till);
     let n = copy_newest(pool, table, till, head.at, prev, m);
@@ -123,6 +135,7 @@ fn back_up_with(
         table,
         till,
         head,
+        day,
         image,
         &mut prev[..n],
         &mut words[..count],
@@ -131,26 +144,48 @@ fn back_up_with(
 }
 
 // An image has at most 1,024 blocks, which fill up to whole segments of at most 16.
-fn back_up_accepted(pool: &mut [u8], table: &mut [u32], till: u32, image: &[u8]) -> BackedUp
-    requires { ⌜ Sound (now pool) (now table) × Accepted (now pool) (now table) till (now image) ⌝ }
-    ensures { λ r. ⌜ backedUpAnswer r (now (pool .exit)) (now (table .exit)) ≡ backupOf (now (pool .entry)) (now (table .entry)) till (now (image .entry)) ⌝ }
+fn back_up_accepted(
+    pool: &mut [u8],
+    table: &mut [u32],
+    till: u32,
+    day: u32,
+    image: &[u8],
+) -> BackedUp
+    requires { ⌜ Sound (now pool) (now table) × Accepted (now pool) (now table) till day (now image) ⌝ }
+    ensures { λ r. ⌜ backedUpAnswer r (now (pool .exit)) (now (table .exit)) ≡ backupDatedOf (now (pool .entry)) (now (table .entry)) till day (now (image .entry)) ⌝ }
 {
     let m = layout::measures_in(table);
     let mut prev = [0u32; 1024];
     let mut words = [0u32; 1040];
-    back_up_with(pool, table, till, image, &mut prev, &mut words, m)
+    back_up_with(pool, table, till, day, image, &mut prev, &mut words, m)
 }
 
-pub fn back_up(pool: &mut [u8], table: &mut [u32], till: u32, image: &[u8]) -> BackedUp
+// The new version has the day, which is not before that of the till's newest one.
+pub fn back_up_dated(
+    pool: &mut [u8],
+    table: &mut [u32],
+    till: u32,
+    day: u32,
+    image: &[u8],
+) -> BackedUp
     requires { ⌜ Sound (now pool) (now table) ⌝ }
-    ensures { λ r. ⌜ backedUpAnswer r (now (pool .exit)) (now (table .exit)) ≡ backupOf (now (pool .entry)) (now (table .entry)) till (now (image .entry)) ⌝ }
+    ensures { λ r. ⌜ backedUpAnswer r (now (pool .exit)) (now (table .exit)) ≡ backupDatedOf (now (pool .entry)) (now (table .entry)) till day (now (image .entry)) ⌝ }
 {
-    let r = accept::backup_refusal(pool, table, till, image);
+    let r = accept::backup_refusal(pool, table, till, day, image);
     if r != 0 {
         return BackedUp {
             refusal: r,
             version: 0,
         };
     }
-    back_up_accepted(pool, table, till, image)
+    back_up_accepted(pool, table, till, day, image)
+}
+
+// Without a day, the new version has that of the till's newest one.
+pub fn back_up(pool: &mut [u8], table: &mut [u32], till: u32, image: &[u8]) -> BackedUp
+    requires { ⌜ Sound (now pool) (now table) ⌝ }
+    ensures { λ r. ⌜ backedUpAnswer r (now (pool .exit)) (now (table .exit)) ≡ backupOf (now (pool .entry)) (now (table .entry)) till (now (image .entry)) ⌝ }
+{
+    let day = tills::newest_day(pool, table, till);
+    back_up_dated(pool, table, till, day, image)
 }

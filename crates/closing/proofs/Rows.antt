@@ -18,7 +18,7 @@ use Rattle.model.specs.Sweep.{changeAt, changeAll, release, moved, clearCells, 
 use Rattle.model.specs.Trace.{hopsVia, endVia, hops, endOf, blockAt, tracedBlock, tracedBlocks, imageOf, longestChain}
 use Rattle.model.specs.Table.{pointerWord, recordToWords, versionToWords, tillToWords, measureWord, headerToWords, stateToWords, stateToBytes, measuresIn, shapeOf, pointerOf, wordToPointer, positionOf, positionsIn, segmentIn, recordsIn, cellsIn, shelfIn, versionIn, versionsIn, tillIn, tillsIn, stateIn}
 use Rattle.model.specs.Sound.{isShaped, hasLength, isNumbered, isUsed, hasCells, nextPointers, endsZero, areTraceable, isTill, allPointers, areCounted, allCounted, areFilled, isSound, ifSound, hasLengths, storeAs, storeOf}
-use Rattle.model.specs.Calls.{emptyTill, emptyState, layoutIf, layoutOf, tillOf, heldFrom, withTill, newestPointers, withNewestPointers, tillWith, fileIn, placeAndFile, backupAnswer, backupIn, backupBy, backupOf, restoreRefusal, restoreFrom, restoreIn, restoreOf, oldestNumber, newestNumber, listingRefusal, listTill, listingIn, listingOf, tallyIn, tallyOf, heldBefore, firstOf, notHeld, lookUp, stateOr, outcomeRefusal, outcomeNumber, LayoutAnswer, RestoreAnswer, TallyAnswer}
+use Rattle.model.specs.Calls.{emptyTill, emptyState, layoutIf, layoutOf, tillOf, heldFrom, withTill, newestPointers, withNewestPointers, newestDay, dayFor, tillWith, fileIn, placeAndFile, backupAnswer, backupIn, backupBy, backupOf, restoreRefusal, restoreFrom, restoreIn, restoreOf, oldestNumber, newestNumber, listingRefusal, listTill, listingIn, listingOf, tallyIn, tallyOf, heldBefore, firstOf, notHeld, lookUp, stateOr, outcomeRefusal, outcomeNumber, LayoutAnswer, RestoreAnswer, TallyAnswer}
 use Rattle.model.specs.State.{Segment, nullPosition, held}
 use Rattle.model.specs.Calls as Calls
 use Rattle.model.proofs.Steps.{recordAt, isAt, blocks, zeros}
@@ -138,6 +138,6 @@ unfolding rows shop ABCD ABCE EFGH zeros blocks holds holdsFrom isAt recordAt im
     isBase measureWord headerToWords stateToWords stateToBytes measuresIn shapeOf pointerOf wordToPointer positionOf positionsIn segmentIn recordsIn cellsIn shelfIn versionIn
     versionsIn tillIn tillsIn stateIn isShaped hasLength isNumbered isUsed hasCells nextPointers endsZero areTraceable isTill allPointers areCounted
     allCounted areFilled isSound ifSound hasLengths storeAs storeOf emptyTill emptyState layoutIf layoutOf tillOf heldFrom withTill
-    newestPointers withNewestPointers tillWith fileIn placeAndFile Calls.backup backupAnswer backupIn backupBy backupOf restoreRefusal heldBefore firstOf notHeld lookUp restoreFrom
+    newestPointers withNewestPointers newestDay dayFor tillWith fileIn placeAndFile Calls.backup backupAnswer backupIn backupBy backupOf restoreRefusal heldBefore firstOf notHeld lookUp restoreFrom
     Calls.restore restoreIn restoreOf oldestNumber newestNumber listingRefusal listTill listingIn listingOf tallyIn tallyOf
 rows-hold = refl

@@ -34,19 +34,19 @@ each-made [] pool table x e =
     let f = store-found pool table x e in
     ap₂ (λ (p t : List ℕ). record { refusals = []; versions = []; pool = p; table = t }) (sym (f .bytes)) (sym (f .words))
 each-made (y ∷ ys) pool table x e =
-    let o : Outcome After = backup withBlanks (x .shape) (x .state) (y .till) (y .image) in
+    let o : Outcome After = backup withBlanks (x .shape) (x .state) (y .till) none (y .image) in
     let a : BackupAnswer = backupOf pool table (y .till) (y .image) in
     let is : (a .refusal ≡ outcomeRefusal o) × (a .version ≡ outcomeNumber o) = answers-are in
     let later : madeSingly (a .pool) (a .table) ys ≡ made (x .shape) (backupEach (x .shape) (stateOr (x .state) o) ys) =
-    each-made ys (a .pool) (a .table) (record { shape = x .shape; state = stateOr (x .state) o }) (unfold backupOf in backup-store pool table x e withBlanks (y .till) (y .image)) in
+    each-made ys (a .pool) (a .table) (record { shape = x .shape; state = stateOr (x .state) o }) (unfold backupOf in backup-store pool table x e withBlanks (y .till) none (y .image)) in
     ap₂ (λ (n v : ℕ). ahead n v (madeSingly (a .pool) (a .table) ys)) (is .0) (is .1) ∙ ap (ahead (outcomeRefusal o) (outcomeNumber o)) later
   where
     ahead : ℕ → ℕ → Made → Made
     ahead n v m = record { refusals = n ∷ m .refusals; versions = v ∷ m .versions; pool = m .pool; table = m .table }
 
-    answers-are : (backupOf pool table (y .till) (y .image) .refusal ≡ outcomeRefusal (backup withBlanks (x .shape) (x .state) (y .till) (y .image)))
-        × (backupOf pool table (y .till) (y .image) .version ≡ outcomeNumber (backup withBlanks (x .shape) (x .state) (y .till) (y .image)))
-    answers-are = unfold backupOf backupBy backupIn in rw e (answer-is pool table (x .shape) (backup withBlanks (x .shape) (x .state) (y .till) (y .image)))
+    answers-are : (backupOf pool table (y .till) (y .image) .refusal ≡ outcomeRefusal (backup withBlanks (x .shape) (x .state) (y .till) none (y .image)))
+        × (backupOf pool table (y .till) (y .image) .version ≡ outcomeNumber (backup withBlanks (x .shape) (x .state) (y .till) none (y .image)))
+    answers-are = unfold backupOf backupBy backupIn in rw e (answer-is pool table (x .shape) (backup withBlanks (x .shape) (x .state) (y .till) none (y .image)))
 
 -- what is not refused whole
 fits-singly : (fit : Bool) (pool table tills lengths bytes : List ℕ) (x : Store) → storeOf pool table ≡ some x

@@ -40,7 +40,7 @@ pub record Closed : Type 0 where
 unfoldable pub backupEach : Shape → State → List TillImage → Closed
 backupEach s st [] = record { state = st; refusals = []; versions = [] }
 backupEach s st (x ∷ xs) =
-    let o : Outcome After = backup withBlanks s st (x .till) (x .image) in
+    let o : Outcome After = backup withBlanks s st (x .till) none (x .image) in
     let later : Closed = backupEach s (stateOr st o) xs in
     record { state = later .state; refusals = outcomeRefusal o ∷ later .refusals; versions = outcomeNumber o ∷ later .versions }
 

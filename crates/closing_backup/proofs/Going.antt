@@ -1,6 +1,7 @@
 -- Images backed up one after the other: what holds when some are done, and that it holds of one more.
 use mathlib.Core.Path.{_≡_, refl, sym, ap, _∙_, subst}
 use mathlib.Core.List.{List, _∷_, _++_, append-nil}
+use mathlib.Core.Option.{none}
 use Prim.Native.Nat.{ℕ, _+_, _-_, _≤_, _<_}
 use native.Mathlib.Nat.{zero-add}
 use native.Mathlib.Omega.{arith}
@@ -28,7 +29,7 @@ use Rattle.closing_backup.proofs.Fits.{Fit}
 sound-after : (pool table : List ℕ) → Sound pool table → (t : ℕ) (image : List ℕ)
     → Sound (backupOf pool table t image .pool) (backupOf pool table t image .table)
 unfolding backupOf isSome
-sound-after pool table h t image = sound-if _ _ (sym (ap isSome (backup-store pool table (storeRead pool table) (h .is) withBlanks t image)))
+sound-after pool table h t image = sound-if _ _ (sym (ap isSome (backup-store pool table (storeRead pool table) (h .is) withBlanks t none image)))
 
 -- the first i answers as the lists have them, and the later ones
 unfoldable pub answerSoFar : List ℕ → List ℕ → ℕ → Made → BackupAllAnswer

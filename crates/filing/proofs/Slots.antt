@@ -129,10 +129,10 @@ module _ (v b : ℕ) (t : Till) (till : List ℕ) (most : length (t .versions) �
       ∙ getD-append-add (front b (t .last) (suc (length us)) us) (versionToWords b u ++ left v b (suc (length us))) 1 0
 
   abbrev head : List ℕ
-  head = front b (t .last) (suc (length us)) us ++ (u .number ∷ u .length ∷ 0 ∷ [])
+  head = front b (t .last) (suc (length us)) us ++ (u .number ∷ u .length ∷ u .day ∷ [])
 
   head-length : length head ≡ newestAt b till + 3
-  head-length = omega (arith, length-append (front b (t .last) (suc (length us)) us) (u .number ∷ u .length ∷ 0 ∷ []), at-is)
+  head-length = omega (arith, length-append (front b (t .last) (suc (length us)) us) (u .number ∷ u .length ∷ u .day ∷ []), at-is)
 
   pointed : till ≡ head ++ (fill b (map pointerWord (u .pointers)) ++ left v b (suc (length us)))
   pointed = parted ∙ slot-head b (front b (t .last) (suc (length us)) us) u (left v b (suc (length us)))
@@ -200,27 +200,26 @@ three : (b : ℕ) → fill (3 + b) [] ≡ 0 ∷ 0 ∷ 0 ∷ fill b []
 unfolding fill
 three b = fill-add 3 b []
 
-slot-zeros : (b number bytes : ℕ) (ps : List Pointer) (pws : List ℕ) → pws ≡ map pointerWord ps → length pws ≤ b
-    → number ∷ bytes ∷ getD (fill (3 + b) []) 2 0 ∷ (pws ++ drop (length pws) (drop 3 (fill (3 + b) []))) ≡ versionToWords b (record { number = number; length = bytes; pointers = ps })
+slot-zeros : (b number bytes day : ℕ) (ps : List Pointer) (pws : List ℕ) → pws ≡ map pointerWord ps → length pws ≤ b
+    → number ∷ bytes ∷ day ∷ (pws ++ drop (length pws) (drop 3 (fill (3 + b) []))) ≡ versionToWords b (record { number = number; length = bytes; day = day; pointers = ps })
 unfolding versionToWords
-slot-zeros b number bytes ps pws e h =
-    ap (λ (m : List ℕ). number ∷ bytes ∷ getD m 2 0 ∷ (pws ++ drop (length pws) (drop 3 m))) (three b)
-    ∙ ap (λ (l : List ℕ). number ∷ bytes ∷ 0 ∷ l) (over-zeros b pws h ∙ ap (fill b) e)
+slot-zeros b number bytes day ps pws e h =
+    ap (λ (m : List ℕ). number ∷ bytes ∷ day ∷ (pws ++ drop (length pws) (drop 3 m))) (three b)
+    ∙ ap (λ (l : List ℕ). number ∷ bytes ∷ day ∷ l) (over-zeros b pws h ∙ ap (fill b) e)
 
 new-head : (b last held last′ held′ : ℕ) (us : List Version) (rest : List ℕ) → last′ ∷ held′ ∷ drop 2 (front b last held us ++ rest) ≡ front b last′ held′ us ++ rest
 unfolding front
 new-head b last held last′ held′ us rest = refl
 
-pub version-added : (b : ℕ) (till : List ℕ) (bytes : ℕ) (pws slot out : List ℕ) → length pws ≤ b
-    → slot ≡ (getD till 0 0 + 1) ∷ bytes ∷ getD (midOf (4 + getD till 1 0 * (3 + b)) (4 + getD till 1 0 * (3 + b) + (3 + b) - (4 + getD till 1 0 * (3 + b))) till) 2 0
-    ∷ (pws ++ drop (length pws) (drop 3 (midOf (4 + getD till 1 0 * (3 + b)) (4 + getD till 1 0 * (3 + b) + (3 + b) - (4 + getD till 1 0 * (3 + b))) till)))
+pub version-added : (b : ℕ) (till : List ℕ) (bytes day : ℕ) (pws slot out : List ℕ) → length pws ≤ b
+    → slot ≡ (getD till 0 0 + 1) ∷ bytes ∷ day ∷ (pws ++ drop (length pws) (drop 3 (midOf (4 + getD till 1 0 * (3 + b)) (4 + getD till 1 0 * (3 + b) + (3 + b) - (4 + getD till 1 0 * (3 + b))) till)))
     → out ≡ (getD till 0 0 + 1) ∷ (getD till 1 0 + 1) ∷ drop 2 (putMid (4 + getD till 1 0 * (3 + b)) (4 + getD till 1 0 * (3 + b) + (3 + b) - (4 + getD till 1 0 * (3 + b))) till slot)
     → (v : ℕ) (t : Till) (ps : List Pointer) → length (t .versions) < v → till ≡ tillToWords v b t → pws ≡ map pointerWord ps
-    → out ≡ tillToWords v b (addedTill t bytes ps)
-version-added b till bytes pws slot out lp es eo v t ps most et ep =
+    → out ≡ tillToWords v b (addedTill t bytes day ps)
+version-added b till bytes day pws slot out lp es eo v t ps most et ep =
     let us : List Version = t .versions in
     let n : ℕ = length us in
-    let new : Version = record { number = suc (t .last); length = bytes; pointers = ps } in
+    let new : Version = record { number = suc (t .last); length = bytes; day = day; pointers = ps } in
     let z : List ℕ = left v b (suc n) in
     let f : List ℕ = front b (t .last) n us in
     let lf : length f ≡ 4 + n * (3 + b) = front-length b (t .last) n us in
@@ -234,8 +233,8 @@ version-added b till bytes pws slot out lp es eo v t ps most et ep =
     let mid : midOf a (a + (3 + b) - a) till ≡ fill (3 + b) [] =
     ap (λ (j : ℕ). take j (drop a till)) k ∙ mid-is f (fill (3 + b) []) z till a (3 + b) opened ea (length-fill (3 + b) []) in
     let slot-is : slot ≡ versionToWords b new =
-    es ∙ ap (λ (m : List ℕ). (getD till 0 0 + 1) ∷ bytes ∷ getD m 2 0 ∷ (pws ++ drop (length pws) (drop 3 m))) mid
-    ∙ slot-zeros b (getD till 0 0 + 1) bytes ps pws ep lp ∙ ap (λ (j : ℕ). versionToWords b (record { number = j; length = bytes; pointers = ps })) last in
+    es ∙ ap (λ (m : List ℕ). (getD till 0 0 + 1) ∷ bytes ∷ day ∷ (pws ++ drop (length pws) (drop 3 m))) mid
+    ∙ slot-zeros b (getD till 0 0 + 1) bytes day ps pws ep lp ∙ ap (λ (j : ℕ). versionToWords b (record { number = j; length = bytes; day = day; pointers = ps })) last in
     let put : putMid a (a + (3 + b) - a) till slot ≡ f ++ (versionToWords b new ++ z) =
     ap (λ (j : ℕ). take a till ++ (slot ++ drop j (drop a till))) k ∙ ap (λ (x : List ℕ). take a till ++ (x ++ drop (3 + b) (drop a till))) slot-is
     ∙ mid-put f (fill (3 + b) []) z till a (3 + b) opened ea (length-fill (3 + b) []) (versionToWords b new) in
@@ -244,16 +243,13 @@ version-added b till bytes pws slot out lp es eo v t ps most et ep =
     ∙ new-head b (t .last) n (suc (t .last)) (suc n) us (versionToWords b new ++ z)
     ∙ sym (till-split v b (suc (t .last)) us new most)
 
--- ---- two words, and a slot's
+-- ---- three words, and a slot's
 
-pub slot-put : (slot two ys ps : List ℕ) (a b : ℕ) → 3 ≤ length slot → two ≡ a ∷ b ∷ drop 2 slot → ys ≡ ps ++ drop (length ps) (midOf 3 (length two - 3) two)
-    → putMid 3 (length two - 3) two ys ≡ a ∷ b ∷ getD slot 2 0 ∷ (ps ++ drop (length ps) (drop 3 slot))
-slot-put [] two ys ps a b h e f = absurd (omega (arith, h))
-slot-put (x ∷ []) two ys ps a b h e f = absurd (omega (arith, h))
-slot-put (x ∷ y ∷ []) two ys ps a b h e f = absurd (omega (arith, h))
-slot-put (x ∷ y ∷ w ∷ slot) two ys ps a b h e f =
-    tail-put (a ∷ b ∷ w ∷ []) slot two 3 e refl ys
-    ∙ ap (λ (l : List ℕ). a ∷ b ∷ w ∷ l) (f ∙ ap (λ (m : List ℕ). ps ++ drop (length ps) m) (tail-is (a ∷ b ∷ w ∷ []) slot two 3 e refl))
+pub slot-put : (slot three ys ps : List ℕ) (a b c : ℕ) → 3 ≤ length slot → three ≡ a ∷ b ∷ c ∷ drop 3 slot → ys ≡ ps ++ drop (length ps) (midOf 3 (length three - 3) three)
+    → putMid 3 (length three - 3) three ys ≡ a ∷ b ∷ c ∷ (ps ++ drop (length ps) (drop 3 slot))
+slot-put slot three ys ps a b c h e f =
+    tail-put (a ∷ b ∷ c ∷ []) (drop 3 slot) three 3 e refl ys
+    ∙ ap (λ (l : List ℕ). a ∷ b ∷ c ∷ l) (f ∙ ap (λ (m : List ℕ). ps ++ drop (length ps) m) (tail-is (a ∷ b ∷ c ∷ []) (drop 3 slot) three 3 e refl))
 
 -- ---- facts for the code's bounds
 
@@ -300,13 +296,13 @@ turned-length (v ∷ []) ps = refl
 turned-length (v ∷ w ∷ vs) ps = ap suc (turned-length (w ∷ vs) ps)
 
 -- both steps
-pub version-filed : (b : ℕ) (till mid out : List ℕ) (bytes : ℕ) (pws qws : List ℕ)
+pub version-filed : (b : ℕ) (till mid out : List ℕ) (bytes day : ℕ) (pws qws : List ℕ)
     → ((v : ℕ) (t : Till) (ps : List Pointer) → length (t .versions) ≤ v → till ≡ tillToWords v b t → pws ≡ map pointerWord ps → length ps ≡ length (newestPointers (t .versions)) → mid ≡ tillToWords v b (turnedTill t ps))
-    → ((v : ℕ) (t : Till) (ps : List Pointer) → length (t .versions) < v → mid ≡ tillToWords v b t → qws ≡ map pointerWord ps → out ≡ tillToWords v b (addedTill t bytes ps))
+    → ((v : ℕ) (t : Till) (ps : List Pointer) → length (t .versions) < v → mid ≡ tillToWords v b t → qws ≡ map pointerWord ps → out ≡ tillToWords v b (addedTill t bytes day ps))
     → (v : ℕ) (t : Till) (ps qs : List Pointer) → length (t .versions) < v → till ≡ tillToWords v b t → pws ≡ map pointerWord ps → length ps ≡ length (newestPointers (t .versions)) → qws ≡ map pointerWord qs
-    → out ≡ tillToWords v b (tillWith t ps bytes qs)
+    → out ≡ tillToWords v b (tillWith t ps bytes day qs)
 unfolding tillWith
-version-filed b till mid out bytes pws qws f g v t ps qs room et ep lo eq =
+version-filed b till mid out bytes day pws qws f g v t ps qs room et ep lo eq =
     g v (turnedTill t ps) qs (omega (arith, room, turned-length (t .versions) ps)) (f v t ps (omega (arith, room)) et ep lo) eq
 
 pub few-blocks : (bytes v b : ℕ) (t : Till) (till : List ℕ) → 0 < bytes → b * bytes ≤ 65536 → Held bytes v b t → till ≡ tillToWords v b t → FewBlocks bytes b till

@@ -54,33 +54,50 @@ fn set_two(part: &mut [u32], a: u32, b: u32)
     part[1] = b;
 }
 
-// A slot's number, length and pointers.
-fn put_slot(slot: &mut [u32], number: u32, bytes: u32, pointers: &[u32])
-    requires { ⌜ 3 + length (now pointers) ≤ length (now slot) ⌝ }
-    ensures { λ _. ⌜ now (slot .exit) ≡ number ∷ bytes ∷ getD (now (slot .entry)) 2 0 ∷ (now (pointers .entry) ++ drop (length (now (pointers .entry))) (drop 3 (now (slot .entry)))) ⌝ }
+// The first three words.
+fn set_three(part: &mut [u32], a: u32, b: u32, c: u32)
+    requires { ⌜ 3 ≤ length (now part) ⌝ }
+    ensures { λ _. ⌜ now (part .exit) ≡ a ∷ b ∷ c ∷ drop 3 (now (part .entry)) ⌝ }
 {
-    set_two(slot, number, bytes);
+    part[0] = a;
+    part[1] = b;
+    part[2] = c;
+}
+
+// A slot's number, length, day and pointers.
+fn put_slot(slot: &mut [u32], number: u32, bytes: u32, day: u32, pointers: &[u32])
+    requires { ⌜ 3 + length (now pointers) ≤ length (now slot) ⌝ }
+    ensures { λ _. ⌜ now (slot .exit) ≡ number ∷ bytes ∷ day ∷ (now (pointers .entry) ++ drop (length (now (pointers .entry))) (drop 3 (now (slot .entry)))) ⌝ }
+{
+    set_three(slot, number, bytes, day);
     words::copy_in(pointers, &mut slot[3..]);
 }
 
 // A version at the end, for a till with a slot left.
-pub fn add_version(till: &mut [u32], b: usize, bytes: u32, pointers: &[u32])
+pub fn add_version(till: &mut [u32], b: usize, bytes: u32, day: u32, pointers: &[u32])
     requires { ⌜ Room b (now till) × SlotLeft b (now till) × (length (now pointers) ≤ b) ⌝ }
-    ensures { λ _. ⌜ ((v : ℕ) (t : Till) (ps : List Pointer) → length (t .versions) < v → now (till .entry) ≡ tillToWords v b t → now (pointers .entry) ≡ map pointerWord ps → now (till .exit) ≡ tillToWords v b (addedTill t bytes ps)) ⌝ }
+    ensures { λ _. ⌜ ((v : ℕ) (t : Till) (ps : List Pointer) → length (t .versions) < v → now (till .entry) ≡ tillToWords v b t → now (pointers .entry) ≡ map pointerWord ps → now (till .exit) ≡ tillToWords v b (addedTill t bytes day ps)) ⌝ }
 {
     let last = till[0];
     let held = till[1];
     let start = 4 + held as usize * (3 + b);
     let end = start + (3 + b);
-    put_slot(&mut till[start..end], last + 1, bytes, pointers);
+    put_slot(&mut till[start..end], last + 1, bytes, day, pointers);
     set_two(till, last + 1, held + 1);
 }
 
 // The newest version's pointers turned, and a version behind it.
-pub fn file_version(till: &mut [u32], b: usize, turned: &[u32], bytes: u32, pointers: &[u32])
+pub fn file_version(
+    till: &mut [u32],
+    b: usize,
+    turned: &[u32],
+    bytes: u32,
+    day: u32,
+    pointers: &[u32],
+)
     requires { ⌜ Room b (now till) × SlotLeft b (now till) × (length (now turned) ≤ b) × (length (now pointers) ≤ b) ⌝ }
-    ensures { λ _. ⌜ ((v : ℕ) (t : Till) (ps qs : List Pointer) → length (t .versions) < v → now (till .entry) ≡ tillToWords v b t → now (turned .entry) ≡ map pointerWord ps → length ps ≡ length (newestPointers (t .versions)) → now (pointers .entry) ≡ map pointerWord qs → now (till .exit) ≡ tillToWords v b (tillWith t ps bytes qs)) ⌝ }
+    ensures { λ _. ⌜ ((v : ℕ) (t : Till) (ps qs : List Pointer) → length (t .versions) < v → now (till .entry) ≡ tillToWords v b t → now (turned .entry) ≡ map pointerWord ps → length ps ≡ length (newestPointers (t .versions)) → now (pointers .entry) ≡ map pointerWord qs → now (till .exit) ≡ tillToWords v b (tillWith t ps bytes day qs)) ⌝ }
 {
     turn_newest(till, b, turned);
-    add_version(till, b, bytes, pointers);
+    add_version(till, b, bytes, day, pointers);
 }

@@ -2,6 +2,7 @@
 use mathlib.Core.Path.{_≡_, refl, sym, ap, ap₂, _∙_, subst}
 use mathlib.Core.Bool.{Bool, true, false, cond}
 use mathlib.Core.List.{List, [], _∷_}
+use mathlib.Core.Option.{Option, none, some}
 use Prim.Native.Nat.{ℕ, zero, suc, _≤_}
 use native.Mathlib.Nat.{suc-ne-zero}
 use native.Mathlib.Omega.{arith}
@@ -30,13 +31,13 @@ use Rattle.history.proofs.Bullets.{listing-kept, backup-last, sent-last
 
 module _ (s : Shape) (fit : Fit s) where
   -- an accepted backup, on the buffers of its state
-  backup-in : (st : State) → isSound s st ≡ true → (t : ℕ) (image : List ℕ) (a : After) → backup withBlanks s st t image ≡ done a
-      → (backupBy withBlanks (stateToBytes st) (stateToWords s st) t image .refusal ≡ 0) × (backupBy withBlanks (stateToBytes st) (stateToWords s st) t image .version ≡ a .answer)
+  backup-in : (st : State) → isSound s st ≡ true → (t : ℕ) (image : List ℕ) (a : After) → backup withBlanks s st t none image ≡ done a
+      → (backupBy withBlanks (stateToBytes st) (stateToWords s st) t none image .refusal ≡ 0) × (backupBy withBlanks (stateToBytes st) (stateToWords s st) t none image .version ≡ a .answer)
   unfolding backupBy backupIn backupAnswer
   backup-in st h t image a q = rw (round-trip s st fit h, q) (refl, refl)
 
   -- one image of a closing
-  number-given : (st : State) → isSound s st ≡ true → (k : Keeper) → Stands s k st → (x : TillImage) (o : Outcome After) → Numbered o → backup withBlanks s st (x .till) (x .image) ≡ o
+  number-given : (st : State) → isSound s st ≡ true → (k : Keeper) → Stands s k st → (x : TillImage) (o : Outcome After) → Numbered o → backup withBlanks s st (x .till) none (x .image) ≡ o
       → outcomeNumber o ≡ cond (eqb (outcomeRefusal o) 0) (keptTill (fed k (backupFor x) (eqb (outcomeRefusal o) 0)) (x .till) .last) 0
   unfolding outcomeNumber outcomeRefusal backupFor
   number-given st h k z x (refused n) g q = rw (ne-eqb n 0 (λ e. omega (arith, g, e))) refl
@@ -44,7 +45,7 @@ module _ (s : Shape) (fit : Fit s) where
       let there : Buffers = record { pool = stateToBytes st; table = stateToWords s st } in
       let l : Left s there st = record { fit = fit; pool = refl; table = refl; sound = h } in
       let is = backup-in st h (x .till) (x .image) a q in
-      sym (is .1) ∙ backup-last s there st k l z withBlanks (x .till) (x .image) (is .0)
+      sym (is .1) ∙ backup-last s there st k l z withBlanks (x .till) none (x .image) (is .0)
 
   each-numbers : (xs : List TillImage) (n : ℕ) → length xs ≤ n → (st : State) → isSound s st ≡ true → (k : Keeper) → Stands s k st
       → fill n (backupEach s st xs .versions) ≡ fill n (numbersGiven k xs (fill n (backupEach s st xs .refusals)))
@@ -52,8 +53,8 @@ module _ (s : Shape) (fit : Fit s) where
   each-numbers [] n l st h k z = refl
   each-numbers (x ∷ xs) zero l st h k z = refl
   each-numbers (x ∷ xs) (suc n) l st h k z =
-      let o : Outcome After = backup withBlanks s st (x .till) (x .image) in
-      ap₂ _∷_ (number-given st h k z x o (backup-numbered withBlanks s st (x .till) (x .image)) refl)
+      let o : Outcome After = backup withBlanks s st (x .till) none (x .image) in
+      ap₂ _∷_ (number-given st h k z x o (backup-numbered withBlanks s st (x .till) none (x .image)) refl)
       (each-numbers xs n (omega (arith, l)) (stateOr st o) (sound-after s (fit .proper) st h (backupFor x)) (fed k (backupFor x) (eqb (outcomeRefusal o) 0))
       (stands-plain s (fit .proper) st h k z (backupFor x) tt))
 

@@ -3,6 +3,7 @@
 use mathlib.Core.Path.{_≡_, refl, sym, ap, ap₂, _∙_, subst}
 use mathlib.Core.Bool.{Bool, true, false, false≢true}
 use mathlib.Core.List.{List, [], _∷_}
+use mathlib.Core.Option.{Option, none, some}
 use Prim.Native.Nat.{ℕ}
 use lib.Dec.{eqb}
 use borrow.Author.Tests.{eqb-true, eqb-false}
@@ -10,7 +11,7 @@ use Rattle.lists.specs.Each.{Each}
 use Rattle.lists.proofs.Each.{each-weaken}
 use Rattle.model.specs.Measures.{Shape}
 use Rattle.model.specs.State.{State}
-use Rattle.history.specs.Calls.{Call, callLayout, callBackup, callRestore, callRetire, callListing, callTally, callWriteStream, callOffer, callBackupSent, callBackupAll, Buffers, refusalOf, answerOf, buffersAfter, refusedLayout, stateAfter, refusalIn, isAccepted}
+use Rattle.history.specs.Calls.{Call, callLayout, callBackup, callRestore, callRetire, callListing, callVersionOn, callTally, callWriteStream, callOffer, callBackupSent, callBackupAll, Buffers, refusalOf, answerOf, buffersAfter, refusedLayout, stateAfter, refusalIn, isAccepted}
 use Rattle.history.specs.Keeper.{CallMade, comesTo}
 use Rattle.history.specs.View.{TillView, viewAt, isOnTill, tillNamed, answerShown, changed, IsPlain}
 use Rattle.history.proofs.Steps.{Left, left-one, accepted-same, refusal-in}
@@ -30,10 +31,11 @@ pub data Item : Type 0 where
 changed-none : (bytes : ℕ) (call : Call) (ok : Bool) (w : TillView) → isOnTill call ≡ false → changed bytes call ok w ≡ w
 unfolding changed
 changed-none bytes (callLayout c) ok w e = refl
-changed-none bytes (callBackup era t image) ok w e = absurd (false≢true (sym e))
+changed-none bytes (callBackup era t d image) ok w e = absurd (false≢true (sym e))
 changed-none bytes (callRestore t v output) ok w e = refl
 changed-none bytes (callRetire t v) ok w e = absurd (false≢true (sym e))
 changed-none bytes (callListing t) ok w e = refl
+changed-none bytes (callVersionOn t day) ok w e = refl
 changed-none bytes callTally ok w e = refl
 changed-none bytes (callWriteStream t v output) ok w e = refl
 changed-none bytes (callOffer t fs ms) ok w e = refl

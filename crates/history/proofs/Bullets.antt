@@ -2,6 +2,7 @@
 use mathlib.Core.Path.{_≡_, refl, sym, ap, ap₂, _∙_, subst}
 use mathlib.Core.Bool.{Bool, true, false, cond, _||_}
 use mathlib.Core.List.{List, [], _∷_, _++_}
+use mathlib.Core.Option.{Option, none, some}
 use Prim.Native.Nat.{ℕ, suc, _*_, _≤_, _<_, zero-le}
 use native.Mathlib.Nat.{suc-ne-zero}
 use native.Mathlib.Omega.{arith}
@@ -17,9 +18,9 @@ use Rattle.model.specs.Trace.{longestChain}
 use Rattle.laws.proofs.Tills.{not-held-some}
 use Rattle.model.specs.Sound.{storeOf}
 use Rattle.model.specs.Calls.{tillOf, heldFrom, BackupAnswer, backupBy, restoreOf, restoreRefusal, retireOf, listingOf, listingRefusal, RestoreAnswer, ListingAnswer, retire, backup, notHeld}
-use Rattle.history.specs.Calls.{Call, callBackup, callBackupSent, callRestore, callRetire, callListing, Buffers, refusalOf, Answer, laidOut, backedUp, restored, retired, listed, tallied, streamed, offered, backedUpAll, answerOf, refusalIn}
+use Rattle.history.specs.Calls.{Call, callBackup, callBackupSent, callRestore, callRetire, callListing, Buffers, refusalOf, Answer, laidOut, backedUp, restored, retired, listed, foundOn, tallied, streamed, offered, backedUpAll, answerOf, refusalIn}
 use Rattle.history.specs.Keeper.{Kept, KeptTill, Keeper, noTill, keptTill, filed, imageSent, fed, fedEach, comesTo, keptFrom, oldestKept, newestKept}
-use Rattle.history.specs.View.{VersionView, TillView, viewOf, viewAt, isOnTill, tillNamed, chainShown, shownFrom, oldestShown, newestShown, restoreShown, retireShown, answerShown}
+use Rattle.history.specs.View.{VersionView, TillView, viewOf, viewAt, isOnTill, tillNamed, chainShown, newestDayShown, dayShown, shownFrom, oldestShown, newestShown, restoreShown, retireShown, answerShown}
 use Rattle.sent.specs.Sent.{backupSentBy, backupSentOf}
 use Rattle.history.specs.Demand.{Restores}
 use Rattle.history.proofs.Sent.{accepted-is}
@@ -36,6 +37,7 @@ unrestored (backedUp n v) = restoreRefusal n []
 unrestored (restored a) = a
 unrestored (retired n l) = restoreRefusal n []
 unrestored (listed a) = restoreRefusal 0 []
+unrestored (foundOn a) = restoreRefusal 0 []
 unrestored (tallied a) = restoreRefusal 0 []
 unrestored (streamed a) = restoreRefusal 0 []
 unrestored (offered a) = restoreRefusal 0 []
@@ -47,6 +49,7 @@ unlisted (backedUp n v) = listingRefusal n
 unlisted (restored a) = listingRefusal 0
 unlisted (retired n l) = listingRefusal n
 unlisted (listed a) = a
+unlisted (foundOn a) = listingRefusal 0
 unlisted (tallied a) = listingRefusal 0
 unlisted (streamed a) = listingRefusal 0
 unlisted (offered a) = listingRefusal 0
@@ -59,6 +62,7 @@ numberIn (backedUp n v) = v
 numberIn (restored a) = 0
 numberIn (retired n l) = l
 numberIn (listed a) = 0
+numberIn (foundOn a) = 0
 numberIn (tallied a) = 0
 numberIn (streamed a) = 0
 numberIn (offered a) = 0
@@ -184,9 +188,9 @@ module _ (s : Shape) (b : Buffers) (st : State) (k : Keeper) (l : Left s b st) (
       none n output (w ∷ ws) a = absurd a
 
   -- an accepted backup
-  room : (era : Era) (t : ℕ) (image : List ℕ) → backupBy era (b .pool) (b .table) t image .refusal ≡ 0 → Roomy (answerOf b (callBackup era t image))
+  room : (era : Era) (t : ℕ) (d : Option ℕ) (image : List ℕ) → backupBy era (b .pool) (b .table) t d image .refusal ≡ 0 → Roomy (answerOf b (callBackup era t d image))
   unfolding answerOf refusalIn
-  room era t image z = (
+  room era t d image z = (
     λ e. suc-ne-zero 13 (sym (ap refusalIn e) ∙ z),
     λ e. suc-ne-zero 15 (sym (ap refusalIn e) ∙ z),
   )
@@ -194,37 +198,40 @@ module _ (s : Shape) (b : Buffers) (st : State) (k : Keeper) (l : Left s b st) (
   Given : ℕ → ℕ → Answer → Type 0
   Given t n a = refusalIn a ≡ 0 → (numberIn a ≡ n) × (leb (s .capacities .tills) t ≡ false)
 
-  backup-is : (era : Era) (t : ℕ) (image : List ℕ) → Given t (suc (shown t .last)) (answerShown s (shown t) (callBackup era t image))
+  backup-is : (era : Era) (t : ℕ) (d : Option ℕ) (image : List ℕ) → Given t (suc (shown t .last)) (answerShown s (shown t) (callBackup era t d image))
   unfolding answerShown Given refusalIn numberIn
-  backup-is era t image = go (leb (s .capacities .tills) t) refl
+  backup-is era t d image = go (leb (s .capacities .tills) t) refl
     where
-      later : leb (s .capacities .tills) t ≡ false → (b₁ b₂ b₃ : Bool)
+      later : leb (s .capacities .tills) t ≡ false → (b₁ b₂ b₃ b₄ : Bool)
           → Given t (suc (shown t .last))
-          (cond b₁ (backedUp 4 0) (cond b₂ (backedUp 11 0) (cond b₃ (backedUp 12 0) (backedUp 0 (suc (shown t .last))))))
-      later e true b₂ b₃ = unfold Given refusalIn in (λ z. absurd (suc-ne-zero 3 z))
-      later e false true b₃ = unfold Given refusalIn in (λ z. absurd (suc-ne-zero 10 z))
-      later e false false true = unfold Given refusalIn in (λ z. absurd (suc-ne-zero 11 z))
-      later e false false false = unfold Given refusalIn numberIn in (λ z. (refl, e))
+          (cond b₁ (backedUp 4 0) (cond b₂ (backedUp 11 0) (cond b₃ (backedUp 12 0) (cond b₄ (backedUp 28 0) (backedUp 0 (suc (shown t .last)))))))
+      later e true b₂ b₃ b₄ = unfold Given refusalIn in (λ z. absurd (suc-ne-zero 3 z))
+      later e false true b₃ b₄ = unfold Given refusalIn in (λ z. absurd (suc-ne-zero 10 z))
+      later e false false true b₄ = unfold Given refusalIn in (λ z. absurd (suc-ne-zero 11 z))
+      later e false false false true = unfold Given refusalIn in (λ z. absurd (suc-ne-zero 27 z))
+      later e false false false false = unfold Given refusalIn numberIn in (λ z. (refl, e))
 
       go : (q : Bool) → leb (s .capacities .tills) t ≡ q
           → Given t (suc (shown t .last))
           (cond q (backedUp 3 0)
           (cond (eqb (length image) 0 || ltb (s .measures .blockBytes * s .capacities .blocks) (length image)) (backedUp 4 0)
           (cond (leb (s .capacities .versions) (length (shown t .versions))) (backedUp 11 0)
-          (cond (eqb (shown t .last) 65535) (backedUp 12 0) (backedUp 0 (suc (shown t .last)))))))
+          (cond (eqb (shown t .last) 65535) (backedUp 12 0)
+          (cond (ltb (dayShown d (shown t .versions)) (newestDayShown (shown t .versions))) (backedUp 28 0) (backedUp 0 (suc (shown t .last))))))))
       go true q = unfold Given refusalIn in (λ z. absurd (suc-ne-zero 2 z))
       go false q =
           later q (eqb (length image) 0 || ltb (s .measures .blockBytes * s .capacities .blocks) (length image))
           (leb (s .capacities .versions) (length (shown t .versions))) (eqb (shown t .last) 65535)
+          (ltb (dayShown d (shown t .versions)) (newestDayShown (shown t .versions)))
 
-  backup-given : (era : Era) (t : ℕ) (image : List ℕ) → backupBy era (b .pool) (b .table) t image .refusal ≡ 0
-      → (backupBy era (b .pool) (b .table) t image .version ≡ suc (shown t .last)) × (leb (s .capacities .tills) t ≡ false)
+  backup-given : (era : Era) (t : ℕ) (d : Option ℕ) (image : List ℕ) → backupBy era (b .pool) (b .table) t d image .refusal ≡ 0
+      → (backupBy era (b .pool) (b .table) t d image .version ≡ suc (shown t .last)) × (leb (s .capacities .tills) t ≡ false)
   unfolding answerOf tillNamed refusalIn numberIn Given shown
-  backup-given era t image z = subst (Given t (suc (shown t .last))) (sym (answer-is (callBackup era t image) refl (room era t image z))) (backup-is era t image) z
+  backup-given era t d image z = subst (Given t (suc (shown t .last))) (sym (answer-is (callBackup era t d image) refl (room era t d image z))) (backup-is era t d image) z
 
-  fed-last : (era : Era) (t : ℕ) (image : List ℕ) → t < length k → keptTill (fed k (callBackup era t image) true) t .last ≡ suc (keptTill k t .last)
+  fed-last : (era : Era) (t : ℕ) (d : Option ℕ) (image : List ℕ) → t < length k → keptTill (fed k (callBackup era t d image) true) t .last ≡ suc (keptTill k t .last)
   unfolding fed keptTill filed
-  fed-last era t image h = ap (λ (y : KeptTill). y .last) (getD-set-same k t (filed (keptTill k t) image) noTill h)
+  fed-last era t d image h = ap (λ (y : KeptTill). y .last) (getD-set-same k t (filed (keptTill k t) d image) noTill h)
 
   pub retire-given : (t v : ℕ) → retireOf (b .pool) (b .table) t v .refusal ≡ 0
       → (x : Kept) × (newer : List Kept) × (keptFrom v (keptTill k t .versions) ≡ x ∷ newer) × (retireOf (b .pool) (b .table) t v .length ≡ length (x .image))
@@ -266,22 +273,22 @@ module _ (s : Shape) (b : Buffers) (st : State) (k : Keeper) (l : Left s b st) (
       go n [] a = unfold retireShown refusalIn in refl
       go n (w ∷ ws) a = absurd a
 
-  pub backup-last : (era : Era) (t : ℕ) (image : List ℕ) → backupBy era (b .pool) (b .table) t image .refusal ≡ 0
-      → backupBy era (b .pool) (b .table) t image .version ≡ keptTill (fed k (callBackup era t image) true) t .last
-  backup-last era t image e =
-      let g = backup-given era t image e in
-      g .0 ∙ ap suc (last-is t) ∙ sym (fed-last era t image (omega (arith, leb-false (s .capacities .tills) t (g .1), z .many)))
+  pub backup-last : (era : Era) (t : ℕ) (d : Option ℕ) (image : List ℕ) → backupBy era (b .pool) (b .table) t d image .refusal ≡ 0
+      → backupBy era (b .pool) (b .table) t d image .version ≡ keptTill (fed k (callBackup era t d image) true) t .last
+  backup-last era t d image e =
+      let g = backup-given era t d image e in
+      g .0 ∙ ap suc (last-is t) ∙ sym (fed-last era t d image (omega (arith, leb-false (s .capacities .tills) t (g .1), z .many)))
 
   pub sent-last : (t n : ℕ) (fs ms ss : List ℕ) → backupSentOf (b .pool) (b .table) t n fs ms ss .refusal ≡ 0
       → backupSentOf (b .pool) (b .table) t n fs ms ss .version ≡ keptTill (fedEach k (comesTo b (callBackupSent t n fs ms ss))) t .last
   unfolding comesTo fedEach refusalOf
   sent-last t n fs ms ss e =
       let image : List ℕ = imageSent (storeOf (b .pool) (b .table)) t n fs ms ss in
-      let same : backupSentOf (b .pool) (b .table) t n fs ms ss ≡ backupBy withBlanks (b .pool) (b .table) t image =
+      let same : backupSentOf (b .pool) (b .table) t n fs ms ss ≡ backupBy withBlanks (b .pool) (b .table) t none image =
       unfold backupSentOf backupSentBy backupBy in accepted-is (storeOf (b .pool) (b .table)) (b .pool) (b .table) t n fs ms ss (unfold backupSentOf backupSentBy in e) in
       ap (λ (a : BackupAnswer). a .version) same
-      ∙ backup-last withBlanks t image (sym (ap (λ (a : BackupAnswer). a .refusal) same) ∙ e)
-      ∙ ap (λ (ok : Bool). keptTill (fed k (callBackup withBlanks t image) ok) t .last) (sym (eq-eqb (backupSentOf (b .pool) (b .table) t n fs ms ss .refusal) 0 e))
+      ∙ backup-last withBlanks t none image (sym (ap (λ (a : BackupAnswer). a .refusal) same) ∙ e)
+      ∙ ap (λ (ok : Bool). keptTill (fed k (callBackup withBlanks t none image) ok) t .last) (sym (eq-eqb (backupSentOf (b .pool) (b .table) t n fs ms ss .refusal) 0 e))
 
   pub listing-kept : (t : ℕ) → listingOf (b .pool) (b .table) t .refusal ≡ 0
       → (listingOf (b .pool) (b .table) t .oldest ≡ oldestKept (keptTill k t .versions))

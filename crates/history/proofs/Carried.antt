@@ -2,7 +2,7 @@
 use mathlib.Core.Path.{_≡_, refl, sym, ap, _∙_, subst}
 use mathlib.Core.Bool.{Bool, true, false, cond}
 use mathlib.Core.List.{List, [], _∷_}
-use mathlib.Core.Option.{Option}
+use mathlib.Core.Option.{Option, none, some}
 use Prim.Native.Nat.{ℕ, zero, suc, _≤_, zero-le}
 use native.Mathlib.Omega.{arith}
 use lib.ListN.{length, drop}
@@ -18,7 +18,7 @@ use Rattle.model.specs.Sound.{isSound, Store, storeOf}
 use Rattle.model.specs.Calls.{After, backup, stateOr, outcomeRefusal}
 use Rattle.laws.proofs.Fits.{Proper}
 use Rattle.closing.specs.Closing.{TillImage, imagesIn, closingFits, backupEach, AllAnswer, allRefused, allAnswer, closedOr, backupAll, backupAllOf}
-use Rattle.history.specs.Calls.{Call, callLayout, callBackup, callRestore, callRetire, callListing, callTally, callWriteStream, callOffer, callBackupSent, callBackupAll, Buffers, refusalOf, stateAfter, answerIn, refusalIn, isAccepted}
+use Rattle.history.specs.Calls.{Call, callLayout, callBackup, callRestore, callRetire, callListing, callVersionOn, callTally, callWriteStream, callOffer, callBackupSent, callBackupAll, Buffers, refusalOf, stateAfter, answerIn, refusalIn, isAccepted}
 use Rattle.history.specs.Keeper.{imageSent, CallMade, backupFor, backupsMade, closingMade, itself, comesTo}
 use Rattle.history.specs.View.{viewAt, tillNamed, IsPlain}
 use Rattle.history.proofs.Sent.{here, sent-alike}
@@ -50,7 +50,7 @@ module _ (s : Shape) where
   unfolding backupsMade backupEach fill backupFor stateAfter isAccepted answerIn refusalIn
   each-carried [] n l st = refl
   each-carried (x ∷ xs) zero l st = absurd (omega (arith, l))
-  each-carried (x ∷ xs) (suc n) l st = (tt, refl, each-carried xs n (omega (arith, l)) (stateOr st (backup withBlanks s st (x .till) (x .image))))
+  each-carried (x ∷ xs) (suc n) l st = (tt, refl, each-carried xs n (omega (arith, l)) (stateOr st (backup withBlanks s st (x .till) none (x .image))))
 
   closing-carried : (st : State) (ts ns is : List ℕ) → Carries s st (closingMade (imagesIn ts ns is) (allAnswer (backupAll s st ts ns is))) (closedOr st (backupAll s st ts ns is))
   unfolding backupAll closingMade
@@ -75,15 +75,16 @@ module _ (s : Shape) where
   pub carried : (b : Buffers) (st : State) → Left s b st → (call : Call) → Carries s st (comesTo b call) (stateAfter s st call)
   unfolding comesTo
   carried b st l (callLayout c) = itself-carried b st l (callLayout c) tt
-  carried b st l (callBackup era t image) = itself-carried b st l (callBackup era t image) tt
+  carried b st l (callBackup era t d image) = itself-carried b st l (callBackup era t d image) tt
   carried b st l (callRestore t v output) = itself-carried b st l (callRestore t v output) tt
   carried b st l (callRetire t v) = itself-carried b st l (callRetire t v) tt
   carried b st l (callListing t) = itself-carried b st l (callListing t) tt
+  carried b st l (callVersionOn t day) = itself-carried b st l (callVersionOn t day) tt
   carried b st l callTally = itself-carried b st l callTally tt
   carried b st l (callWriteStream t v output) = itself-carried b st l (callWriteStream t v output) tt
   carried b st l (callOffer t fs ms) = itself-carried b st l (callOffer t fs ms) tt
   carried b st l (callBackupSent t n fs ms ss) =
-      subst (λ (o : Option Store). Carries s st (record { call = callBackup withBlanks t (imageSent o t n fs ms ss); accepted = eqb (refusalOf b (callBackupSent t n fs ms ss)) 0 } ∷ []) (stateAfter s st (callBackupSent t n fs ms ss)))
+      subst (λ (o : Option Store). Carries s st (record { call = callBackup withBlanks t none (imageSent o t n fs ms ss); accepted = eqb (refusalOf b (callBackupSent t n fs ms ss)) 0 } ∷ []) (stateAfter s st (callBackupSent t n fs ms ss)))
       (sym (left-store s b st l))
       (let a = sent-alike s st t n fs ms ss in
       (tt, accepted-same s b st (callBackupSent t n fs ms ss) l ∙ (unfold isAccepted answerIn refusalIn in a .1), unfold stateAfter in sym (a .0)))

@@ -28,6 +28,7 @@ use Rattle.history.proofs.Steps.{Left, left-all, left-laid, answers-sam
 use Rattle.history.proofs.Cells.{named-leads}
 use Rattle.history.proofs.Bullets.{restores}
 use Rattle.history.proofs.Answered.{answers}
+use Rattle.history.proofs.Days.{Dated, dated-empty, dated-all, days}
 use Rattle.history.proofs.Streams.{streams}
 
 -- ---- a block that a version shares with one taken while it was the newest
@@ -51,7 +52,7 @@ shared-not-direct bytes a x y newer (v ∷ vs) n i g p ln li same d =
 
 -- ---- a store that stands for a state that calls reach
 
-module _ (s : Shape) (b : Buffers) (st : State) (k : Keeper) (l : Left s b st) (z : Stands s k st) where
+module _ (s : Shape) (b : Buffers) (st : State) (k : Keeper) (l : Left s b st) (z : Stands s k st) (d : Dated s st) where
   -- of versions held and shown
   held : (t v : ℕ) → Agree (s .measures .blockBytes) (keptFrom v (keptTill k t .versions)) (viewVersions (s .measures .blockBytes) (st .shelf) (heldFrom v (tillOf st t .versions)))
   unfolding viewOf
@@ -97,6 +98,7 @@ module _ (s : Shape) (b : Buffers) (st : State) (k : Keeper) (l : Left s b st) (
     restores = restores s b st k l z;
     streams = streams s b st k l z;
     answers = answers s b st k l z;
+    days = days s b st k l z d;
     shares = shares;
     cells = cells;
   }
@@ -113,5 +115,6 @@ demand-3 s pool table calls accepted refusals =
       answers = answers-same s calls b (emptyState s) start refusals;
       after =
           holds s (buffersAfterAll b calls) (stateAfterAll s (emptyState s) calls) (fedAll (freshKeeper (s .capacities)) b calls) end
-          (stands-all s calls b (emptyState s) (freshKeeper (s .capacities)) start (stands-fresh s) refusals);
+          (stands-all s calls b (emptyState s) (freshKeeper (s .capacities)) start (stands-fresh s) refusals)
+          (dated-all s calls b (emptyState s) start (dated-empty s) refusals);
     }

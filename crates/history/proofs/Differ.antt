@@ -17,7 +17,7 @@ use Rattle.model.specs.Sweep.{changeAt, changeAll, release, moved, clearCells, 
 use Rattle.model.specs.Trace.{hopsVia, endVia, hops, endOf, blockAt, tracedBlock, tracedBlocks, imageOf, longestChain}
 use Rattle.model.specs.Table.{pointerWord, recordToWords, versionToWords, tillToWords, measureWord, headerToWords, stateToWords, stateToBytes, measuresIn, shapeOf, pointerOf, wordToPointer, positionOf, positionsIn, segmentIn, recordsIn, cellsIn, shelfIn, versionIn, versionsIn, tillIn, tillsIn, stateIn}
 use Rattle.model.specs.Sound.{isShaped, hasLength, isNumbered, isUsed, hasCells, nextPointers, endsZero, areTraceable, isTill, allPointers, areCounted, allCounted, areFilled, isSound, ifSound, hasLengths, storeAs, storeOf}
-use Rattle.model.specs.Calls.{emptyTill, emptyState, layoutIf, layoutOf, tillOf, heldFrom, withTill, newestPointers, withNewestPointers, tillWith, fileIn, placeAndFile, backupAnswer, backupIn, backupBy, backupOf, restoreRefusal, restoreFrom, restoreIn, restoreOf, oldestNumber, newestNumber, listingRefusal, listTill, listingIn, listingOf, tallyIn, tallyOf, heldBefore, firstOf, notHeld, lookUp}
+use Rattle.model.specs.Calls.{emptyTill, emptyState, layoutIf, layoutOf, tillOf, heldFrom, withTill, newestPointers, withNewestPointers, newestDay, dayFor, tillWith, fileIn, placeAndFile, backupAnswer, backupIn, backupBy, backupOf, restoreRefusal, restoreFrom, restoreIn, restoreOf, oldestNumber, newestNumber, listingRefusal, listTill, listingIn, listingOf, tallyIn, tallyOf, heldBefore, firstOf, notHeld, lookUp}
 use Rattle.model.specs.State.{nullPosition, held, removed}
 use Rattle.model.specs.Calls as Calls
 use Rattle.model.proofs.Steps.{Step, backup, restore, listing, tally, recordIs, poolIs, Row, recordAt, isAt, holdsFrom, holds, blocks, zeros}
@@ -87,6 +87,6 @@ unfolding till0First till1First closed shop ABCD ABCE zeros blocks holds holdsFr
     isBase measureWord headerToWords stateToWords stateToBytes measuresIn shapeOf pointerOf wordToPointer positionOf positionsIn segmentIn recordsIn cellsIn shelfIn versionIn
     versionsIn tillIn tillsIn stateIn isShaped hasLength isNumbered isUsed hasCells nextPointers endsZero areTraceable isTill allPointers areCounted
     allCounted areFilled isSound ifSound hasLengths storeAs storeOf emptyTill emptyState layoutIf layoutOf tillOf heldFrom withTill
-    newestPointers withNewestPointers tillWith fileIn placeAndFile Calls.backup backupAnswer backupIn backupBy backupOf restoreRefusal heldBefore firstOf notHeld lookUp restoreFrom
+    newestPointers withNewestPointers newestDay dayFor tillWith fileIn placeAndFile Calls.backup backupAnswer backupIn backupBy backupOf restoreRefusal heldBefore firstOf notHeld lookUp restoreFrom
     Calls.restore restoreIn restoreOf oldestNumber newestNumber listingRefusal listTill listingIn listingOf tallyIn tallyOf
 records-may-differ = refl

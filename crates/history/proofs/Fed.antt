@@ -2,6 +2,7 @@
 use mathlib.Core.Path.{_≡_, refl, sym, ap, _∙_, subst}
 use mathlib.Core.Bool.{Bool, true, false}
 use mathlib.Core.List.{List, [], _∷_}
+use mathlib.Core.Option.{Option, none, some}
 use Prim.Native.Nat.{ℕ, zero, suc, _-_, _≤_}
 use native.Mathlib.Omega.{arith}
 use lib.ListN.{length, getD, set, replicate, length-set, length-replicate}
@@ -13,7 +14,7 @@ use Rattle.model.specs.State.{State}
 use Rattle.model.specs.Sound.{isSound}
 use Rattle.model.specs.Calls.{emptyTill, tillOf, emptyState, backup, retire, outcomeRefusal}
 use Rattle.laws.proofs.Fits.{Proper}
-use Rattle.history.specs.Calls.{Call, callLayout, callBackup, callRestore, callRetire, callListing, callTally, callWriteStream, callOffer, callBackupSent, callBackupAll, Buffers, buffersAfter, refusedLayouts, stateAfter, stateAfterAll, answerIn, refusalIn, isAccepted}
+use Rattle.history.specs.Calls.{Call, callLayout, callBackup, callRestore, callRetire, callListing, callVersionOn, callTally, callWriteStream, callOffer, callBackupSent, callBackupAll, Buffers, buffersAfter, refusedLayouts, stateAfter, stateAfterAll, answerIn, refusalIn, isAccepted}
 use Rattle.history.specs.Keeper.{KeptTill, Keeper, noTill, freshKeeper, keptTill, filed, struckOut, fed, CallMade, fedEach, comesTo, fedAll}
 use Rattle.history.specs.View.{TillView, viewVersions, viewOf, viewAt, tillNamed, changed, IsPlain}
 use Rattle.history.proofs.Kept.{AgreeTill, till-filed, till-struck}
@@ -28,12 +29,13 @@ use Rattle.history.proofs.Carried.{Carries, carried}
 -- what a call that was accepted or refused makes of what is kept of its till
 unfoldable pub change : Call → Bool → KeptTill → KeptTill
 change (callLayout c) ok y = y
-change (callBackup era t image) true y = filed y image
-change (callBackup era t image) false y = y
+change (callBackup era t d image) true y = filed y d image
+change (callBackup era t d image) false y = y
 change (callRestore t v output) ok y = y
 change (callRetire t v) true y = struckOut y v
 change (callRetire t v) false y = y
 change (callListing t) ok y = y
+change (callVersionOn t day) ok y = y
 change callTally ok y = y
 change (callWriteStream t v output) ok y = y
 change (callOffer t fs ms) ok y = y
@@ -43,12 +45,13 @@ change (callBackupAll ts ns is) ok y = y
 fed-is : (k : Keeper) (call : Call) (ok : Bool) → fed k call ok ≡ set k (tillNamed call) (change call ok (keptTill k (tillNamed call)))
 unfolding fed tillNamed change keptTill
 fed-is k (callLayout c) ok = sym (set-getD k 0 noTill)
-fed-is k (callBackup era t image) true = refl
-fed-is k (callBackup era t image) false = sym (set-getD k t noTill)
+fed-is k (callBackup era t d image) true = refl
+fed-is k (callBackup era t d image) false = sym (set-getD k t noTill)
 fed-is k (callRestore t v output) ok = sym (set-getD k t noTill)
 fed-is k (callRetire t v) true = refl
 fed-is k (callRetire t v) false = sym (set-getD k t noTill)
 fed-is k (callListing t) ok = sym (set-getD k t noTill)
+fed-is k (callVersionOn t day) ok = sym (set-getD k t noTill)
 fed-is k callTally ok = sym (set-getD k 0 noTill)
 fed-is k (callWriteStream t v output) ok = sym (set-getD k t noTill)
 fed-is k (callOffer t fs ms) ok = sym (set-getD k t noTill)
@@ -79,11 +82,11 @@ module _ (s : Shape) (pr : Proper (s .measures)) (st : State) (h : isSound s st 
       (changed (s .measures .blockBytes) call (isAccepted s st call) (viewAt (s .measures .blockBytes) st (tillNamed call)))
   unfolding change changed isAccepted answerIn refusalIn tillNamed
   own-agrees (callLayout c) y a = a
-  own-agrees (callBackup era t image) y a = go (eqb (outcomeRefusal (backup era s st t image)) 0)
+  own-agrees (callBackup era t d image) y a = go (eqb (outcomeRefusal (backup era s st t d image)) 0)
     where
-      go : (ok : Bool) → AgreeTill (s .measures .blockBytes) (change (callBackup era t image) ok y)
-          (changed (s .measures .blockBytes) (callBackup era t image) ok (viewAt (s .measures .blockBytes) st t))
-      go true = unfold change changed in till-filed (s .measures .blockBytes) era y (viewAt (s .measures .blockBytes) st t) image a
+      go : (ok : Bool) → AgreeTill (s .measures .blockBytes) (change (callBackup era t d image) ok y)
+          (changed (s .measures .blockBytes) (callBackup era t d image) ok (viewAt (s .measures .blockBytes) st t))
+      go true = unfold change changed in till-filed (s .measures .blockBytes) era y (viewAt (s .measures .blockBytes) st t) d image a
       go false = unfold change changed in a
   own-agrees (callRestore t v output) y a = a
   own-agrees (callRetire t v) y a = go (eqb (outcomeRefusal (retire s st t v)) 0)
@@ -93,6 +96,7 @@ module _ (s : Shape) (pr : Proper (s .measures)) (st : State) (h : isSound s st 
       go true = unfold change changed in till-struck (s .measures .blockBytes) y (viewAt (s .measures .blockBytes) st t) v a (shown-numbers s st h t)
       go false = unfold change changed in a
   own-agrees (callListing t) y a = a
+  own-agrees (callVersionOn t day) y a = a
   own-agrees callTally y a = a
   own-agrees (callWriteStream t v output) y a = a
   own-agrees (callOffer t fs ms) y a = a
@@ -103,10 +107,11 @@ module _ (s : Shape) (pr : Proper (s .measures)) (st : State) (h : isSound s st 
   change-none : (call : Call) → leb (s .capacities .tills) (tillNamed call) ≡ true → (y : KeptTill) → change call (isAccepted s st call) y ≡ y
   unfolding change isAccepted answerIn refusalIn tillNamed
   change-none (callLayout c) e y = refl
-  change-none (callBackup era t image) e y = unfold backup outcomeRefusal in rw e refl
+  change-none (callBackup era t d image) e y = unfold backup outcomeRefusal in rw e refl
   change-none (callRestore t v output) e y = refl
   change-none (callRetire t v) e y = unfold retire outcomeRefusal in rw e refl
   change-none (callListing t) e y = refl
+  change-none (callVersionOn t day) e y = refl
   change-none callTally e y = refl
   change-none (callWriteStream t v output) e y = refl
   change-none (callOffer t fs ms) e y = refl

@@ -1,7 +1,8 @@
 -- What an accepted backup and an accepted retire make of what the tills show.
-use mathlib.Core.Path.{_≡_, sym, ap, ap₂, _∙_}
+use mathlib.Core.Path.{_≡_, refl, sym, ap, ap₂, _∙_}
 use mathlib.Core.Bool.{true}
 use mathlib.Core.List.{List, [], _∷_, _++_, map}
+use mathlib.Core.Option.{Option}
 use Prim.Native.Nat.{ℕ, suc}
 use lib.ListN.{length, getD, set}
 use lib.Seq.{getD-set-same, getD-set-other}
@@ -10,15 +11,16 @@ use Rattle.model.specs.Measures.{Shape}
 use Rattle.model.specs.State.{Shelf, Version, Till, State}
 use Rattle.model.specs.Image.{Era, imageBlocks}
 use Rattle.model.specs.Sound.{isSound, isTill, allPointers}
-use Rattle.model.specs.Calls.{emptyTill, tillOf, heldBefore, closeUp, After}
+use Rattle.model.specs.Calls.{emptyTill, tillOf, heldBefore, closeUp, dayFor, After}
 use Rattle.laws.proofs.Fits.{Proper}
 use Rattle.laws.proofs.Serves.{Serves, till-among}
 use Rattle.laws.proofs.Backup.{Filed}
 use Rattle.laws.proofs.Takeover.{Between, between}
 use Rattle.laws.proofs.Retire.{Retired}
-use Rattle.history.specs.View.{VersionView, viewVersions, viewOf, viewAt, newKind, turnNewest, shownWith, dropVersion, shownWithout}
+use Rattle.history.specs.View.{VersionView, viewVersions, viewOf, viewAt, newKind, turnNewest, dayShown, shownWith, dropVersion, shownWithout}
 use Rattle.history.proofs.Views.{view-path, view-again, views-again, views-extended, views-closed, new-image, new-kinds}
 use Rattle.history.proofs.Traced.{cuts, till-ok}
+use Rattle.history.proofs.Shown.{day-is}
 
 -- the other tills are left alone
 till-other : (st : State) (a : After) (t : ℕ) (till : Till) → a .state .tills ≡ set (st .tills) t till → (u : ℕ) → (u ≡ t → ⊥) → tillOf (a .state) u ≡ tillOf st u
@@ -33,7 +35,8 @@ serves-till s a b st sv u = view-again s a b (allPointers (st .tills)) sv (getD 
 
 -- ---- backup
 
-module _ (era : Era) (s : Shape) (pr : Proper (s .measures)) (st : State) (h : isSound s st ≡ true) (t : ℕ) (image : List ℕ) (a : After) (f : Filed era s st t image a) where
+module _ (era : Era) (s : Shape) (pr : Proper (s .measures)) (st : State) (h : isSound s st ≡ true) (t : ℕ) (d : Option ℕ) (image : List ℕ) (a : After)
+    (f : Filed era s st t (dayFor d (tillOf st t .versions)) image a) where
   till-is : tillOf (a .state) t ≡ f .till
   unfolding tillOf
   till-is = ap (λ (ts : List Till). getD ts t emptyTill) (f .tills) ∙ getD-set-same (st .tills) t (f .till) emptyTill (f .there)
@@ -43,23 +46,29 @@ module _ (era : Era) (s : Shape) (pr : Proper (s .measures)) (st : State) (h : i
   old-views = views-again s (st .shelf) (f .placed) (allPointers (st .tills)) (f .kept) (getD (st .tills) t emptyTill .versions) (λ k i. till-among k i (st .tills) t)
 
   new-view : viewVersions (s .measures .blockBytes) (f .placed) (f .version ∷ [])
-      ≡ record { number = suc (tillOf st t .last); length = length image; image = image; kinds = map (newKind era) (imageBlocks (s .measures .blockBytes) image) } ∷ []
+      ≡ record { number = suc (tillOf st t .last); length = length image; day = dayFor d (tillOf st t .versions); image = image; kinds = map (newKind era) (imageBlocks (s .measures .blockBytes) image) } ∷ []
   unfolding viewVersions
   new-view =
       ap (λ (w : VersionView). w ∷ [])
-      (view-path _ _ _ _ _ _ _ _ (f .number) (f .bytes) (new-image era (s .measures) pr (f .placed) image (f .version) (f .good) (f .bytes) (f .size))
+      (view-path _ _ _ _ _ _ _ _ _ _ (f .number) (f .bytes) (f .dated) (new-image era (s .measures) pr (f .placed) image (f .version) (f .good) (f .bytes) (f .size))
       (new-kinds era (s .measures) (f .placed) (imageBlocks (s .measures .blockBytes) image) (f .version .pointers) (f .good) (f .size)))
 
+  -- its day, by what the till showed
+  dated : _≡_ {A = List VersionView}
+      (record { number = suc (tillOf st t .last); length = length image; day = dayFor d (tillOf st t .versions); image = image; kinds = map (newKind era) (imageBlocks (s .measures .blockBytes) image) } ∷ [])
+      (record { number = suc (tillOf st t .last); length = length image; day = dayShown d (viewVersions (s .measures .blockBytes) (st .shelf) (tillOf st t .versions)); image = image; kinds = map (newKind era) (imageBlocks (s .measures .blockBytes) image) } ∷ [])
+  dated = ap (λ (w : VersionView). w ∷ []) (view-path _ _ _ _ _ _ _ _ _ _ refl refl (day-is (s .measures .blockBytes) (st .shelf) d (tillOf st t .versions)) refl refl)
+
   all-views : viewVersions (s .measures .blockBytes) (f .placed) (f .till .versions)
-      ≡ shownWith era (s .measures .blockBytes) (viewAt (s .measures .blockBytes) st t) image .versions
+      ≡ shownWith era (s .measures .blockBytes) (viewAt (s .measures .blockBytes) st t) d image .versions
   unfolding isTill shownWith viewOf
   all-views =
       ap (viewVersions (s .measures .blockBytes) (f .placed)) (f .versions)
       ∙ views-extended era s (f .placed) (f .exact) (imageBlocks (s .measures .blockBytes) image) (f .version) (f .good) (tillOf st t .versions) (clause _ 1 (f .before))
       (cuts s pr st h (f .placed) (f .kept) (tillOf st t .versions) (till-ok s pr st h t (f .there)) (unfold tillOf in (λ k i. till-among k i (st .tills) t)))
-      ∙ ap₂ (λ (l n : List VersionView). turnNewest era (s .measures .blockBytes) (imageBlocks (s .measures .blockBytes) image) l ++ n) old-views new-view
+      ∙ ap₂ (λ (l n : List VersionView). turnNewest era (s .measures .blockBytes) (imageBlocks (s .measures .blockBytes) image) l ++ n) old-views (new-view ∙ dated)
 
-  pub filed-own : viewAt (s .measures .blockBytes) (a .state) t ≡ shownWith era (s .measures .blockBytes) (viewAt (s .measures .blockBytes) st t) image
+  pub filed-own : viewAt (s .measures .blockBytes) (a .state) t ≡ shownWith era (s .measures .blockBytes) (viewAt (s .measures .blockBytes) st t) d image
   filed-own =
       serves-till s (f .placed) (a .state .shelf) (a .state) (f .swept) t
       ∙ ap (viewOf (s .measures .blockBytes) (f .placed)) till-is

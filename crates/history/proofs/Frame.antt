@@ -3,6 +3,7 @@
 use mathlib.Core.Path.{_≡_, refl, ap, _∙_}
 use mathlib.Core.Bool.{true}
 use mathlib.Core.List.{List}
+use mathlib.Core.Option.{Option, none, some}
 use Prim.Native.Nat.{ℕ}
 use native.Mathlib.Omega.{arith}
 use lib.Dec.{eqb}
@@ -15,18 +16,18 @@ use Rattle.model.specs.Calls.{backup, retire, After, stateOr, outcomeRefusal}
 use Rattle.laws.proofs.Fits.{Proper}
 use Rattle.laws.proofs.Backup.{backup-filed}
 use Rattle.laws.proofs.Retire.{retire-done}
-use Rattle.history.specs.Calls.{Call, callLayout, callBackup, callRestore, callRetire, callListing, callTally, callWriteStream, callOffer, callBackupSent, callBackupAll, stateAfter, answerIn, refusalIn, isAccepted}
+use Rattle.history.specs.Calls.{Call, callLayout, callBackup, callRestore, callRetire, callListing, callVersionOn, callTally, callWriteStream, callOffer, callBackupSent, callBackupAll, stateAfter, answerIn, refusalIn, isAccepted}
 use Rattle.history.specs.View.{viewAt, tillNamed, changed, IsPlain}
 use Rattle.history.proofs.Filing.{filed-own, filed-other, retired-own, retired-other}
 use Rattle.history.proofs.Numbered.{Numbered, backup-numbered, retire-numbered}
 
 module _ (s : Shape) (pr : Proper (s .measures)) (st : State) (h : isSound s st ≡ true) where
-  backup-own : (era : Era) (t : ℕ) (image : List ℕ) (o : Outcome After) → Numbered o → backup era s st t image ≡ o
+  backup-own : (era : Era) (t : ℕ) (d : Option ℕ) (image : List ℕ) (o : Outcome After) → Numbered o → backup era s st t d image ≡ o
       → viewAt (s .measures .blockBytes) (stateOr st o) t
-      ≡ changed (s .measures .blockBytes) (callBackup era t image) (eqb (outcomeRefusal o) 0) (viewAt (s .measures .blockBytes) st t)
+      ≡ changed (s .measures .blockBytes) (callBackup era t d image) (eqb (outcomeRefusal o) 0) (viewAt (s .measures .blockBytes) st t)
   unfolding stateOr changed outcomeRefusal
-  backup-own era t image (refused n) g q = rw (ne-eqb n 0 (λ z. omega (arith, g, z))) refl
-  backup-own era t image (done a) g q = filed-own era s pr st h t image a (backup-filed era s pr t image st a h q)
+  backup-own era t d image (refused n) g q = rw (ne-eqb n 0 (λ z. omega (arith, g, z))) refl
+  backup-own era t d image (done a) g q = filed-own era s pr st h t d image a (backup-filed era s pr t d image st a h q)
 
   retire-own : (t v : ℕ) (o : Outcome After) → Numbered o → retire s st t v ≡ o
       → viewAt (s .measures .blockBytes) (stateOr st o) t
@@ -41,21 +42,22 @@ module _ (s : Shape) (pr : Proper (s .measures)) (st : State) (h : isSound s st 
       ≡ changed (s .measures .blockBytes) call (isAccepted s st call) (viewAt (s .measures .blockBytes) st (tillNamed call))
   unfolding stateAfter changed isAccepted answerIn refusalIn tillNamed
   frame-own (callLayout c) p = refl
-  frame-own (callBackup era t image) p = backup-own era t image (backup era s st t image) (backup-numbered era s st t image) refl
+  frame-own (callBackup era t d image) p = backup-own era t d image (backup era s st t d image) (backup-numbered era s st t d image) refl
   frame-own (callRestore t v output) p = refl
   frame-own (callRetire t v) p = retire-own t v (retire s st t v) (retire-numbered s st t v) refl
   frame-own (callListing t) p = refl
+  frame-own (callVersionOn t day) p = refl
   frame-own callTally p = refl
   frame-own (callWriteStream t v output) p = refl
   frame-own (callOffer t fs ms) p = refl
   frame-own (callBackupSent t n fs ms ss) p = absurd p
   frame-own (callBackupAll ts ns is) p = absurd p
 
-  backup-other : (era : Era) (t : ℕ) (image : List ℕ) (u : ℕ) → (u ≡ t → ⊥) → (o : Outcome After) → backup era s st t image ≡ o
+  backup-other : (era : Era) (t : ℕ) (d : Option ℕ) (image : List ℕ) (u : ℕ) → (u ≡ t → ⊥) → (o : Outcome After) → backup era s st t d image ≡ o
       → viewAt (s .measures .blockBytes) (stateOr st o) u ≡ viewAt (s .measures .blockBytes) st u
   unfolding stateOr
-  backup-other era t image u ne (refused n) q = refl
-  backup-other era t image u ne (done a) q = filed-other era s pr st h t image a (backup-filed era s pr t image st a h q) u ne
+  backup-other era t d image u ne (refused n) q = refl
+  backup-other era t d image u ne (done a) q = filed-other era s pr st h t d image a (backup-filed era s pr t d image st a h q) u ne
 
   retire-other : (t v u : ℕ) → (u ≡ t → ⊥) → (o : Outcome After) → retire s st t v ≡ o
       → viewAt (s .measures .blockBytes) (stateOr st o) u ≡ viewAt (s .measures .blockBytes) st u
@@ -68,10 +70,11 @@ module _ (s : Shape) (pr : Proper (s .measures)) (st : State) (h : isSound s st 
       → viewAt (s .measures .blockBytes) (stateAfter s st call) u ≡ viewAt (s .measures .blockBytes) st u
   unfolding stateAfter tillNamed
   frame-other (callLayout c) p u ne = refl
-  frame-other (callBackup era t image) p u ne = backup-other era t image u ne (backup era s st t image) refl
+  frame-other (callBackup era t d image) p u ne = backup-other era t d image u ne (backup era s st t d image) refl
   frame-other (callRestore t v output) p u ne = refl
   frame-other (callRetire t v) p u ne = retire-other t v u ne (retire s st t v) refl
   frame-other (callListing t) p u ne = refl
+  frame-other (callVersionOn t day) p u ne = refl
   frame-other callTally p u ne = refl
   frame-other (callWriteStream t v output) p u ne = refl
   frame-other (callOffer t fs ms) p u ne = refl

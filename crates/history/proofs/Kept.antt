@@ -19,9 +19,9 @@ use Rattle.lists.proofs.Tests.{by-test}
 use Rattle.model.specs.State.{Block, Pointer}
 use Rattle.model.specs.Image.{Era, isBlank, imageBlocks}
 use Rattle.model.specs.Turn.{indirectAt, turnsTo}
-use Rattle.history.specs.Keeper.{Kept, KeptTill, keptFrom, oldestKept, newestKept, filed, struckOut}
+use Rattle.history.specs.Keeper.{Kept, KeptTill, keptFrom, oldestKept, newestKept, newestDayKept, dayKept, filed, keptNotAfter, struckOut}
 use Rattle.history.specs.Kinds.{Kind, zeroKind, blankKind, directKind, indirectKind, kindAt}
-use Rattle.history.specs.View.{VersionView, TillView, newKind, turnedKind, withKinds, turnNewest, shownWith, takeOverKind, dropVersion, shownWithout, shownFrom, oldestShown, newestShown}
+use Rattle.history.specs.View.{VersionView, TillView, newKind, turnedKind, withKinds, turnNewest, newestDayShown, dayShown, shownWith, shownNotAfter, takeOverKind, dropVersion, shownWithout, shownFrom, oldestShown, newestShown}
 
 unfoldable pub isDirectKind : Kind → Bool
 isDirectKind zeroKind = false
@@ -42,6 +42,7 @@ Shared bytes x (y ∷ newer) ks =
 pub record Shows (bytes : ℕ) (x : Kept) (newer : List Kept) (w : VersionView) : Type 0 where
   pub number : w .number ≡ x .number
   pub size : w .length ≡ length (x .image)
+  pub dated : w .day ≡ x .day
   pub image : w .image ≡ x .image
   pub shared : Shared bytes x newer (w .kinds)
 
@@ -80,22 +81,24 @@ over-shared era new (k ∷ ks) (b ∷ bs) (suc n) i ln li e = over-shared era ne
 module _ (bytes : ℕ) where
   -- ---- a version is filed
 
-  new-shown : (era : Era) (n n′ p : ℕ) (image : List ℕ) → n ≡ n′
-      → Shows bytes (record { number = n′; image = image; previous = p }) [] (record { number = n; length = length image; image = image; kinds = map (newKind era) (imageBlocks bytes image) })
-  new-shown era n n′ p image e = record { number = e; size = refl; image = refl; shared = tt }
+  new-shown : (era : Era) (n n′ day day′ p : ℕ) (image : List ℕ) → n ≡ n′ → day ≡ day′
+      → Shows bytes (record { number = n′; image = image; day = day′; previous = p }) []
+      (record { number = n; length = length image; day = day; image = image; kinds = map (newKind era) (imageBlocks bytes image) })
+  new-shown era n n′ day day′ p image e f = record { number = e; size = refl; dated = f; image = refl; shared = tt }
 
-  agree-filed : (era : Era) (n n′ : ℕ) (image : List ℕ) → n ≡ n′ → (xs : List Kept) (ws : List VersionView) → Agree bytes xs ws
-      → Agree bytes (xs ++ (record { number = n′; image = image; previous = newestKept xs } ∷ []))
-      (turnNewest era bytes (imageBlocks bytes image) ws ++ (record { number = n; length = length image; image = image; kinds = map (newKind era) (imageBlocks bytes image) } ∷ []))
+  agree-filed : (era : Era) (n n′ day day′ : ℕ) (image : List ℕ) → n ≡ n′ → day ≡ day′ → (xs : List Kept) (ws : List VersionView) → Agree bytes xs ws
+      → Agree bytes (xs ++ (record { number = n′; image = image; day = day′; previous = newestKept xs } ∷ []))
+      (turnNewest era bytes (imageBlocks bytes image) ws ++ (record { number = n; length = length image; day = day; image = image; kinds = map (newKind era) (imageBlocks bytes image) } ∷ []))
   unfolding turnNewest withKinds newestKept
-  agree-filed era n n′ image e [] [] a = (new-shown era n n′ 0 image e, tt)
-  agree-filed era n n′ image e [] (w ∷ ws) a = absurd a
-  agree-filed era n n′ image e (x ∷ xs) [] a = absurd a
-  agree-filed era n n′ image e (x ∷ []) (w ∷ []) a =
+  agree-filed era n n′ day day′ image e o [] [] a = (new-shown era n n′ day day′ 0 image e o, tt)
+  agree-filed era n n′ day day′ image e o [] (w ∷ ws) a = absurd a
+  agree-filed era n n′ day day′ image e o (x ∷ xs) [] a = absurd a
+  agree-filed era n n′ day day′ image e o (x ∷ []) (w ∷ []) a =
       let f = a .0 in (
         record {
           number = f .number;
           size = f .size;
+          dated = f .dated;
           image = f .image;
           shared = (
             le-refl (x .number),
@@ -104,17 +107,37 @@ module _ (bytes : ℕ) where
                 ∙ over-shared era (imageBlocks bytes image) (w .kinds) (imageBlocks bytes (x .image)) k i lk li same,
           );
         },
-        (new-shown era n n′ (x .number) image e, tt),
+        (new-shown era n n′ day day′ (x .number) image e o, tt),
       )
-  agree-filed era n n′ image e (x ∷ []) (w ∷ v ∷ ws) a = absurd (a .1)
-  agree-filed era n n′ image e (x ∷ y ∷ xs) (w ∷ []) a = absurd (a .1)
-  agree-filed era n n′ image e (x ∷ y ∷ xs) (w ∷ v ∷ ws) a =
+  agree-filed era n n′ day day′ image e o (x ∷ []) (w ∷ v ∷ ws) a = absurd (a .1)
+  agree-filed era n n′ day day′ image e o (x ∷ y ∷ xs) (w ∷ []) a = absurd (a .1)
+  agree-filed era n n′ day day′ image e o (x ∷ y ∷ xs) (w ∷ v ∷ ws) a =
       let f = a .0 in
-      (record { number = f .number; size = f .size; image = f .image; shared = f .shared }, agree-filed era n n′ image e (y ∷ xs) (v ∷ ws) (a .1))
+      (record { number = f .number; size = f .size; dated = f .dated; image = f .image; shared = f .shared }, agree-filed era n n′ day day′ image e o (y ∷ xs) (v ∷ ws) (a .1))
 
-  pub till-filed : (era : Era) (y : KeptTill) (w : TillView) (image : List ℕ) → AgreeTill bytes y w → AgreeTill bytes (filed y image) (shownWith era bytes w image)
+  -- the day of a new version
+  agree-newest-day : (xs : List Kept) (ws : List VersionView) → Agree bytes xs ws → newestDayShown ws ≡ newestDayKept xs
+  unfolding newestDayShown newestDayKept
+  agree-newest-day [] [] a = refl
+  agree-newest-day [] (w ∷ ws) a = absurd a
+  agree-newest-day (x ∷ xs) [] a = absurd a
+  agree-newest-day (x ∷ []) (w ∷ []) a = a .0 .dated
+  agree-newest-day (x ∷ []) (w ∷ v ∷ ws) a = absurd (a .1)
+  agree-newest-day (x ∷ y ∷ xs) (w ∷ []) a = absurd (a .1)
+  agree-newest-day (x ∷ y ∷ xs) (w ∷ v ∷ ws) a = agree-newest-day (y ∷ xs) (v ∷ ws) (a .1)
+
+  agree-day : (d : Option ℕ) (xs : List Kept) (ws : List VersionView) → Agree bytes xs ws → dayShown d ws ≡ dayKept d xs
+  unfolding dayShown dayKept
+  agree-day none xs ws a = agree-newest-day xs ws a
+  agree-day (some day) xs ws a = refl
+
+  pub till-filed : (era : Era) (y : KeptTill) (w : TillView) (d : Option ℕ) (image : List ℕ) → AgreeTill bytes y w → AgreeTill bytes (filed y d image) (shownWith era bytes w d image)
   unfolding filed shownWith
-  till-filed era y w image a = (ap suc (a .0), agree-filed era (suc (w .last)) (suc (y .last)) image (ap suc (a .0)) (y .versions) (w .versions) (a .1))
+  till-filed era y w d image a = (
+    ap suc (a .0),
+    agree-filed era (suc (w .last)) (suc (y .last)) (dayShown d (w .versions)) (dayKept d (y .versions)) image (ap suc (a .0)) (agree-day d (y .versions) (w .versions) (a .1)) (y .versions)
+        (w .versions) (a .1),
+  )
 
   -- ---- a version is struck
 
@@ -178,6 +201,7 @@ module _ (bytes : ℕ) where
       older l = unfold withKinds in record {
         number = a .0 .number;
         size = a .0 .size;
+        dated = a .0 .dated;
         image = a .0 .image;
         shared = skip-shared x y xs (u .kinds) (map (takeOverKind (u .kinds)) (w .kinds)) (a .1 .0 .shared) l;
       }
@@ -188,7 +212,7 @@ module _ (bytes : ℕ) where
       go true p q′ q l h h′ ih = subst (λ (k : List Kept). Agree bytes k (u ∷ ws)) (sym (same p h)) (a .1)
       go false p true q l h h′ ih = subst (λ (k : List Kept). Agree bytes (x ∷ k) (withKinds w (map (takeOverKind (u .kinds)) (w .kinds)) ∷ ws)) (sym (gone q h′)) (older l, a .1 .1)
       go false p false q l h h′ ih =
-          (subst (λ (k : List Kept). Shows bytes x k w) (sym (stay q)) (record { number = a .0 .number; size = a .0 .size; image = a .0 .image; shared = a .0 .shared }), ih)
+          (subst (λ (k : List Kept). Shows bytes x k w) (sym (stay q)) (record { number = a .0 .number; size = a .0 .size; dated = a .0 .dated; image = a .0 .image; shared = a .0 .shared }), ih)
 
   pub till-struck : (y : KeptTill) (w : TillView) (v : ℕ) → AgreeTill bytes y w → rises 0 (w .last) (map (λ (u : VersionView). u .number) (w .versions)) ≡ true
       → AgreeTill bytes (struckOut y v) (shownWithout w v)
@@ -197,6 +221,12 @@ module _ (bytes : ℕ) where
       (a .0, agree-struck v (w .last) (y .versions) (w .versions) (a .1) 0 (ap (rises 0 (w .last)) (sym (agree-numbers (y .versions) (w .versions) (a .1))) ∙ h))
 
   -- ---- what follows
+
+  pub agree-days : (xs : List Kept) (ws : List VersionView) → Agree bytes xs ws → map (λ (w : VersionView). w .day) ws ≡ map (λ (x : Kept). x .day) xs
+  agree-days [] [] a = refl
+  agree-days [] (w ∷ ws) a = absurd a
+  agree-days (x ∷ xs) [] a = absurd a
+  agree-days (x ∷ xs) (w ∷ ws) a = ap₂ _∷_ (a .0 .dated) (agree-days xs ws (a .1))
 
   pub agree-from : (v : ℕ) (xs : List Kept) (ws : List VersionView) → Agree bytes xs ws → Agree bytes (keptFrom v xs) (shownFrom v ws)
   unfolding keptFrom shownFrom

@@ -17,6 +17,7 @@ pub mod Chains
 pub mod Cells
 pub mod Bullets
 pub mod Answered
+pub mod Days
 pub mod Streams
 pub mod Apart
 pub mod Demand

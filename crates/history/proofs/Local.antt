@@ -16,11 +16,11 @@ use Rattle.model.specs.Records.{isFree, equals}
 use Rattle.model.specs.Runs.{Run, findRun}
 use Rattle.model.specs.Place.{Placed, stored, writeRun, writeRecord, shareOrWrite, placeSegment, afterSome, placeNext, placeAll}
 use Rattle.model.specs.Trace.{imageOf}
-use Rattle.model.specs.Calls.{tillOf, heldFrom, restoreFrom, restoreRefusal, restore, heldBefore, retireFrom, retire, fileIn, placeAndFile, backup, listTill, listingRefusal, listingIn, RestoreAnswer, After, firstOf, notHeld, lookUp, outcomeRefusal, outcomeNumber}
+use Rattle.model.specs.Calls.{tillOf, heldFrom, restoreFrom, restoreRefusal, restore, heldBefore, retireFrom, retire, newestDay, dayFor, VersionOnAnswer, notAfter, versionOnIn, fileIn, placeAndFile, backup, listTill, listingRefusal, listingIn, RestoreAnswer, After, firstOf, notHeld, lookUp, outcomeRefusal, outcomeNumber}
 use Rattle.stream.specs.Version.{longestOutput, writeRestored, writeVersion}
-use Rattle.history.specs.Calls.{Call, callLayout, callBackup, callRestore, callRetire, callListing, callTally, callWriteStream, callOffer, callBackupSent, callBackupAll, Answer, backedUp, restored, retired, listed, streamed, answerIn}
-use Rattle.history.specs.View.{VersionView, viewVersions, viewOf, viewAt, isOnTill, tillNamed, shownFrom, restoreShown, retireShown, answerShown}
-use Rattle.history.proofs.Shown.{views-length, oldest-is, newest-is, from-same, chain-is}
+use Rattle.history.specs.Calls.{Call, callLayout, callBackup, callRestore, callRetire, callListing, callVersionOn, callTally, callWriteStream, callOffer, callBackupSent, callBackupAll, Answer, backedUp, restored, retired, listed, foundOn, streamed, answerIn}
+use Rattle.history.specs.View.{VersionView, viewVersions, viewOf, viewAt, isOnTill, tillNamed, shownFrom, shownNotAfter, restoreShown, retireShown, answerShown}
+use Rattle.history.proofs.Shown.{views-length, newest-day-is, day-is, newest-or-none, oldest-is, newest-is, from-same, chain-is}
 
 -- ---- step 1 refuses with 14 or 16
 
@@ -70,44 +70,69 @@ Roomy a = (a ≡ backedUp 14 0 → ⊥) × (a ≡ backedUp 16 0 → ⊥)
 abbrev answerFrom : Outcome After → Answer
 answerFrom o = backedUp (outcomeRefusal o) (outcomeNumber o)
 
-file-answer : (era : Era) (s : Shape) (st : State) (t : ℕ) (image : List ℕ) (blocks : List Block) (till : Till) (o : Outcome Placed) → NoRoom o
-    → Roomy (answerFrom (fileIn era s st t image blocks till o)) → answerFrom (fileIn era s st t image blocks till o) ≡ backedUp 0 (suc (till .last))
+file-answer : (era : Era) (s : Shape) (st : State) (t day : ℕ) (image : List ℕ) (blocks : List Block) (till : Till) (o : Outcome Placed) → NoRoom o
+    → Roomy (answerFrom (fileIn era s st t day image blocks till o)) → answerFrom (fileIn era s st t day image blocks till o) ≡ backedUp 0 (suc (till .last))
 unfolding fileIn outcomeRefusal outcomeNumber
-file-answer era s st t image blocks till (refused n) (inl e) r = absurd (r .0 (ap (λ (k : ℕ). backedUp k 0) e))
-file-answer era s st t image blocks till (refused n) (inr e) r = absurd (r .1 (ap (λ (k : ℕ). backedUp k 0) e))
-file-answer era s st t image blocks till (done p) h r = refl
+file-answer era s st t day image blocks till (refused n) (inl e) r = absurd (r .0 (ap (λ (k : ℕ). backedUp k 0) e))
+file-answer era s st t day image blocks till (refused n) (inr e) r = absurd (r .1 (ap (λ (k : ℕ). backedUp k 0) e))
+file-answer era s st t day image blocks till (done p) h r = refl
 
-backup-shown : (era : Era) (s : Shape) (st : State) (t : ℕ) (image : List ℕ) → Roomy (answerFrom (backup era s st t image))
-    → answerFrom (backup era s st t image) ≡ answerShown s (viewAt (s .measures .blockBytes) st t) (callBackup era t image)
-unfolding answerShown backup viewOf
-backup-shown era s st t image =
-    subst (λ (n : ℕ). Is (cond none (backedUp 3 0) (cond size (backedUp 4 0) (cond (leb (s .capacities .versions) n) (backedUp 11 0) (cond top (backedUp 12 0) (backedUp 0 (suc (tillOf st t .last)))))))
-    (cond none (refused 3) (cond size (refused 4) (cond (leb (s .capacities .versions) (length (tillOf st t .versions))) (refused 11) (cond top (refused 12) (placeAndFile era s st t image (tillOf st t)))))))
-    (sym (views-length (s .measures .blockBytes) (st .shelf) (tillOf st t .versions)))
-    (step none 3 _ _ (step size 4 _ _ (step (leb (s .capacities .versions) (length (tillOf st t .versions))) 11 _ _ (step top 12 _ _ filed))))
+-- a backup's refusals in their order, and what it answers or comes to where there is none
+abbrev shownIf : Bool → Bool → Bool → Bool → Bool → Answer → Answer
+shownIf gone size full top early a = cond gone (backedUp 3 0) (cond size (backedUp 4 0) (cond full (backedUp 11 0) (cond top (backedUp 12 0) (cond early (backedUp 28 0) a))))
+
+abbrev outcomeIf : Bool → Bool → Bool → Bool → Bool → Outcome After → Outcome After
+outcomeIf gone size full top early o = cond gone (refused 3) (cond size (refused 4) (cond full (refused 11) (cond top (refused 12) (cond early (refused 28) o))))
+
+abbrev Is : Answer → Outcome After → Type 0
+Is a o = Roomy (answerFrom o) → answerFrom o ≡ a
+
+in-order : (gone size full top early : Bool) (a : Answer) (o : Outcome After) → Is a o → Is (shownIf gone size full top early a) (outcomeIf gone size full top early o)
+in-order gone size full top early a o h = step gone 3 _ _ (step size 4 _ _ (step full 11 _ _ (step top 12 _ _ (step early 28 _ _ h))))
   where
-    none : Bool
-    none = leb (s .capacities .tills) t
+    step : (b : Bool) (n : ℕ) (o : Outcome After) (a : Answer) → Is a o → Is (cond b (backedUp n 0) a) (cond b (refused n) o)
+    step true n o a h r = unfold outcomeRefusal outcomeNumber in refl
+    step false n o a h r = h r
+
+backup-shown : (era : Era) (s : Shape) (st : State) (t : ℕ) (d : Option ℕ) (image : List ℕ) → Roomy (answerFrom (backup era s st t d image))
+    → answerFrom (backup era s st t d image) ≡ answerShown s (viewAt (s .measures .blockBytes) st t) (callBackup era t d image)
+unfolding answerShown backup viewOf
+backup-shown era s st t d image =
+    subst
+    (λ (e : Bool). Is (shownIf gone size (leb (s .capacities .versions) (length (viewVersions (s .measures .blockBytes) (st .shelf) (tillOf st t .versions)))) top e given)
+    (outcomeIf gone size full top early (placeAndFile era s st t day image (tillOf st t))))
+    (ap₂ ltb (day-is (s .measures .blockBytes) (st .shelf) d (tillOf st t .versions)) (newest-day-is (s .measures .blockBytes) (st .shelf) (tillOf st t .versions)))
+    (subst (λ (n : ℕ). Is (shownIf gone size (leb (s .capacities .versions) n) top early given) (outcomeIf gone size full top early (placeAndFile era s st t day image (tillOf st t))))
+    (sym (views-length (s .measures .blockBytes) (st .shelf) (tillOf st t .versions)))
+    (in-order gone size full top early given (placeAndFile era s st t day image (tillOf st t)) filed))
+  where
+    day : ℕ
+    day = dayFor d (tillOf st t .versions)
+
+    gone : Bool
+    gone = leb (s .capacities .tills) t
 
     size : Bool
     size = eqb (length image) 0 || ltb (s .measures .blockBytes * s .capacities .blocks) (length image)
 
+    full : Bool
+    full = leb (s .capacities .versions) (length (tillOf st t .versions))
+
     top : Bool
     top = eqb (tillOf st t .last) 65535
 
-    Is : Answer → Outcome After → Type 0
-    Is a o = Roomy (answerFrom o) → answerFrom o ≡ a
+    early : Bool
+    early = ltb day (newestDay (tillOf st t .versions))
 
-    filed : Is (backedUp 0 (suc (tillOf st t .last))) (placeAndFile era s st t image (tillOf st t))
+    given : Answer
+    given = backedUp 0 (suc (tillOf st t .last))
+
+    filed : Is given (placeAndFile era s st t day image (tillOf st t))
     filed =
         unfold placeAndFile in
-        file-answer era s st t image (imageBlocks (s .measures .blockBytes) image) (tillOf st t)
+        file-answer era s st t day image (imageBlocks (s .measures .blockBytes) image) (tillOf st t)
         (placeAll era (done (record { shelf = st .shelf; pointers = [] })) (imageSegments (s .measures .blockBytes) (s .measures .segmentBlocks) image))
         (all-room era (done (record { shelf = st .shelf; pointers = [] })) (imageSegments (s .measures .blockBytes) (s .measures .segmentBlocks) image) tt)
-
-    step : (b : Bool) (n : ℕ) (o : Outcome After) (a : Answer) → Is a o → Is (cond b (backedUp n 0) a) (cond b (refused n) o)
-    step true n o a h r = unfold outcomeRefusal outcomeNumber in refl
-    step false n o a h r = h r
 
 -- a restore, from what the till shows
 restore-view : (s : Shape) (st : State) (t v : ℕ) (output : List ℕ)
@@ -164,13 +189,21 @@ listing-shown s st t =
     ap₂ (λ (o n : ℕ). listed (cond (leb (s .capacities .tills) t) (listingRefusal 3) (record { refusal = 0; oldest = o; newest = n; last = tillOf st t .last })))
     (oldest-is (s .measures .blockBytes) (st .shelf) (tillOf st t .versions)) (newest-is (s .measures .blockBytes) (st .shelf) (tillOf st t .versions))
 
+found-shown : (s : Shape) (st : State) (t day : ℕ)
+    → foundOn (versionOnIn (some (record { shape = s; state = st })) t day) ≡ answerShown s (viewAt (s .measures .blockBytes) st t) (callVersionOn t day)
+unfolding versionOnIn notAfter answerShown shownNotAfter viewOf
+found-shown s st t day =
+    ap (λ (a : VersionOnAnswer). foundOn (cond (leb (s .capacities .tills) t) (record { refusal = 3; version = 0 }) a))
+    (newest-or-none (s .measures .blockBytes) (st .shelf) day (tillOf st t .versions))
+
 -- a backup that is answered 14 or 16
 abbrev pub HasRoom : Call → Answer → Type 0
 HasRoom (callLayout c) a = Unit {0}
-HasRoom (callBackup era t image) a = Roomy a
+HasRoom (callBackup era t d image) a = Roomy a
 HasRoom (callRestore t v output) a = Unit {0}
 HasRoom (callRetire t v) a = Unit {0}
 HasRoom (callListing t) a = Unit {0}
+HasRoom (callVersionOn t day) a = Unit {0}
 HasRoom callTally a = Unit {0}
 HasRoom (callWriteStream t v output) a = Unit {0}
 HasRoom (callOffer t fs ms) a = Unit {0}
@@ -182,10 +215,11 @@ pub answer-in : (s : Shape) (st : State) (call : Call) → isOnTill call ≡ tru
     → answerIn s st call ≡ answerShown s (viewAt (s .measures .blockBytes) st (tillNamed call)) call
 unfolding answerIn tillNamed
 answer-in s st (callLayout c) on room = absurd (false≢true on)
-answer-in s st (callBackup era t image) on room = backup-shown era s st t image room
+answer-in s st (callBackup era t d image) on room = backup-shown era s st t d image room
 answer-in s st (callRestore t v output) on room = restore-shown s st t v output
 answer-in s st (callRetire t v) on room = retire-shown s st t v
 answer-in s st (callListing t) on room = listing-shown s st t
+answer-in s st (callVersionOn t day) on room = found-shown s st t day
 answer-in s st callTally on room = absurd (false≢true on)
 answer-in s st (callWriteStream t v output) on room = stream-shown s st t v output
 answer-in s st (callOffer t fs ms) on room = absurd (false≢true on)

@@ -14,7 +14,7 @@ use Rattle.model.specs.Records.{isFree, equals}
 use Rattle.model.specs.Runs.{Run, findRun}
 use Rattle.model.specs.Place.{Placed, stored, writeRun, writeRecord, shareOrWrite, placeSegment, afterSome, placeNext, placeAll}
 use Rattle.laws.proofs.Tills.{not-held-some}
-use Rattle.model.specs.Calls.{tillOf, heldFrom, heldBefore, retireFrom, fileIn, placeAndFile, backup, retire, firstOf, notHeld, lookUp}
+use Rattle.model.specs.Calls.{tillOf, heldFrom, heldBefore, retireFrom, newestDay, dayFor, fileIn, placeAndFile, backup, retire, firstOf, notHeld, lookUp}
 
 abbrev pub Numbered : {A : Type 0} → Outcome A → Type 0
 Numbered (refused n) = 0 < n
@@ -53,19 +53,20 @@ unfolding placeAll
 all-numbered era o [] h = h
 all-numbered era o (seg ∷ segs) h = all-numbered era (placeNext era o seg) segs (next-numbered era o seg h)
 
-pub backup-numbered : (era : Era) (s : Shape) (st : State) (t : ℕ) (image : List ℕ) → Numbered (backup era s st t image)
+pub backup-numbered : (era : Era) (s : Shape) (st : State) (t : ℕ) (d : Option ℕ) (image : List ℕ) → Numbered (backup era s st t d image)
 unfolding backup placeAndFile
-backup-numbered era s st t image =
+backup-numbered era s st t d image =
     by-test Numbered (leb (s .capacities .tills) t) (λ e. lit< tt)
     (λ e. by-test Numbered (eqb (length image) 0 || ltb (s .measures .blockBytes * s .capacities .blocks) (length image)) (λ e. lit< tt)
     (λ e. by-test Numbered (leb (s .capacities .versions) (length (tillOf st t .versions))) (λ e. lit< tt)
     (λ e. by-test Numbered (eqb (tillOf st t .last) 65535) (λ e. lit< tt)
-    (λ e. go (placeAll era (done (record { shelf = st .shelf; pointers = [] })) (imageSegments (s .measures .blockBytes) (s .measures .segmentBlocks) image))
-    (all-numbered era (done (record { shelf = st .shelf; pointers = [] })) (imageSegments (s .measures .blockBytes) (s .measures .segmentBlocks) image) tt)))))
+    (λ e. by-test Numbered (ltb (dayFor d (tillOf st t .versions)) (newestDay (tillOf st t .versions))) (λ e. lit< tt)
+    (λ e. go (dayFor d (tillOf st t .versions)) (placeAll era (done (record { shelf = st .shelf; pointers = [] })) (imageSegments (s .measures .blockBytes) (s .measures .segmentBlocks) image))
+    (all-numbered era (done (record { shelf = st .shelf; pointers = [] })) (imageSegments (s .measures .blockBytes) (s .measures .segmentBlocks) image) tt))))))
   where
-    go : (o : Outcome Placed) → Numbered o → Numbered (fileIn era s st t image (imageBlocks (s .measures .blockBytes) image) (tillOf st t) o)
-    go (refused n) h = unfold fileIn in h
-    go (done p) h = unfold fileIn in tt
+    go : (day : ℕ) (o : Outcome Placed) → Numbered o → Numbered (fileIn era s st t day image (imageBlocks (s .measures .blockBytes) image) (tillOf st t) o)
+    go day (refused n) h = unfold fileIn in h
+    go day (done p) h = unfold fileIn in tt
 
 pub retire-numbered : (s : Shape) (st : State) (t v : ℕ) → Numbered (retire s st t v)
 unfolding retire lookUp

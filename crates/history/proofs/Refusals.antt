@@ -9,7 +9,7 @@ use Rattle.lists.proofs.Tests.{by-test}
 use Rattle.model.specs.Measures.{Shape}
 use Rattle.model.specs.State.{Shelf, Version, Outcome, refused, done}
 use Rattle.model.specs.Sound.{Store, storeOf}
-use Rattle.model.specs.Calls.{layoutOf, backup, backupIn, backupBy, backupAnswer, restore, restoreFrom, restoreIn, restoreOf, restoreRefusal, RestoreAnswer, heldFrom, tillOf, retire, retireIn, retireOf, retireAnswer, listingIn, listingOf, listingRefusal, listTill, ListingAnswer, tallyIn, tallyOf, After, Lookup, found, missing, lookUp}
+use Rattle.model.specs.Calls.{layoutOf, backup, backupIn, backupBy, backupAnswer, restore, restoreFrom, restoreIn, restoreOf, restoreRefusal, RestoreAnswer, heldFrom, tillOf, retire, retireIn, retireOf, retireAnswer, VersionOnAnswer, notAfter, newestOrNone, versionOnIn, versionOnOf, listingIn, listingOf, listingRefusal, listTill, ListingAnswer, tallyIn, tallyOf, After, Lookup, found, missing, lookUp}
 use Rattle.laws.proofs.Empty.{layout-refused}
 use Rattle.sha1.specs.Sha1.{sha1}
 use Rattle.closing.specs.Closing.{Closed, allRefused, allAnswer, backupAll, backupAllAnswer, backupAllIn, backupAllOf}
@@ -17,7 +17,7 @@ use Rattle.sent.specs.Sent.{OfferAnswer, offer, offerAnswer, offerIn, offerOf, 
 use Rattle.stream.specs.Stream.{StreamAnswer}
 use Rattle.stream.specs.Version.{writeStreamOf}
 use Rattle.stream_laws.proofs.Theorems.{claims}
-use Rattle.history.specs.Calls.{Call, callLayout, callBackup, callRestore, callRetire, callListing, callTally, callWriteStream, callOffer, callBackupSent, callBackupAll, Buffers, refusalOf, buffersAfter, Answer, laidOut, backedUp, restored, retired, listed, tallied, streamed, offered, backedUpAll, answerOf}
+use Rattle.history.specs.Calls.{Call, callLayout, callBackup, callRestore, callRetire, callListing, callVersionOn, callTally, callWriteStream, callOffer, callBackupSent, callBackupAll, Buffers, refusalOf, buffersAfter, Answer, laidOut, backedUp, restored, retired, listed, foundOn, tallied, streamed, offered, backedUpAll, answerOf}
 
 same-buffers : (b : Buffers) (pool table : List ℕ) → pool ≡ b .pool → table ≡ b .table → record { pool = pool; table = table } ≡ b
 same-buffers b pool table p q = λ i. record { pool = p i; table = q i }
@@ -33,12 +33,12 @@ pub alters-nothing : (b : Buffers) (call : Call) → ¬ (refusalOf b call ≡ 0)
 unfolding refusalOf buffersAfter
 alters-nothing b (callLayout c) h =
     unfold layoutOf in (let r = layout-refused _ _ _ (b .pool) (b .table) h in same-buffers b _ _ (r .0) (r .1))
-alters-nothing b (callBackup era t image) h = unfold backupBy in go (storeOf (b .pool) (b .table)) h
+alters-nothing b (callBackup era t d image) h = unfold backupBy in go (storeOf (b .pool) (b .table)) h
   where
-    go : (o : Option Store) → ¬ (backupIn era o (b .pool) (b .table) t image .refusal ≡ 0)
-        → record { pool = backupIn era o (b .pool) (b .table) t image .pool; table = backupIn era o (b .pool) (b .table) t image .table } ≡ b
+    go : (o : Option Store) → ¬ (backupIn era o (b .pool) (b .table) t d image .refusal ≡ 0)
+        → record { pool = backupIn era o (b .pool) (b .table) t d image .pool; table = backupIn era o (b .pool) (b .table) t d image .table } ≡ b
     go none h = unfold backupIn in refl
-    go (some x) h = unfold backupIn in backup-alters b (x .shape) (backup era (x .shape) (x .state) t image) h
+    go (some x) h = unfold backupIn in backup-alters b (x .shape) (backup era (x .shape) (x .state) t d image) h
 alters-nothing b (callRestore t v output) h = refl
 alters-nothing b (callRetire t v) h = unfold retireOf in go (storeOf (b .pool) (b .table)) h
   where
@@ -52,6 +52,7 @@ alters-nothing b (callRetire t v) h = unfold retireOf in go (storeOf (b .pool) (
     go none h = unfold retireIn in refl
     go (some x) h = unfold retireIn in one (x .shape) (retire (x .shape) (x .state) t v) h
 alters-nothing b (callListing t) h = refl
+alters-nothing b (callVersionOn t day) h = refl
 alters-nothing b callTally h = refl
 alters-nothing b (callWriteStream t v output) h = refl
 alters-nothing b (callOffer t fs ms) h = refl
@@ -76,10 +77,11 @@ alters-nothing b (callBackupAll ts ns is) h = unfold backupAllOf in go (storeOf 
 -- the answer of a refusal
 unfoldable pub refusedWith : ℕ → Call → Answer
 refusedWith n (callLayout c) = laidOut n
-refusedWith n (callBackup era t image) = backedUp n 0
+refusedWith n (callBackup era t d image) = backedUp n 0
 refusedWith n (callRestore t v output) = restored (record { refusal = n; length = 0; hops = 0; output = output })
 refusedWith n (callRetire t v) = retired n 0
 refusedWith n (callListing t) = listed (record { refusal = n; oldest = 0; newest = 0; last = 0 })
+refusedWith n (callVersionOn t day) = foundOn (record { refusal = n; version = 0 })
 refusedWith n callTally = tallied (record { refusal = n; cells = 0; records = 0; counts = 0 })
 refusedWith n (callWriteStream t v output) = streamed (record { refusal = n; length = 0; output = output })
 refusedWith n (callOffer t fs ms) = offered (record { refusal = n; marks = ms })
@@ -109,6 +111,19 @@ unfolding listingIn listingRefusal listTill
 listing-zero t none = λ h. refl
 listing-zero t (some x) = by-test ZeroListing (leb (x .shape .capacities .tills) t) (λ e h. refl) (λ e h. absurd (h refl))
 
+abbrev ZeroFound : VersionOnAnswer → Type 0
+ZeroFound r = ¬ (r .refusal ≡ 0) → r ≡ record { refusal = r .refusal; version = 0 }
+
+newest-zero : (vs : List Version) → ZeroFound (newestOrNone vs)
+unfolding newestOrNone
+newest-zero [] = λ h. refl
+newest-zero (v ∷ vs) = λ h. absurd (h refl)
+
+found-zero : (t day : ℕ) (o : Option Store) → ZeroFound (versionOnIn o t day)
+unfolding versionOnIn
+found-zero t day none = λ h. refl
+found-zero t day (some x) = by-test ZeroFound (leb (x .shape .capacities .tills) t) (λ e h. refl) (λ e. newest-zero (notAfter day (tillOf (x .state) t .versions)))
+
 backup-zero : (b : Buffers) (s : Shape) (o : Outcome After) → ¬ (backupAnswer (b .pool) (b .table) s o .refusal ≡ 0)
     → backedUp (backupAnswer (b .pool) (b .table) s o .refusal) (backupAnswer (b .pool) (b .table) s o .version) ≡ backedUp (backupAnswer (b .pool) (b .table) s o .refusal) 0
 unfolding backupAnswer
@@ -130,12 +145,12 @@ offer-zero t fs ms (some x) = go (offer sha1 (x .shape) (x .state) t fs ms)
 pub answers-number-only : (b : Buffers) (call : Call) → ¬ (refusalOf b call ≡ 0) → answerOf b call ≡ refusedWith (refusalOf b call) call
 unfolding refusalOf answerOf refusedWith
 answers-number-only b (callLayout c) h = refl
-answers-number-only b (callBackup era t image) h = unfold backupBy in go (storeOf (b .pool) (b .table)) h
+answers-number-only b (callBackup era t d image) h = unfold backupBy in go (storeOf (b .pool) (b .table)) h
   where
-    go : (o : Option Store) → ¬ (backupIn era o (b .pool) (b .table) t image .refusal ≡ 0)
-        → backedUp (backupIn era o (b .pool) (b .table) t image .refusal) (backupIn era o (b .pool) (b .table) t image .version) ≡ backedUp (backupIn era o (b .pool) (b .table) t image .refusal) 0
+    go : (o : Option Store) → ¬ (backupIn era o (b .pool) (b .table) t d image .refusal ≡ 0)
+        → backedUp (backupIn era o (b .pool) (b .table) t d image .refusal) (backupIn era o (b .pool) (b .table) t d image .version) ≡ backedUp (backupIn era o (b .pool) (b .table) t d image .refusal) 0
     go none h = unfold backupIn in refl
-    go (some x) h = unfold backupIn in backup-zero b (x .shape) (backup era (x .shape) (x .state) t image) h
+    go (some x) h = unfold backupIn in backup-zero b (x .shape) (backup era (x .shape) (x .state) t d image) h
 answers-number-only b (callRestore t v output) h = unfold restoreOf in ap restored (restore-zero t v output (storeOf (b .pool) (b .table)) h)
 answers-number-only b (callRetire t v) h = unfold retireOf in go (storeOf (b .pool) (b .table)) h
   where
@@ -149,6 +164,7 @@ answers-number-only b (callRetire t v) h = unfold retireOf in go (storeOf (b .po
     go none h = unfold retireIn in refl
     go (some x) h = unfold retireIn in one (x .shape) (retire (x .shape) (x .state) t v) h
 answers-number-only b (callListing t) h = unfold listingOf in ap listed (listing-zero t (storeOf (b .pool) (b .table)) h)
+answers-number-only b (callVersionOn t day) h = unfold versionOnOf in ap foundOn (found-zero t day (storeOf (b .pool) (b .table)) h)
 answers-number-only b callTally h = unfold tallyOf in ap tallied (go (storeOf (b .pool) (b .table)) h)
   where
     go : (o : Option Store) → ¬ (tallyIn o .refusal ≡ 0) → tallyIn o ≡ record { refusal = tallyIn o .refusal; cells = 0; records = 0; counts = 0 }

@@ -2,21 +2,55 @@
 use mathlib.Core.Path.{_≡_, refl, ap, _∙_, sym, subst}
 use mathlib.Core.Bool.{Bool, true, false, cond}
 use mathlib.Core.List.{List, [], _∷_, map}
+use mathlib.Core.Option.{Option, none, some}
 use Prim.Native.Nat.{ℕ, suc}
 use lib.ListN.{length, getD, length-map, List·getD-map, List·getD-eq-default}
-use lib.Dec.{eqb, ltb}
+use lib.Dec.{eqb, ltb, leb}
 use borrow.Author.Tests.{ltb-true, ltb-false}
-use Rattle.lists.specs.Lists.{counted, largest, rises}
+use Rattle.lists.specs.Lists.{counted, keep, largest, rises}
 use Rattle.lists.proofs.Counted.{counted-same}
+use Rattle.lists.proofs.Keep.{keep-same}
 use Rattle.lists.proofs.Tests.{clause, every-at}
 use Rattle.model.specs.Measures.{Shape}
 use Rattle.model.specs.State.{Pointer, nullPointer, blankPointer, direct, indirect, Shelf, Version, Till, State}
 use Rattle.model.specs.Trace.{imageOf, hopsVia, hops, longestChain}
 use Rattle.model.specs.Sound.{isSound, isTill, isNumbered}
-use Rattle.model.specs.Calls.{emptyTill, tillOf, heldFrom, oldestNumber, newestNumber}
+use Rattle.model.specs.Calls.{emptyTill, tillOf, heldFrom, oldestNumber, newestNumber, newestDay, dayFor, VersionOnAnswer, notAfter, newestOrNone}
 use Rattle.laws.proofs.Serves.{sound-valid}
 use Rattle.history.specs.Kinds.{Kind, kindOf, hopsOfKind}
-use Rattle.history.specs.View.{VersionView, viewVersions, viewOf, viewAt, hopsShown, chainShown, shownFrom, oldestShown, newestShown}
+use Rattle.history.specs.View.{VersionView, viewVersions, viewOf, viewAt, hopsShown, chainShown, shownFrom, oldestShown, newestShown, newestDayShown, dayShown, shownNotAfter, newestShownOrNone}
+
+-- the last of the numbers that are there, or 29
+unfoldable pub lastOf : List ℕ → ℕ
+lastOf [] = 0
+lastOf (n ∷ []) = n
+lastOf (n ∷ m ∷ ns) = lastOf (m ∷ ns)
+
+unfoldable pub newestOf : List ℕ → VersionOnAnswer
+newestOf [] = record { refusal = 29; version = 0 }
+newestOf (n ∷ ns) = record { refusal = 0; version = lastOf (n ∷ ns) }
+
+newest-number : (vs : List Version) → newestNumber vs ≡ lastOf (map (λ (v : Version). v .number) vs)
+unfolding newestNumber lastOf
+newest-number [] = refl
+newest-number (v ∷ []) = refl
+newest-number (v ∷ w ∷ vs) = newest-number (w ∷ vs)
+
+newest-shown : (ws : List VersionView) → newestShown ws ≡ lastOf (map (λ (w : VersionView). w .number) ws)
+unfolding newestShown lastOf
+newest-shown [] = refl
+newest-shown (w ∷ []) = refl
+newest-shown (w ∷ x ∷ ws) = newest-shown (x ∷ ws)
+
+of-versions : (vs : List Version) → newestOrNone vs ≡ newestOf (map (λ (v : Version). v .number) vs)
+unfolding newestOrNone newestOf
+of-versions [] = refl
+of-versions (v ∷ vs) = ap (λ (n : ℕ). record { refusal = 0; version = n }) (newest-number (v ∷ vs))
+
+pub of-views : (ws : List VersionView) → newestShownOrNone ws ≡ newestOf (map (λ (w : VersionView). w .number) ws)
+unfolding newestShownOrNone newestOf
+of-views [] = refl
+of-views (w ∷ ws) = ap (λ (n : ℕ). record { refusal = 0; version = n }) (newest-shown (w ∷ ws))
 
 module _ (bytes : ℕ) (a : Shelf) where
   pub views-numbers : (vs : List Version) → map (λ (w : VersionView). w .number) (viewVersions bytes a vs) ≡ map (λ (v : Version). v .number) vs
@@ -40,13 +74,39 @@ module _ (bytes : ℕ) (a : Shelf) where
   newest-is (v ∷ []) = refl
   newest-is (v ∷ w ∷ vs) = newest-is (w ∷ vs)
 
+  pub newest-day-is : (vs : List Version) → newestDay vs ≡ newestDayShown (viewVersions bytes a vs)
+  unfolding newestDay newestDayShown viewVersions
+  newest-day-is [] = refl
+  newest-day-is (v ∷ []) = refl
+  newest-day-is (v ∷ w ∷ vs) = newest-day-is (w ∷ vs)
+
+  pub day-is : (d : Option ℕ) (vs : List Version) → dayFor d vs ≡ dayShown d (viewVersions bytes a vs)
+  unfolding dayFor dayShown
+  day-is none vs = newest-day-is vs
+  day-is (some day) vs = refl
+
+  pub views-days : (vs : List Version) → map (λ (w : VersionView). w .day) (viewVersions bytes a vs) ≡ map (λ (v : Version). v .day) vs
+  unfolding viewVersions
+  views-days [] = refl
+  views-days (v ∷ vs) = ap {B = List ℕ} (λ l. v .day ∷ l) (views-days vs)
+
+  -- lookup by day goes by numbers and days
+  pub newest-or-none : (day : ℕ) (vs : List Version) → newestOrNone (notAfter day vs) ≡ newestShownOrNone (shownNotAfter day (viewVersions bytes a vs))
+  unfolding notAfter shownNotAfter
+  newest-or-none day vs =
+      of-versions (keep (λ (v : Version). leb (v .day) day) vs)
+      ∙ ap newestOf
+      (keep-same (λ (n : ℕ). leb n day) (λ (v : Version). v .day) (λ (v : Version). v .number) (λ (w : VersionView). w .day) (λ (w : VersionView). w .number) vs (viewVersions bytes a vs)
+      (sym (views-days vs)) (sym (views-numbers vs)))
+      ∙ sym (of-views (keep (λ (w : VersionView). leb (w .day) day) (viewVersions bytes a vs)))
+
   pub from-same : (n : ℕ) (vs : List Version) → shownFrom n (viewVersions bytes a vs) ≡ viewVersions bytes a (heldFrom n vs)
   unfolding shownFrom viewVersions heldFrom
   from-same n [] = refl
   from-same n (v ∷ vs) = go (eqb (v .number) n) (from-same n vs)
     where
       go : (t : Bool) → shownFrom n (viewVersions bytes a vs) ≡ viewVersions bytes a (heldFrom n vs)
-          → cond t (record { number = v .number; length = v .length; image = imageOf bytes a (v ∷ vs); kinds = map kindOf (v .pointers) } ∷ viewVersions bytes a vs)
+          → cond t (record { number = v .number; length = v .length; day = v .day; image = imageOf bytes a (v ∷ vs); kinds = map kindOf (v .pointers) } ∷ viewVersions bytes a vs)
           (shownFrom n (viewVersions bytes a vs)) ≡ viewVersions bytes a (cond t (v ∷ vs) (heldFrom n vs))
       go true e = refl
       go false e = e

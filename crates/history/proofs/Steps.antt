@@ -9,7 +9,7 @@ use Rattle.model.specs.Measures.{Shape}
 use Rattle.model.specs.State.{State, Outcome, refused, done}
 use Rattle.model.specs.Table.{stateToWords, stateToBytes}
 use Rattle.model.specs.Sound.{isSound, Store, storeOf}
-use Rattle.model.specs.Calls.{emptyState, layoutOf, backup, backupIn, backupBy, backupAnswer, restoreIn, restoreOf, retire, retireIn, retireOf, retireAnswer, listingIn, listingOf, tallyIn, tallyOf, After, stateOr, outcomeRefusal, outcomeNumber}
+use Rattle.model.specs.Calls.{emptyState, layoutOf, backup, backupIn, backupBy, backupAnswer, restoreIn, restoreOf, retire, retireIn, retireOf, retireAnswer, listingIn, listingOf, versionOnIn, versionOnOf, tallyIn, tallyOf, After, stateOr, outcomeRefusal, outcomeNumber}
 use Rattle.laws.proofs.Fits.{Fit, range-fit}
 use Rattle.laws.proofs.RoundTrip.{round-trip}
 use Rattle.laws.proofs.Empty.{empty-sound, layout-refused, layout-accepted}
@@ -17,7 +17,7 @@ use Rattle.sha1.specs.Sha1.{sha1}
 use Rattle.sent.specs.Sent.{offerIn, offerOf, backupSent, backupSentIn, backupSentBy, backupSentOf}
 use Rattle.closing.specs.Closing.{Closed, allAnswer, closedOr, backupAll, backupAllAnswer, backupAllIn, backupAllOf}
 use Rattle.stream.specs.Version.{longestOutput, writeRestored, writeVersion, writeStreamOf}
-use Rattle.history.specs.Calls.{Call, callLayout, callBackup, callRestore, callRetire, callListing, callTally, callWriteStream, callOffer, callBackupSent, callBackupAll, Buffers, refusalOf, buffersAfter, buffersAfterAll, laidOut, backedUp, restored, retired, listed, tallied, streamed, offered, backedUpAll, answerOf, answersOf, refusalIn, refusedLayout, refusedLayouts, stateAfter, stateAfterAll, answerIn, answersIn, isAccepted}
+use Rattle.history.specs.Calls.{Call, callLayout, callBackup, callRestore, callRetire, callListing, callVersionOn, callTally, callWriteStream, callOffer, callBackupSent, callBackupAll, Buffers, refusalOf, buffersAfter, buffersAfterAll, laidOut, backedUp, restored, retired, listed, foundOn, tallied, streamed, offered, backedUpAll, answerOf, answersOf, refusalIn, refusedLayout, refusedLayouts, stateAfter, stateAfterAll, answerIn, answersIn, isAccepted}
 use Rattle.history.specs.Demand.{laidOutIn}
 use Rattle.history.proofs.Reach.{sound-after}
 
@@ -58,12 +58,13 @@ left-one s b st call e r = record { fit = e .fit; pool = words call r .0; table 
         → (buffersAfter b call .pool ≡ stateToBytes (stateAfter s st call)) × (buffersAfter b call .table ≡ stateToWords s (stateAfter s st call))
     words (callLayout c) r =
         unfold buffersAfter stateAfter layoutOf in (let z = layout-refused _ _ _ (b .pool) (b .table) r in (z .0 ∙ e .pool, z .1 ∙ e .table))
-    words (callBackup era t image) r =
-        unfold buffersAfter stateAfter backupBy backupIn in rw (left-store s b st e) (backup-words s b st (backup era s st t image) (e .pool) (e .table))
+    words (callBackup era t d image) r =
+        unfold buffersAfter stateAfter backupBy backupIn in rw (left-store s b st e) (backup-words s b st (backup era s st t d image) (e .pool) (e .table))
     words (callRestore t v output) r = unfold buffersAfter stateAfter in (e .pool, e .table)
     words (callRetire t v) r =
         unfold buffersAfter stateAfter retireOf retireIn in rw (left-store s b st e) (retire-words s b st (retire s st t v) (e .pool) (e .table))
     words (callListing t) r = unfold buffersAfter stateAfter in (e .pool, e .table)
+    words (callVersionOn t day) r = unfold buffersAfter stateAfter in (e .pool, e .table)
     words callTally r = unfold buffersAfter stateAfter in (e .pool, e .table)
     words (callWriteStream t v output) r = unfold buffersAfter stateAfter in (e .pool, e .table)
     words (callOffer t fs ms) r = unfold buffersAfter stateAfter in (e .pool, e .table)
@@ -105,10 +106,10 @@ closing-same s b st e ts ns is = rw (left-store s b st e) (go (backupAll s st ts
 pub answer-same : (s : Shape) (b : Buffers) (st : State) (call : Call) → Left s b st → answerOf b call ≡ answerIn s st call
 unfolding answerOf answerIn
 answer-same s b st (callLayout c) e = ap₂ (λ (pool table : List ℕ). laidOut (layoutOf c pool table .refusal)) (e .pool) (e .table)
-answer-same s b st (callBackup era t image) e =
+answer-same s b st (callBackup era t d image) e =
     unfold backupBy in
-    (ap (λ (o : Option Store). backedUp (backupIn era o (b .pool) (b .table) t image .refusal) (backupIn era o (b .pool) (b .table) t image .version)) (left-store s b st e)
-    ∙ (unfold backupIn in backup-answer s b (backup era s st t image)))
+    (ap (λ (o : Option Store). backedUp (backupIn era o (b .pool) (b .table) t d image .refusal) (backupIn era o (b .pool) (b .table) t d image .version)) (left-store s b st e)
+    ∙ (unfold backupIn in backup-answer s b (backup era s st t d image)))
 answer-same s b st (callRestore t v output) e = unfold restoreOf restoreIn in ap (λ (o : Option Store). restored (restoreIn o t v output)) (left-store s b st e)
 answer-same s b st (callRetire t v) e =
     unfold retireOf in
@@ -119,6 +120,7 @@ answer-same s b st (callRetire t v) e =
     go (refused n) = unfold retireAnswer outcomeRefusal outcomeNumber in refl
     go (done a) = unfold retireAnswer outcomeRefusal outcomeNumber in refl
 answer-same s b st (callListing t) e = unfold listingOf in ap (λ (o : Option Store). listed (listingIn o t)) (left-store s b st e)
+answer-same s b st (callVersionOn t day) e = unfold versionOnOf in ap (λ (o : Option Store). foundOn (versionOnIn o t day)) (left-store s b st e)
 answer-same s b st callTally e = unfold tallyOf in ap (λ (o : Option Store). tallied (tallyIn o)) (left-store s b st e)
 answer-same s b st (callWriteStream t v output) e =
     unfold writeStreamOf writeVersion restoreOf restoreIn in ap (λ (o : Option Store). streamed (writeRestored (restoreIn o t v longestOutput) output)) (left-store s b st e)
@@ -139,10 +141,11 @@ answers-same s (call ∷ calls) b st e r =
 pub refusal-in : (b : Buffers) (call : Call) → refusalIn (answerOf b call) ≡ refusalOf b call
 unfolding refusalIn answerOf refusalOf
 refusal-in b (callLayout c) = refl
-refusal-in b (callBackup era t image) = refl
+refusal-in b (callBackup era t d image) = refl
 refusal-in b (callRestore t v output) = refl
 refusal-in b (callRetire t v) = refl
 refusal-in b (callListing t) = refl
+refusal-in b (callVersionOn t day) = refl
 refusal-in b callTally = refl
 refusal-in b (callWriteStream t v output) = refl
 refusal-in b (callOffer t fs ms) = refl

@@ -8,7 +8,7 @@ use Rattle.model.specs.Measures.{Shape}
 use Rattle.model.specs.State.{Shelf, Version, State}
 use Rattle.model.specs.Trace.{imageOf}
 use Rattle.model.specs.Calls.{emptyState, tillOf}
-use Rattle.history.specs.Calls.{Call, callLayout, callBackup, callRestore, callRetire, callListing, callTally, callWriteStream, callOffer, callBackupSent, callBackupAll, Buffers, buffersAfter, buffersAfterAll, answerOf, refusedLayout, stateAfter, stateAfterAll}
+use Rattle.history.specs.Calls.{Call, callLayout, callBackup, callRestore, callRetire, callListing, callVersionOn, callTally, callWriteStream, callOffer, callBackupSent, callBackupAll, Buffers, buffersAfter, buffersAfterAll, answerOf, refusedLayout, stateAfter, stateAfterAll}
 use Rattle.history.specs.View.{VersionView, TillView, viewVersions, viewOf, viewAt, chainShown, isOnTill, tillNamed, answerShown, IsPlain}
 use Rattle.history.specs.Demand.{laidOutIn}
 use Rattle.history.specs.Together.{IsBackupRestoreOrRetire, HeldVersion, heldVersions, heldBy, SameTills, OrderFree, EitherOrder}
@@ -21,21 +21,22 @@ use Rattle.history.proofs.Bullets.{answer-shown}
 -- what a till holds, by what it shows
 unfoldable heldShown : List VersionView → List HeldVersion
 heldShown [] = []
-heldShown (w ∷ newer) = record { number = w .number; length = w .length; image = w .image; chain = chainShown (w ∷ newer) } ∷ heldShown newer
+heldShown (w ∷ newer) = record { number = w .number; length = w .length; day = w .day; image = w .image; chain = chainShown (w ∷ newer) } ∷ heldShown newer
 
 held-shown : (bytes : ℕ) (a : Shelf) (vs : List Version) → heldVersions bytes a vs ≡ heldShown (viewVersions bytes a vs)
 unfolding heldVersions heldShown viewVersions
 held-shown bytes a [] = refl
 held-shown bytes a (v ∷ newer) =
-    ap₂ (λ (n : ℕ) (hs : List HeldVersion). record { number = v .number; length = v .length; image = imageOf bytes a (v ∷ newer); chain = n } ∷ hs)
+    ap₂ (λ (n : ℕ) (hs : List HeldVersion). record { number = v .number; length = v .length; day = v .day; image = imageOf bytes a (v ∷ newer); chain = n } ∷ hs)
     (unfold viewVersions in chain-is bytes a (v ∷ newer)) (held-shown bytes a newer)
 
 no-layout : (b : Buffers) (call : Call) → IsBackupRestoreOrRetire call → refusedLayout b call
 no-layout b (callLayout c) h = absurd h
-no-layout b (callBackup era t image) h = tt
+no-layout b (callBackup era t d image) h = tt
 no-layout b (callRestore t v output) h = tt
 no-layout b (callRetire t v) h = tt
 no-layout b (callListing t) h = tt
+no-layout b (callVersionOn t day) h = tt
 no-layout b callTally h = tt
 no-layout b (callWriteStream t v output) h = tt
 no-layout b (callOffer t fs ms) h = tt
@@ -44,10 +45,11 @@ no-layout b (callBackupAll ts ns is) h = tt
 
 is-plain : (call : Call) → IsBackupRestoreOrRetire call → IsPlain call
 is-plain (callLayout c) h = tt
-is-plain (callBackup era t image) h = tt
+is-plain (callBackup era t d image) h = tt
 is-plain (callRestore t v output) h = tt
 is-plain (callRetire t v) h = tt
 is-plain (callListing t) h = tt
+is-plain (callVersionOn t day) h = tt
 is-plain callTally h = tt
 is-plain (callWriteStream t v output) h = tt
 is-plain (callOffer t fs ms) h = tt

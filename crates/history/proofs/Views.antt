@@ -34,9 +34,9 @@ use Rattle.laws.proofs.Fits.{Proper}
 use Rattle.history.specs.Kinds.{Kind, zeroKind, blankKind, directKind, kindOf, kindAt}
 use Rattle.history.specs.View.{VersionView, viewVersions, viewOf, newKind, turnedKind, withKinds, turnNewest, takeOverKind, dropVersion}
 
-pub view-path : (n n′ l l′ : ℕ) (i i′ : List ℕ) (k k′ : List Kind) → n ≡ n′ → l ≡ l′ → i ≡ i′ → k ≡ k′
-    → _≡_ {A = VersionView} (record { number = n; length = l; image = i; kinds = k }) (record { number = n′; length = l′; image = i′; kinds = k′ })
-view-path n n′ l l′ i i′ k k′ p q r z = λ t. record { number = p t; length = q t; image = r t; kinds = z t }
+pub view-path : (n n′ l l′ d d′ : ℕ) (i i′ : List ℕ) (k k′ : List Kind) → n ≡ n′ → l ≡ l′ → d ≡ d′ → i ≡ i′ → k ≡ k′
+    → _≡_ {A = VersionView} (record { number = n; length = l; day = d; image = i; kinds = k }) (record { number = n′; length = l′; day = d′; image = i′; kinds = k′ })
+view-path n n′ l l′ d d′ i i′ k k′ p q o r z = λ t. record { number = p t; length = q t; day = o t; image = r t; kinds = z t }
 
 -- versions of as many pointers that trace to the same blocks have the same blocks, and with the same length the same image
 pub blocks-same : (m : Measures) (a b : Shelf) (v v′ : Version) (vs vs′ : List Version) → length (v′ .pointers) ≡ length (v .pointers)
@@ -66,7 +66,7 @@ module _ (s : Shape) (a b : Shelf) (ps : List Pointer) (sv : Serves (s .measures
   unfolding viewVersions joined
   views-again [] g = refl
   views-again (v ∷ vs) g =
-      ap₂ _∷_ (view-path _ _ _ _ _ _ _ _ refl refl (image-again v vs g) refl)
+      ap₂ _∷_ (view-path _ _ _ _ _ _ _ _ _ _ refl refl refl (image-again v vs g) refl)
       (views-again vs (λ k i. omega (arith, g k i, count-append (leadsTo k i) (v .pointers) (pointersOf vs))))
 
   pub view-again : (t : Till) → Among (t .versions) → viewOf (s .measures .blockBytes) b t ≡ viewOf (s .measures .blockBytes) a t
@@ -159,7 +159,7 @@ module _ (era : Era) (s : Shape) (p : Shelf) (x : Exact p) (bs : List Block) (ne
   views-extended [] h c = refl
   views-extended (v ∷ []) h c =
       ap {B = List VersionView} (λ (w : VersionView). w ∷ viewVersions (s .measures .blockBytes) p (newV ∷ []))
-      (view-path _ _ _ _ _ _ _ _ refl refl
+      (view-path _ _ _ _ _ _ _ _ _ _ refl refl refl
       (image-same (s .measures) p p v (withPointers v (turn era p bs (v .pointers))) [] (newV ∷ []) refl
       (turn-length era p bs (v .pointers)) (traced-same era s p x bs newV ok v [] h))
       (turned-kinds era (s .measures) p bs (v .pointers)
@@ -167,7 +167,7 @@ module _ (era : Era) (s : Shape) (p : Shelf) (x : Exact p) (bs : List Block) (ne
       (sym (c .0 ∙ plain-blocks (s .measures) p v (λ n. last-plain p (getD (v .pointers) n nullPointer) (lead-at p [] (v .pointers) (clause _ 1 h) n))))))
   views-extended (v ∷ w ∷ vs) h c =
       ap₂ _∷_
-      (view-path _ _ _ _ _ _ _ _ refl refl
+      (view-path _ _ _ _ _ _ _ _ _ _ refl refl refl
       (image-same (s .measures) p p v v (w ∷ vs) (extended era s p x bs newV ok (w ∷ vs)) refl refl (traced-same era s p x bs newV ok v (w ∷ vs) h))
       refl)
       (views-extended (w ∷ vs) (clause _ 3 h) (c .1))
@@ -197,14 +197,14 @@ module _ (m : Measures) (a : Shelf) (n : ℕ) (v : Version) (newer : List Versio
   views-closed (u ∷ []) o =
       rw (o .0, named)
       (ap {B = List VersionView} (λ (w : VersionView). w ∷ viewVersions (m .blockBytes) a newer)
-      (view-path _ _ _ _ _ _ _ _ refl refl
+      (view-path _ _ _ _ _ _ _ _ _ _ refl refl refl
       (image-same m a a u (withPointers u (map (takeOver (v .pointers)) (u .pointers))) (v ∷ newer) newer refl
       (length-map (u .pointers) (takeOver (v .pointers))) (close-traced v newer (m .blockBytes) a u []))
       (take-kinds (v .pointers) (u .pointers))))
   views-closed (u ∷ w ∷ older) o =
       rw (o .0, o .1 .0)
       (ap₂ _∷_
-      (view-path _ _ _ _ _ _ _ _ refl refl
+      (view-path _ _ _ _ _ _ _ _ _ _ refl refl refl
       (image-same m a a u u (w ∷ (older ++ (v ∷ newer))) (closeUp (w ∷ older) v newer) refl refl (close-traced v newer (m .blockBytes) a u (w ∷ older)))
       refl)
       (views-closed (w ∷ older) (o .1)))

@@ -3,27 +3,28 @@ use Prim.Native.Nat.{ℕ}
 use mathlib.Core.Path.{_≡_}
 use mathlib.Core.Bool.{Bool}
 use mathlib.Core.List.{List, [], _∷_}
-use mathlib.Core.Option.{some}
+use mathlib.Core.Option.{some, Option, none}
 use lib.Dec.{eqb}
 use Rattle.model.specs.Measures.{Shape}
 use Rattle.model.specs.Image.{Era}
 use Rattle.model.specs.State.{State}
 use Rattle.model.specs.Table.{stateToWords, stateToBytes}
-use Rattle.model.specs.Calls.{layoutOf, backupBy, restoreOf, retireOf, listingOf, tallyOf, backup, restore, retire, listingIn, tallyIn, RestoreAnswer, ListingAnswer, TallyAnswer, stateOr, outcomeRefusal, outcomeNumber}
+use Rattle.model.specs.Calls.{layoutOf, backupBy, restoreOf, retireOf, listingOf, versionOnOf, tallyOf, backup, restore, retire, listingIn, versionOnIn, tallyIn, RestoreAnswer, ListingAnswer, VersionOnAnswer, TallyAnswer, stateOr, outcomeRefusal, outcomeNumber}
 use Rattle.stream.specs.Stream.{StreamAnswer}
 use Rattle.stream.specs.Version.{writeVersion, writeStreamOf}
 use Rattle.sha1.specs.Sha1.{sha1}
 use Rattle.sent.specs.Sent.{OfferAnswer, offerIn, offerOf, backupSent, backupSentOf}
 use Rattle.closing.specs.Closing.{AllAnswer, allAnswer, closedOr, backupAll, backupAllOf}
 
--- A call with its arguments, any of them; a backup was made before blank blocks were known, or with them. Table length takes no buffer and is no call
--- of the list.
+-- A call with its arguments, any of them; a backup was made before blank blocks were known, or with them, and brings a day (§13) or none. Table length
+-- takes no buffer and is no call of the list.
 pub data Call : Type 0 where
   callLayout : (capacities : Shape) → Call
-  callBackup : (era : Era) (till : ℕ) (image : List ℕ) → Call
+  callBackup : (era : Era) (till : ℕ) (brought : Option ℕ) (image : List ℕ) → Call
   callRestore : (till version : ℕ) (output : List ℕ) → Call
   callRetire : (till version : ℕ) → Call
   callListing : (till : ℕ) → Call
+  callVersionOn : (till day : ℕ) → Call
   callTally : Call
   callWriteStream : (till version : ℕ) (output : List ℕ) → Call
   callOffer : (till : ℕ) (fingerprints marks : List ℕ) → Call
@@ -38,10 +39,11 @@ pub record Buffers : Type 0 where
 -- the number of the refusal, or 0
 unfoldable pub refusalOf : Buffers → Call → ℕ
 refusalOf b (callLayout c) = layoutOf c (b .pool) (b .table) .refusal
-refusalOf b (callBackup era t image) = backupBy era (b .pool) (b .table) t image .refusal
+refusalOf b (callBackup era t d image) = backupBy era (b .pool) (b .table) t d image .refusal
 refusalOf b (callRestore t v output) = restoreOf (b .pool) (b .table) t v output .refusal
 refusalOf b (callRetire t v) = retireOf (b .pool) (b .table) t v .refusal
 refusalOf b (callListing t) = listingOf (b .pool) (b .table) t .refusal
+refusalOf b (callVersionOn t day) = versionOnOf (b .pool) (b .table) t day .refusal
 refusalOf b callTally = tallyOf (b .pool) (b .table) .refusal
 refusalOf b (callWriteStream t v output) = writeStreamOf (b .pool) (b .table) t v output .refusal
 refusalOf b (callOffer t fs ms) = offerOf (b .pool) (b .table) t fs ms .refusal
@@ -51,10 +53,11 @@ refusalOf b (callBackupAll ts ns is) = backupAllOf (b .pool) (b .table) ts ns is
 -- the buffers after a call
 unfoldable pub buffersAfter : Buffers → Call → Buffers
 buffersAfter b (callLayout c) = record { pool = layoutOf c (b .pool) (b .table) .pool; table = layoutOf c (b .pool) (b .table) .table }
-buffersAfter b (callBackup era t image) = record { pool = backupBy era (b .pool) (b .table) t image .pool; table = backupBy era (b .pool) (b .table) t image .table }
+buffersAfter b (callBackup era t d image) = record { pool = backupBy era (b .pool) (b .table) t d image .pool; table = backupBy era (b .pool) (b .table) t d image .table }
 buffersAfter b (callRestore t v output) = b
 buffersAfter b (callRetire t v) = record { pool = retireOf (b .pool) (b .table) t v .pool; table = retireOf (b .pool) (b .table) t v .table }
 buffersAfter b (callListing t) = b
+buffersAfter b (callVersionOn t day) = b
 buffersAfter b callTally = b
 buffersAfter b (callWriteStream t v output) = b
 buffersAfter b (callOffer t fs ms) = b
@@ -72,6 +75,7 @@ pub data Answer : Type 0 where
   restored : (answer : RestoreAnswer) → Answer
   retired : (refusal length : ℕ) → Answer
   listed : (answer : ListingAnswer) → Answer
+  foundOn : (answer : VersionOnAnswer) → Answer
   tallied : (answer : TallyAnswer) → Answer
   streamed : (answer : StreamAnswer) → Answer
   offered : (answer : OfferAnswer) → Answer
@@ -79,10 +83,11 @@ pub data Answer : Type 0 where
 
 unfoldable pub answerOf : Buffers → Call → Answer
 answerOf b (callLayout c) = laidOut (layoutOf c (b .pool) (b .table) .refusal)
-answerOf b (callBackup era t image) = backedUp (backupBy era (b .pool) (b .table) t image .refusal) (backupBy era (b .pool) (b .table) t image .version)
+answerOf b (callBackup era t d image) = backedUp (backupBy era (b .pool) (b .table) t d image .refusal) (backupBy era (b .pool) (b .table) t d image .version)
 answerOf b (callRestore t v output) = restored (restoreOf (b .pool) (b .table) t v output)
 answerOf b (callRetire t v) = retired (retireOf (b .pool) (b .table) t v .refusal) (retireOf (b .pool) (b .table) t v .length)
 answerOf b (callListing t) = listed (listingOf (b .pool) (b .table) t)
+answerOf b (callVersionOn t day) = foundOn (versionOnOf (b .pool) (b .table) t day)
 answerOf b callTally = tallied (tallyOf (b .pool) (b .table))
 answerOf b (callWriteStream t v output) = streamed (writeStreamOf (b .pool) (b .table) t v output)
 answerOf b (callOffer t fs ms) = offered (offerOf (b .pool) (b .table) t fs ms)
@@ -96,6 +101,7 @@ refusalIn (backedUp n v) = n
 refusalIn (restored a) = a .refusal
 refusalIn (retired n l) = n
 refusalIn (listed a) = a .refusal
+refusalIn (foundOn a) = a .refusal
 refusalIn (tallied a) = a .refusal
 refusalIn (streamed a) = a .refusal
 refusalIn (offered a) = a .refusal
@@ -109,10 +115,11 @@ answersOf b (c ∷ cs) = answerOf b c ∷ answersOf (buffersAfter b c) cs
 -- every lay out of the list is refused when it is made
 abbrev pub refusedLayout : Buffers → Call → Type 0
 refusedLayout b (callLayout c) = ¬ (layoutOf c (b .pool) (b .table) .refusal ≡ 0)
-refusedLayout b (callBackup era t image) = Unit {0}
+refusedLayout b (callBackup era t d image) = Unit {0}
 refusedLayout b (callRestore t v output) = Unit {0}
 refusedLayout b (callRetire t v) = Unit {0}
 refusedLayout b (callListing t) = Unit {0}
+refusedLayout b (callVersionOn t day) = Unit {0}
 refusedLayout b callTally = Unit {0}
 refusedLayout b (callWriteStream t v output) = Unit {0}
 refusedLayout b (callOffer t fs ms) = Unit {0}
@@ -127,10 +134,11 @@ refusedLayouts b (c ∷ cs) = refusedLayout b c × refusedLayouts (buffersAfter 
 
 unfoldable pub stateAfter : Shape → State → Call → State
 stateAfter s st (callLayout c) = st
-stateAfter s st (callBackup era t image) = stateOr st (backup era s st t image)
+stateAfter s st (callBackup era t d image) = stateOr st (backup era s st t d image)
 stateAfter s st (callRestore t v output) = st
 stateAfter s st (callRetire t v) = stateOr st (retire s st t v)
 stateAfter s st (callListing t) = st
+stateAfter s st (callVersionOn t day) = st
 stateAfter s st callTally = st
 stateAfter s st (callWriteStream t v output) = st
 stateAfter s st (callOffer t fs ms) = st
@@ -144,10 +152,11 @@ stateAfterAll s st (c ∷ cs) = stateAfterAll s (stateAfter s st c) cs
 -- what each call answers on a state: there is always a sound store, so no call gets 10
 unfoldable pub answerIn : Shape → State → Call → Answer
 answerIn s st (callLayout c) = laidOut (layoutOf c (stateToBytes st) (stateToWords s st) .refusal)
-answerIn s st (callBackup era t image) = backedUp (outcomeRefusal (backup era s st t image)) (outcomeNumber (backup era s st t image))
+answerIn s st (callBackup era t d image) = backedUp (outcomeRefusal (backup era s st t d image)) (outcomeNumber (backup era s st t d image))
 answerIn s st (callRestore t v output) = restored (restore s st t v output)
 answerIn s st (callRetire t v) = retired (outcomeRefusal (retire s st t v)) (outcomeNumber (retire s st t v))
 answerIn s st (callListing t) = listed (listingIn (some (record { shape = s; state = st })) t)
+answerIn s st (callVersionOn t day) = foundOn (versionOnIn (some (record { shape = s; state = st })) t day)
 answerIn s st callTally = tallied (tallyIn (some (record { shape = s; state = st })))
 answerIn s st (callWriteStream t v output) = streamed (writeVersion s st t v output)
 answerIn s st (callOffer t fs ms) = offered (offerIn sha1 (some (record { shape = s; state = st })) t fs ms)

@@ -4,24 +4,25 @@ use mathlib.Core.Path.{_≡_}
 use mathlib.Core.Logic.{_↔_}
 use mathlib.Core.Bool.{true, false}
 use mathlib.Core.List.{List, [], _∷_, _++_, map}
-use mathlib.Core.Option.{some}
+use mathlib.Core.Option.{some, Option, none}
 use lib.ListN.{length, getD, drop}
 use Rattle.lists.specs.Lists.{counted, count, rises, isIn, allZero}
 use Rattle.lists.specs.Rows.{fill}
+use Rattle.lists.specs.Each.{Each}
 use Rattle.model.specs.Measures.{Shape}
-use Rattle.model.specs.State.{Block, Pointer, nullPointer, blankPointer, direct, indirect, State}
+use Rattle.model.specs.State.{Block, Pointer, nullPointer, blankPointer, direct, indirect, Version, State}
 use Rattle.model.specs.Image.{Era, withBlanks, isBare, imageBlocks}
 use Rattle.model.specs.Records.{namedCells, cellAt, positionAt, cellOf, isHeld}
 use Rattle.model.specs.Trace.{longestChain}
 use Rattle.model.specs.Table.{stateToWords, stateToBytes, cellsIn}
 use Rattle.model.specs.Sound.{storeOf, nextPointers}
-use Rattle.model.specs.Calls.{layoutOf, backupBy, restoreOf, RestoreAnswer, retireOf, listingOf, ListingAnswer, tallyOf, emptyState, tillOf, heldFrom, notHeld}
+use Rattle.model.specs.Calls.{layoutOf, backupBy, restoreOf, RestoreAnswer, retireOf, listingOf, ListingAnswer, versionOnOf, VersionOnAnswer, tallyOf, emptyState, tillOf, heldFrom, notHeld}
 use Rattle.stream.specs.Stream.{StreamAnswer, streamOf, readStream}
 use Rattle.stream.specs.Version.{writeStreamOf}
 use Rattle.sent.specs.Sent.{backupSentOf}
 use Rattle.closing.specs.Closing.{imagesIn, AllAnswer, backupAllOf}
 use Rattle.history.specs.Calls.{Call, callBackup, callBackupSent, Buffers, buffersAfterAll, answersOf, refusedLayouts, stateAfterAll, answersIn}
-use Rattle.history.specs.Keeper.{Kept, Keeper, freshKeeper, keptTill, fed, fedEach, numbersGiven, comesTo, fedAll, keptFrom, oldestKept, newestKept}
+use Rattle.history.specs.Keeper.{Kept, Keeper, freshKeeper, keptTill, fed, fedEach, numbersGiven, comesTo, fedAll, keptFrom, keptNotAfter, oldestKept, newestKept}
 
 -- the pointers of a till's version of that number; `nextPointers` gives those of the first version of a list
 unfoldable pub pointersHeld : State → ℕ → ℕ → List Pointer
@@ -32,6 +33,10 @@ IsDirect nullPointer = ⊥
 IsDirect blankPointer = ⊥
 IsDirect (direct k i) = Unit {0}
 IsDirect (indirect n) = ⊥
+
+abbrev pub NeverFall : List ℕ → Type 0
+NeverFall [] = Unit {0}
+NeverFall (day ∷ days) = Each (λ later. day ≤ later) days × NeverFall days
 
 -- a cell that some held version's direct pointer leads to
 pub record LedTo (st : State) (c : ℕ) : Type 0 where
@@ -102,8 +107,8 @@ module _ (bytes : ℕ) (st : State) (k : Keeper) (b : Buffers) where
         × (listingAt t .newest ≡ newestKept (keptTill k t .versions))
         × (listingAt t .last ≡ keptTill k t .last)
     -- "an accepted backup the keeper's new last number"
-    pub backup : (era : Era) (t : ℕ) (image : List ℕ) → backupBy era (b .pool) (b .table) t image .refusal ≡ 0
-        → backupBy era (b .pool) (b .table) t image .version ≡ keptTill (fed k (callBackup era t image) true) t .last
+    pub backup : (era : Era) (t : ℕ) (d : Option ℕ) (image : List ℕ) → backupBy era (b .pool) (b .table) t d image .refusal ≡ 0
+        → backupBy era (b .pool) (b .table) t d image .version ≡ keptTill (fed k (callBackup era t d image) true) t .last
     -- and so does an accepted second message of §5, which the keeper is fed as the backup of the image put together
     pub backupSent : (t bytes : ℕ) (fingerprints marks segments : List ℕ) → backupSentOf (b .pool) (b .table) t bytes fingerprints marks segments .refusal ≡ 0
         → backupSentOf (b .pool) (b .table) t bytes fingerprints marks segments .version
@@ -118,6 +123,20 @@ module _ (bytes : ℕ) (st : State) (k : Keeper) (b : Buffers) where
     -- "an accepted retire the struck image's length"
     pub retire : (t v : ℕ) → retireOf (b .pool) (b .table) t v .refusal ≡ 0
         → (x : Kept) × (newer : List Kept) × (IsKept t v x newer) × (retireOf (b .pool) (b .table) t v .length ≡ length (x .image))
+
+  abbrev pub versionOn : ℕ → ℕ → VersionOnAnswer
+  versionOn t day = versionOnOf (b .pool) (b .table) t day
+
+  -- §13: "what is said about the images of held versions covers their days too, as the version record keeps them and lookup goes by them"
+  pub record Days : Type 0 where
+    pub kept : (t : ℕ) → map (λ (v : Version). v .day) (tillOf st t .versions) ≡ map (λ (x : Kept). x .day) (keptTill k t .versions)
+    -- a day is "equal to or later than that of the till's newest held version": from older to newer they never fall
+    pub ordered : (t : ℕ) → NeverFall (map (λ (x : Kept). x .day) (keptTill k t .versions))
+    -- "Lookup by day gives the newest held version not after the day"
+    pub given : (t day : ℕ) (x : Kept) (xs : List Kept) → keptNotAfter day (keptTill k t .versions) ≡ x ∷ xs
+        → (versionOn t day .refusal ≡ 0) × (versionOn t day .version ≡ newestKept (x ∷ xs))
+    pub none : (t day : ℕ) → keptNotAfter day (keptTill k t .versions) ≡ [] → t < length k → versionOn t day .refusal ≡ 29
+    pub noTill : (t day : ℕ) → length k ≤ t → versionOn t day .refusal ≡ 3
 
   -- block `n` of a kept image
   abbrev pub blockOf : Kept → ℕ → Block
@@ -150,6 +169,7 @@ module _ (bytes : ℕ) (st : State) (k : Keeper) (b : Buffers) where
     pub restores : Restores
     pub streams : Streams
     pub answers : Answers
+    pub days : Days
     pub shares : Shares
     pub cells : Cells s
 

@@ -4,7 +4,7 @@ use mathlib.Core.Bool.{Bool, true, false, cond, not}
 use mathlib.Core.List.{List, [], _∷_, _++_}
 use mathlib.Core.Option.{Option, none, some}
 use lib.ListN.{getD, set, replicate}
-use lib.Dec.{eqb}
+use lib.Dec.{eqb, leb}
 use Rattle.lists.specs.Lists.{keep}
 use Rattle.model.specs.Measures.{Capacities}
 use Rattle.model.specs.State.{Outcome, refused, done}
@@ -13,12 +13,13 @@ use Rattle.model.specs.Sound.{Store, storeOf}
 use Rattle.sha1.specs.Sha1.{sha1}
 use Rattle.sent.specs.Sent.{made}
 use Rattle.closing.specs.Closing.{TillImage, imagesIn, AllAnswer, backupAllOf}
-use Rattle.history.specs.Calls.{Call, callLayout, callBackup, callRestore, callRetire, callListing, callTally, callWriteStream, callOffer, callBackupSent, callBackupAll, Buffers, buffersAfter, refusalOf}
+use Rattle.history.specs.Calls.{Call, callLayout, callBackup, callRestore, callRetire, callListing, callVersionOn, callTally, callWriteStream, callOffer, callBackupSent, callBackupAll, Buffers, buffersAfter, refusalOf}
 
--- a held version: its number, its whole image, and the number of its till's newest version when it was taken, 0 if none was held
+-- a held version: its number, its whole image, its day, and the number of its till's newest version when it was taken, 0 if none was held
 pub record Kept : Type 0 where
   pub number : ℕ
   pub image : List ℕ
+  pub day : ℕ
   pub previous : ℕ
 
 -- the last number given, and the held versions, the oldest first
@@ -48,9 +49,26 @@ newestKept [] = 0
 newestKept (x ∷ []) = x .number
 newestKept (x ∷ y ∷ xs) = newestKept (y ∷ xs)
 
--- an accepted backup adds 1 to the last number and files the image under the new one
-unfoldable pub filed : KeptTill → List ℕ → KeptTill
-filed t image = record { last = suc (t .last); versions = t .versions ++ (record { number = suc (t .last); image = image; previous = newestKept (t .versions) } ∷ []) }
+-- §13: the newest one's day, 0 if none is held; and the day of a new version, which is the one that is brought, or that
+unfoldable pub newestDayKept : List Kept → ℕ
+newestDayKept [] = 0
+newestDayKept (x ∷ []) = x .day
+newestDayKept (x ∷ y ∷ xs) = newestDayKept (y ∷ xs)
+
+unfoldable pub dayKept : Option ℕ → List Kept → ℕ
+dayKept none xs = newestDayKept xs
+dayKept (some day) xs = day
+
+-- an accepted backup adds 1 to the last number and files the image under the new one, with its day
+unfoldable pub filed : KeptTill → Option ℕ → List ℕ → KeptTill
+filed t brought image = record {
+  last = suc (t .last);
+  versions = t .versions ++ (record { number = suc (t .last); image = image; day = dayKept brought (t .versions); previous = newestKept (t .versions) } ∷ []);
+}
+
+-- the versions whose day is not after the given one
+unfoldable pub keptNotAfter : ℕ → List Kept → List Kept
+keptNotAfter day xs = keep (λ (x : Kept). leb (x .day) day) xs
 
 -- an accepted retire strikes the version named
 unfoldable pub struckOut : KeptTill → ℕ → KeptTill
@@ -60,12 +78,13 @@ struckOut t v = record { last = t .last; versions = keep (λ (x : Kept). not (eq
 -- come here: they come to backups.
 unfoldable pub fed : Keeper → Call → Bool → Keeper
 fed k (callLayout c) ok = k
-fed k (callBackup era t image) true = set k t (filed (keptTill k t) image)
-fed k (callBackup era t image) false = k
+fed k (callBackup era t d image) true = set k t (filed (keptTill k t) d image)
+fed k (callBackup era t d image) false = k
 fed k (callRestore t v output) ok = k
 fed k (callRetire t v) true = set k t (struckOut (keptTill k t) v)
 fed k (callRetire t v) false = k
 fed k (callListing t) ok = k
+fed k (callVersionOn t day) ok = k
 fed k callTally ok = k
 fed k (callWriteStream t v output) ok = k
 fed k (callOffer t fs ms) ok = k
@@ -95,7 +114,7 @@ imageSent (some store) t bytes fingerprints marks segments = imageOr (made sha1 
 -- ---- §7: each image is a backup of its own, with its own answer
 
 unfoldable pub backupFor : TillImage → Call
-backupFor x = callBackup withBlanks (x .till) (x .image)
+backupFor x = callBackup withBlanks (x .till) none (x .image)
 
 unfoldable pub backupsMade : List TillImage → List ℕ → List CallMade
 backupsMade [] refusals = []
@@ -121,15 +140,16 @@ itself b c = record { call = c; accepted = eqb (refusalOf b c) 0 } ∷ []
 -- a second message is the backup of its image, a closing is those of its images, and every other call is itself
 unfoldable pub comesTo : Buffers → Call → List CallMade
 comesTo b (callLayout c) = itself b (callLayout c)
-comesTo b (callBackup era t image) = itself b (callBackup era t image)
+comesTo b (callBackup era t d image) = itself b (callBackup era t d image)
 comesTo b (callRestore t v output) = itself b (callRestore t v output)
 comesTo b (callRetire t v) = itself b (callRetire t v)
 comesTo b (callListing t) = itself b (callListing t)
+comesTo b (callVersionOn t day) = itself b (callVersionOn t day)
 comesTo b callTally = itself b callTally
 comesTo b (callWriteStream t v output) = itself b (callWriteStream t v output)
 comesTo b (callOffer t fs ms) = itself b (callOffer t fs ms)
 comesTo b (callBackupSent t n fs ms ss) =
-    record { call = callBackup withBlanks t (imageSent (storeOf (b .pool) (b .table)) t n fs ms ss); accepted = eqb (refusalOf b (callBackupSent t n fs ms ss)) 0 } ∷ []
+    record { call = callBackup withBlanks t none (imageSent (storeOf (b .pool) (b .table)) t n fs ms ss); accepted = eqb (refusalOf b (callBackupSent t n fs ms ss)) 0 } ∷ []
 comesTo b (callBackupAll ts ns is) = closingMade (imagesIn ts ns is) (backupAllOf (b .pool) (b .table) ts ns is .answer)
 
 unfoldable pub fedAll : Keeper → Buffers → List Call → Keeper

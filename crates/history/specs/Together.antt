@@ -8,17 +8,18 @@ use Rattle.model.specs.State.{Shelf, Version}
 use Rattle.model.specs.Trace.{imageOf, longestChain}
 use Rattle.model.specs.Sound.{Store, storeOf}
 use Rattle.model.specs.Calls.{layoutOf, tillOf}
-use Rattle.history.specs.Calls.{Call, callLayout, callBackup, callRestore, callRetire, callListing, callTally, callWriteStream, callOffer, callBackupSent, callBackupAll, Buffers, refusalOf, buffersAfterAll, buffersAfter, answerOf, refusedLayouts}
+use Rattle.history.specs.Calls.{Call, callLayout, callBackup, callRestore, callRetire, callListing, callVersionOn, callTally, callWriteStream, callOffer, callBackupSent, callBackupAll, Buffers, refusalOf, buffersAfterAll, buffersAfter, answerOf, refusedLayouts}
 use Rattle.history.specs.View.{tillNamed}
 use Rattle.history.specs.Demand.{laidOutIn}
 
 -- "each a backup of a full image, restore or retire"; a backup was made before blank blocks were known, or with them
 abbrev pub IsBackupRestoreOrRetire : Call → Type 0
 IsBackupRestoreOrRetire (callLayout c) = ⊥
-IsBackupRestoreOrRetire (callBackup era t image) = Unit {0}
+IsBackupRestoreOrRetire (callBackup era t d image) = Unit {0}
 IsBackupRestoreOrRetire (callRestore t v output) = Unit {0}
 IsBackupRestoreOrRetire (callRetire t v) = Unit {0}
 IsBackupRestoreOrRetire (callListing t) = ⊥
+IsBackupRestoreOrRetire (callVersionOn t day) = ⊥
 IsBackupRestoreOrRetire callTally = ⊥
 IsBackupRestoreOrRetire (callWriteStream t v output) = ⊥
 IsBackupRestoreOrRetire (callOffer t fs ms) = ⊥
@@ -29,10 +30,11 @@ IsBackupRestoreOrRetire (callBackupAll ts ns is) = ⊥
 abbrev pub AcceptedInTurn : Buffers → Call → Call → Type 0
 AcceptedInTurn b first second = (refusalOf b first ≡ 0) × (refusalOf (buffersAfter b first) second ≡ 0)
 
--- a version that a till holds: its number, its length, its image and its longest chain
+-- a version that a till holds: its number, its length, its day, its image and its longest chain
 pub record HeldVersion : Type 0 where
   pub number : ℕ
   pub length : ℕ
+  pub day : ℕ
   pub image : List ℕ
   pub chain : ℕ
 
@@ -40,7 +42,7 @@ pub record HeldVersion : Type 0 where
 unfoldable pub heldVersions : ℕ → Shelf → List Version → List HeldVersion
 heldVersions bytes shelf [] = []
 heldVersions bytes shelf (v ∷ newer) =
-    record { number = v .number; length = v .length; image = imageOf bytes shelf (v ∷ newer); chain = longestChain (v ∷ newer) } ∷ heldVersions bytes shelf newer
+    record { number = v .number; length = v .length; day = v .day; image = imageOf bytes shelf (v ∷ newer); chain = longestChain (v ∷ newer) } ∷ heldVersions bytes shelf newer
 
 -- what till `t` of a store holds
 unfoldable pub heldBy : Store → ℕ → List HeldVersion
@@ -52,7 +54,7 @@ pub record SameTills (b b′ : Buffers) : Type 0 where
   pub other : Store
   pub isOne : storeOf (b .pool) (b .table) ≡ some one
   pub isOther : storeOf (b′ .pool) (b′ .table) ≡ some other
-  -- "the tills then hold the same numbers, lengths and images and every version has the same longest chain"
+  -- "the tills then hold the same numbers, lengths and images and every version has the same longest chain"; §13: and the same days
   pub held : (t : ℕ) → heldBy one t ≡ heldBy other t
   -- so every restore answers the same and leaves the same output, and every listing answers the same
   pub restores : (t v : ℕ) (output : List ℕ) → answerOf b (callRestore t v output) ≡ answerOf b′ (callRestore t v output)

@@ -2,26 +2,28 @@
 use Prim.Native.Nat.{ℕ, suc, _*_}
 use mathlib.Core.Bool.{Bool, true, false, cond, _||_}
 use mathlib.Core.List.{List, [], _∷_, _++_, map}
+use mathlib.Core.Option.{Option, none, some}
 use lib.ListN.{length, getD, drop}
 use lib.Dec.{eqb, leb, ltb}
-use Rattle.lists.specs.Lists.{counted, allZero, largest}
+use Rattle.lists.specs.Lists.{counted, keep, allZero, largest}
 use Rattle.lists.specs.Over.{over}
 use Rattle.model.specs.Measures.{Shape}
 use Rattle.model.specs.State.{Block, Shelf, Version, Till, State}
 use Rattle.model.specs.Image.{Era, isBare, imageBlocks}
 use Rattle.model.specs.Turn.{turnsTo}
 use Rattle.model.specs.Trace.{imageOf}
-use Rattle.model.specs.Calls.{tillOf, notHeld, RestoreAnswer, restoreRefusal, listingRefusal}
+use Rattle.model.specs.Calls.{tillOf, notHeld, RestoreAnswer, restoreRefusal, listingRefusal, VersionOnAnswer}
 use Rattle.stream.specs.Version.{longestOutput, writeRestored}
 use Rattle.sent.specs.Sent.{OfferAnswer}
 use Rattle.closing.specs.Closing.{allRefused}
-use Rattle.history.specs.Calls.{Call, callLayout, callBackup, callRestore, callRetire, callListing, callTally, callWriteStream, callOffer, callBackupSent, callBackupAll, Answer, laidOut, backedUp, restored, retired, listed, tallied, streamed, offered, backedUpAll}
+use Rattle.history.specs.Calls.{Call, callLayout, callBackup, callRestore, callRetire, callListing, callVersionOn, callTally, callWriteStream, callOffer, callBackupSent, callBackupAll, Answer, laidOut, backedUp, restored, retired, listed, foundOn, tallied, streamed, offered, backedUpAll}
 use Rattle.history.specs.Kinds.{Kind, zeroKind, blankKind, directKind, indirectKind, kindOf, kindAt, hopsOfKind}
 
--- A version as its till shows it: number, length, image, what each pointer is and where an indirect one leads.
+-- A version as its till shows it: number, length, day, image, what each pointer is and where an indirect one leads.
 pub record VersionView : Type 0 where
   pub number : ℕ
   pub length : ℕ
+  pub day : ℕ
   pub image : List ℕ
   pub kinds : List Kind
 
@@ -32,7 +34,7 @@ pub record TillView : Type 0 where
 unfoldable pub viewVersions : ℕ → Shelf → List Version → List VersionView
 viewVersions bytes shelf [] = []
 viewVersions bytes shelf (v ∷ newer) =
-    record { number = v .number; length = v .length; image = imageOf bytes shelf (v ∷ newer); kinds = map kindOf (v .pointers) } ∷ viewVersions bytes shelf newer
+    record { number = v .number; length = v .length; day = v .day; image = imageOf bytes shelf (v ∷ newer); kinds = map kindOf (v .pointers) } ∷ viewVersions bytes shelf newer
 
 unfoldable pub viewOf : ℕ → Shelf → Till → TillView
 viewOf bytes shelf t = record { last = t .last; versions = viewVersions bytes shelf (t .versions) }
@@ -55,10 +57,11 @@ chainShown (w ∷ newer) = largest (counted (hopsShown (w ∷ newer)) 0 (length 
 -- the till that a call is on; a lay out and a tally change none, and the closing of §7 is on many, by the backups that it comes to
 unfoldable pub tillNamed : Call → ℕ
 tillNamed (callLayout c) = 0
-tillNamed (callBackup era t image) = t
+tillNamed (callBackup era t d image) = t
 tillNamed (callRestore t v output) = t
 tillNamed (callRetire t v) = t
 tillNamed (callListing t) = t
+tillNamed (callVersionOn t day) = t
 tillNamed callTally = 0
 tillNamed (callWriteStream t v output) = t
 tillNamed (callOffer t fs ms) = t
@@ -77,19 +80,29 @@ turnedKind era new directKind b = kindAt (turnsTo era new b)
 turnedKind era new (indirectKind n) b = indirectKind n
 
 unfoldable pub withKinds : VersionView → List Kind → VersionView
-withKinds w ks = record { number = w .number; length = w .length; image = w .image; kinds = ks }
+withKinds w ks = record { number = w .number; length = w .length; day = w .day; image = w .image; kinds = ks }
 
 unfoldable pub turnNewest : Era → ℕ → List Block → List VersionView → List VersionView
 turnNewest era bytes new [] = []
 turnNewest era bytes new (w ∷ []) = withKinds w (over (turnedKind era new) (w .kinds) (imageBlocks bytes (w .image))) ∷ []
 turnNewest era bytes new (w ∷ x ∷ ws) = w ∷ turnNewest era bytes new (x ∷ ws)
 
-unfoldable pub shownWith : Era → ℕ → TillView → List ℕ → TillView
-shownWith era bytes w image = record {
+-- the newest one's day, and the day of a new version
+unfoldable pub newestDayShown : List VersionView → ℕ
+newestDayShown [] = 0
+newestDayShown (w ∷ []) = w .day
+newestDayShown (w ∷ x ∷ ws) = newestDayShown (x ∷ ws)
+
+unfoldable pub dayShown : Option ℕ → List VersionView → ℕ
+dayShown none ws = newestDayShown ws
+dayShown (some day) ws = day
+
+unfoldable pub shownWith : Era → ℕ → TillView → Option ℕ → List ℕ → TillView
+shownWith era bytes w d image = record {
   last = suc (w .last);
   versions =
       turnNewest era bytes (imageBlocks bytes image) (w .versions)
-      ++ (record { number = suc (w .last); length = length image; image = image; kinds = map (newKind era) (imageBlocks bytes image) } ∷ []);
+      ++ (record { number = suc (w .last); length = length image; day = dayShown d (w .versions); image = image; kinds = map (newKind era) (imageBlocks bytes image) } ∷ []);
 }
 
 -- A pointer of a retired version's older neighbour: an indirect one takes over what it named, of the retired version's.
@@ -114,12 +127,13 @@ shownWithout w n = record { last = w .last; versions = dropVersion n (w .version
 -- of §5 and a closing of §7 leave is that of the backups they come to.
 unfoldable pub changed : ℕ → Call → Bool → TillView → TillView
 changed bytes (callLayout c) ok w = w
-changed bytes (callBackup era t image) true w = shownWith era bytes w image
-changed bytes (callBackup era t image) false w = w
+changed bytes (callBackup era t d image) true w = shownWith era bytes w d image
+changed bytes (callBackup era t d image) false w = w
 changed bytes (callRestore t v output) ok w = w
 changed bytes (callRetire t v) true w = shownWithout w v
 changed bytes (callRetire t v) false w = w
 changed bytes (callListing t) ok w = w
+changed bytes (callVersionOn t day) ok w = w
 changed bytes callTally ok w = w
 changed bytes (callWriteStream t v output) ok w = w
 changed bytes (callOffer t fs ms) ok w = w
@@ -129,10 +143,11 @@ changed bytes (callBackupAll ts ns is) ok w = w
 -- the calls whose arguments say what they make of their till: all but the second message of §5 and the closing of §7
 abbrev pub IsPlain : Call → Type 0
 IsPlain (callLayout c) = Unit {0}
-IsPlain (callBackup era t image) = Unit {0}
+IsPlain (callBackup era t d image) = Unit {0}
 IsPlain (callRestore t v output) = Unit {0}
 IsPlain (callRetire t v) = Unit {0}
 IsPlain (callListing t) = Unit {0}
+IsPlain (callVersionOn t day) = Unit {0}
 IsPlain callTally = Unit {0}
 IsPlain (callWriteStream t v output) = Unit {0}
 IsPlain (callOffer t fs ms) = Unit {0}
@@ -143,10 +158,11 @@ IsPlain (callBackupAll ts ns is) = ⊥
 
 abbrev pub isOnTill : Call → Bool
 isOnTill (callLayout c) = false
-isOnTill (callBackup era t image) = true
+isOnTill (callBackup era t d image) = true
 isOnTill (callRestore t v output) = true
 isOnTill (callRetire t v) = true
 isOnTill (callListing t) = true
+isOnTill (callVersionOn t day) = true
 isOnTill callTally = false
 isOnTill (callWriteStream t v output) = true
 isOnTill (callOffer t fs ms) = false
@@ -166,6 +182,13 @@ newestShown [] = 0
 newestShown (w ∷ []) = w .number
 newestShown (w ∷ x ∷ ws) = newestShown (x ∷ ws)
 
+unfoldable pub shownNotAfter : ℕ → List VersionView → List VersionView
+shownNotAfter day ws = keep (λ (w : VersionView). leb (w .day) day) ws
+
+unfoldable pub newestShownOrNone : List VersionView → VersionOnAnswer
+newestShownOrNone [] = record { refusal = 29; version = 0 }
+newestShownOrNone (w ∷ ws) = record { refusal = 0; version = newestShown (w ∷ ws) }
+
 -- `n` is the refusal where none is shown
 unfoldable pub restoreShown : ℕ → List VersionView → List ℕ → RestoreAnswer
 restoreShown n [] output = restoreRefusal n output
@@ -179,16 +202,19 @@ retireShown n (w ∷ newer) = retired 0 (w .length)
 
 unfoldable pub answerShown : Shape → TillView → Call → Answer
 answerShown s w (callLayout c) = laidOut 0
-answerShown s w (callBackup era t image) =
+answerShown s w (callBackup era t d image) =
     cond (leb (s .capacities .tills) t) (backedUp 3 0)
     (cond (eqb (length image) 0 || ltb (s .measures .blockBytes * s .capacities .blocks) (length image)) (backedUp 4 0)
     (cond (leb (s .capacities .versions) (length (w .versions))) (backedUp 11 0)
-    (cond (eqb (w .last) 65535) (backedUp 12 0) (backedUp 0 (suc (w .last))))))
+    (cond (eqb (w .last) 65535) (backedUp 12 0)
+    (cond (ltb (dayShown d (w .versions)) (newestDayShown (w .versions))) (backedUp 28 0) (backedUp 0 (suc (w .last)))))))
 answerShown s w (callRestore t v output) = restored (cond (leb (s .capacities .tills) t) (restoreRefusal 3 output) (restoreShown (notHeld (w .last) v) (shownFrom v (w .versions)) output))
 answerShown s w (callRetire t v) = cond (leb (s .capacities .tills) t) (retired 3 0) (retireShown (notHeld (w .last) v) (shownFrom v (w .versions)))
 answerShown s w (callListing t) =
     listed (cond (leb (s .capacities .tills) t) (listingRefusal 3)
     (record { refusal = 0; oldest = oldestShown (w .versions); newest = newestShown (w .versions); last = w .last }))
+answerShown s w (callVersionOn t day) =
+    foundOn (cond (leb (s .capacities .tills) t) (record { refusal = 3; version = 0 }) (newestShownOrNone (shownNotAfter day (w .versions))))
 answerShown s w callTally = tallied (record { refusal = 0; cells = 0; records = 0; counts = 0 })
 answerShown s w (callWriteStream t v output) =
     streamed (writeRestored (cond (leb (s .capacities .tills) t) (restoreRefusal 3 longestOutput) (restoreShown (notHeld (w .last) v) (shownFrom v (w .versions)) longestOutput)) output)

@@ -2,6 +2,7 @@
 use mathlib.Core.Path.{_≡_, refl, sym, ap, _∙_, subst}
 use mathlib.Core.Bool.{Bool, true, false, cond, _||_, false≢true}
 use mathlib.Core.List.{List, [], _∷_, _++_, map, append-nil}
+use mathlib.Core.Option.{Option}
 use Prim.Native.Nat.{ℕ, zero, suc, _+_, _-_, _*_, _≤_, _<_, zero-le, suc-le-suc}
 use native.Mathlib.Nat.{add-zero, not-suc-le-zero, le-of-suc-le-suc, zero-lt-suc, le-refl}
 use native.Mathlib.Numerals.{add-one}
@@ -25,7 +26,7 @@ use Rattle.model.specs.Turn.{turn, turning}
 use Rattle.model.specs.Sweep.{release, sweep}
 use Rattle.model.specs.Trace.{endOf, blockAt, tracedBlock}
 use Rattle.model.specs.Sound.{isSound, isNull, leads, leadsTo, hasLength, isNumbered, endsZero, areTraceable, isTill, allPointers}
-use Rattle.model.specs.Calls.{emptyTill, tillOf, withTill, newestPointers, withNewestPointers, tillWith, fileIn, placeAndFile, backup, After}
+use Rattle.model.specs.Calls.{emptyTill, tillOf, withTill, newestPointers, withNewestPointers, newestDay, dayFor, tillWith, fileIn, placeAndFile, backup, After}
 use Rattle.laws.proofs.Fits.{Proper}
 use Rattle.laws.proofs.Measures.{parts-some}
 use Rattle.laws.proofs.Sweep.{Exact}
@@ -168,7 +169,7 @@ plain-leads p (q ∷ qs) f g = rw (one q (f 0) (λ k i e. g k i (omega (arith, a
     one (indirect m) e r = absurd (false≢true (sym e))
 
 -- What an accepted backup of `image` at till `t` of `st` did: the segments were placed, the new version joined the till, and the shelf was swept.
-pub record Filed (era : Era) (s : Shape) (st : State) (t : ℕ) (image : List ℕ) (a : After) : Type 0 where
+pub record Filed (era : Era) (s : Shape) (st : State) (t day : ℕ) (image : List ℕ) (a : After) : Type 0 where
   pub there : t < length (st .tills)
   pub answer : a .answer ≡ suc (tillOf st t .last)
   -- the shelf with the segments placed keeps what all pointers lead to
@@ -179,6 +180,7 @@ pub record Filed (era : Era) (s : Shape) (st : State) (t : ℕ) (image : List �
   pub version : Version
   pub number : version .number ≡ suc (tillOf st t .last)
   pub bytes : version .length ≡ length image
+  pub dated : version .day ≡ day
   pub size : length (version .pointers) ≡ length (imageBlocks (s .measures .blockBytes) image)
   pub good : NewOk era (s .measures) placed (imageBlocks (s .measures .blockBytes) image) (version .pointers)
   -- its till
@@ -193,7 +195,7 @@ pub record Filed (era : Era) (s : Shape) (st : State) (t : ℕ) (image : List �
 
 -- ---- the state after a backup
 
-module _ (era : Era) (s : Shape) (pr : Proper (s .measures)) (st : State) (h : isSound s st ≡ true) (t : ℕ) (ht : t < length (st .tills)) (image : List ℕ)
+module _ (era : Era) (s : Shape) (pr : Proper (s .measures)) (st : State) (h : isSound s st ≡ true) (t : ℕ) (ht : t < length (st .tills)) (day : ℕ) (image : List ℕ)
     (some-bytes : 0 < length image) (few-bytes : length image ≤ s .measures .blockBytes * s .capacities .blocks) (room : length (tillOf st t .versions) < s .capacities .versions)
     (number : tillOf st t .last ≡ 65535 → ⊥)
     (placed : Placed)
@@ -202,7 +204,7 @@ module _ (era : Era) (s : Shape) (pr : Proper (s .measures)) (st : State) (h : i
   bs = imageBlocks (s .measures .blockBytes) image
 
   newV : Version
-  newV = record { number = suc (tillOf st t .last); length = length image; pointers = take (length (imageBlocks (s .measures .blockBytes) image)) (placed .pointers) }
+  newV = record { number = suc (tillOf st t .last); length = length image; day = day; pointers = take (length (imageBlocks (s .measures .blockBytes) image)) (placed .pointers) }
 
   valid : Valid s st
   valid = sound-valid s st h
@@ -272,7 +274,7 @@ module _ (era : Era) (s : Shape) (pr : Proper (s .measures)) (st : State) (h : i
   rs = turning era (placed .shelf) bs (newestPointers vs)
 
   after : Till
-  after = tillWith (tillOf st t) (turn era (placed .shelf) bs (newestPointers vs)) (length image) (take (length bs) (placed .pointers))
+  after = tillWith (tillOf st t) (turn era (placed .shelf) bs (newestPointers vs)) (length image) day (take (length bs) (placed .pointers))
 
   after-versions : after .versions ≡ extended era s (placed .shelf) (ok .exact) bs newV good vs
   unfolding after tillWith extended newV bs vs
@@ -334,7 +336,7 @@ module _ (era : Era) (s : Shape) (pr : Proper (s .measures)) (st : State) (h : i
       })
       (fin .positive)
 
-  filed : Filed era s st t image (record { state = withTill st t (tillWith (tillOf st t) (turn era (placed .shelf) (imageBlocks (s .measures .blockBytes) image) (newestPointers (tillOf st t .versions))) (length image) (take (length (imageBlocks (s .measures .blockBytes) image)) (placed .pointers))) (sweep (s .measures) (release (placed .shelf) (turning era (placed .shelf) (imageBlocks (s .measures .blockBytes) image) (newestPointers (tillOf st t .versions))))); answer = suc (tillOf st t .last) })
+  filed : Filed era s st t day image (record { state = withTill st t (tillWith (tillOf st t) (turn era (placed .shelf) (imageBlocks (s .measures .blockBytes) image) (newestPointers (tillOf st t .versions))) (length image) day (take (length (imageBlocks (s .measures .blockBytes) image)) (placed .pointers))) (sweep (s .measures) (release (placed .shelf) (turning era (placed .shelf) (imageBlocks (s .measures .blockBytes) image) (newestPointers (tillOf st t .versions))))); answer = suc (tillOf st t .last) })
   unfolding bs newV vs rs after ps withTill
   filed = record {
     there = ht;
@@ -345,6 +347,7 @@ module _ (era : Era) (s : Shape) (pr : Proper (s .measures)) (st : State) (h : i
     version = newV;
     number = refl;
     bytes = refl;
+    dated = refl;
     size = new-length era (s .measures) (st .shelf) (placed .shelf) bs (padding (s .measures) pr image) (placed .pointers) ok′;
     good = good;
     before = before;
@@ -358,31 +361,45 @@ module _ (era : Era) (s : Shape) (pr : Proper (s .measures)) (st : State) (h : i
 
 -- ---- backup
 
-pub backup-filed : (era : Era) (s : Shape) → Proper (s .measures) → (t : ℕ) (image : List ℕ) (st : State) (a : After) → isSound s st ≡ true
-    → backup era s st t image ≡ done a → Filed era s st t image a
+pub backup-filed : (era : Era) (s : Shape) → Proper (s .measures) → (t : ℕ) (brought : Option ℕ) (image : List ℕ) (st : State) (a : After) → isSound s st ≡ true
+    → backup era s st t brought image ≡ done a → Filed era s st t (dayFor brought (tillOf st t .versions)) image a
 unfolding backup placeAndFile
-backup-filed era s pr t image st a h e =
+backup-filed era s pr t brought image st a h e =
+    let day : ℕ = dayFor brought (tillOf st t .versions) in
     let (e₁, r₁) = passed (leb (s .capacities .tills) t) 3 _ a e in
     let (e₂, r₂) = passed (eqb (length image) 0 || ltb (s .measures .blockBytes * s .capacities .blocks) (length image)) 4 _ a r₁ in
     let (e₃, r₃) = passed (leb (s .capacities .versions) (length (tillOf st t .versions))) 11 _ a r₂ in
     let (e₄, r₄) = passed (eqb (tillOf st t .last) 65535) 12 _ a r₃ in
+    let (e₅, r₅) = passed (ltb day (newestDay (tillOf st t .versions))) 28 _ a r₄ in
     let (z, big) = or-false (eqb (length image) 0) (ltb (s .measures .blockBytes * s .capacities .blocks) (length image)) e₂ in
     let v : Valid s st = sound-valid s st h in
     let segs : List (List Block) = imageSegments (s .measures .blockBytes) (s .measures .segmentBlocks) image in
-    go (placeAll era (done (record { shelf = st .shelf; pointers = [] })) segs)
+    go day (placeAll era (done (record { shelf = st .shelf; pointers = [] })) segs)
     (place-ok era (s .measures) (st .shelf) segs (v .fits) (v .exact) (segments-ok (s .measures) pr image))
     (omega (arith, leb-false (s .capacities .tills) t e₁, v .tillCount)) (omega (arith, eqb-false (length image) 0 z))
     (ltb-false (s .measures .blockBytes * s .capacities .blocks) (length image) big) (leb-false (s .capacities .versions) (length (tillOf st t .versions)) e₃)
-    (eqb-false (tillOf st t .last) 65535 e₄) r₄
+    (eqb-false (tillOf st t .last) 65535 e₄) r₅
   where
-    go : (o : Outcome Placed) → PlaceOk era (s .measures) (st .shelf) (joined (imageSegments (s .measures .blockBytes) (s .measures .segmentBlocks) image)) o
+    go : (day : ℕ) (o : Outcome Placed) → PlaceOk era (s .measures) (st .shelf) (joined (imageSegments (s .measures .blockBytes) (s .measures .segmentBlocks) image)) o
         → t < length (st .tills) → 0 < length image → length image ≤ s .measures .blockBytes * s .capacities .blocks
         → length (tillOf st t .versions) < s .capacities .versions → (tillOf st t .last ≡ 65535 → ⊥)
-        → fileIn era s st t image (imageBlocks (s .measures .blockBytes) image) (tillOf st t) o ≡ done a → Filed era s st t image a
-    go (refused n) ok ht some few room num r = unfold fileIn in absurd (no-refusal n a r)
-    go (done p) ok ht some few room num r =
-        unfold fileIn theAfter in subst (Filed era s st t image) (ap (theAfter a) r) (filed era s pr st h t ht image some few room num p ok)
+        → fileIn era s st t day image (imageBlocks (s .measures .blockBytes) image) (tillOf st t) o ≡ done a → Filed era s st t day image a
+    go day (refused n) ok ht some few room num r = unfold fileIn in absurd (no-refusal n a r)
+    go day (done p) ok ht some few room num r =
+        unfold fileIn theAfter in subst (Filed era s st t day image) (ap (theAfter a) r) (filed era s pr st h t ht day image some few room num p ok)
 
-pub backup-sound : (era : Era) (s : Shape) → Proper (s .measures) → (t : ℕ) (image : List ℕ) (st : State) (a : After) → isSound s st ≡ true
-    → backup era s st t image ≡ done a → isSound s (a .state) ≡ true
-backup-sound era s pr t image st a h e = backup-filed era s pr t image st a h e .sound
+pub backup-sound : (era : Era) (s : Shape) → Proper (s .measures) → (t : ℕ) (brought : Option ℕ) (image : List ℕ) (st : State) (a : After) → isSound s st ≡ true
+    → backup era s st t brought image ≡ done a → isSound s (a .state) ≡ true
+backup-sound era s pr t brought image st a h e = backup-filed era s pr t brought image st a h e .sound
+
+-- its day is not before that of the till's newest version
+pub backup-day : (era : Era) (s : Shape) (t : ℕ) (brought : Option ℕ) (image : List ℕ) (st : State) (a : After) → backup era s st t brought image ≡ done a
+    → newestDay (tillOf st t .versions) ≤ dayFor brought (tillOf st t .versions)
+unfolding backup
+backup-day era s t brought image st a e =
+    let (e₁, r₁) = passed (leb (s .capacities .tills) t) 3 _ a e in
+    let (e₂, r₂) = passed (eqb (length image) 0 || ltb (s .measures .blockBytes * s .capacities .blocks) (length image)) 4 _ a r₁ in
+    let (e₃, r₃) = passed (leb (s .capacities .versions) (length (tillOf st t .versions))) 11 _ a r₂ in
+    let (e₄, r₄) = passed (eqb (tillOf st t .last) 65535) 12 _ a r₃ in
+    let (e₅, r₅) = passed (ltb (dayFor brought (tillOf st t .versions)) (newestDay (tillOf st t .versions))) 28 _ a r₄ in
+    ltb-false (dayFor brought (tillOf st t .versions)) (newestDay (tillOf st t .versions)) e₅

@@ -35,23 +35,23 @@ module _ (pool table : List ℕ) (x : Store) (e : storeOf pool table ≡ some x)
   fit = range-fit (x .shape) (sound-valid (x .shape) (x .state) (store-found pool table x e .sound) .range)
 
   -- the store that a backup leaves
-  pub backup-store : (era : Era) (t : ℕ) (image : List ℕ)
-      → storeOf (backupBy era pool table t image .pool) (backupBy era pool table t image .table)
-      ≡ some (record { shape = x .shape; state = stateOr (x .state) (backup era (x .shape) (x .state) t image) })
+  pub backup-store : (era : Era) (t : ℕ) (brought : Option ℕ) (image : List ℕ)
+      → storeOf (backupBy era pool table t brought image .pool) (backupBy era pool table t brought image .table)
+      ≡ some (record { shape = x .shape; state = stateOr (x .state) (backup era (x .shape) (x .state) t brought image) })
   unfolding backupBy backupIn
-  backup-store era t image = rw e (go (backup era (x .shape) (x .state) t image) refl)
+  backup-store era t brought image = rw e (go (backup era (x .shape) (x .state) t brought image) refl)
     where
-      go : (o : Outcome After) → backup era (x .shape) (x .state) t image ≡ o
+      go : (o : Outcome After) → backup era (x .shape) (x .state) t brought image ≡ o
           → storeOf (backupAnswer pool table (x .shape) o .pool) (backupAnswer pool table (x .shape) o .table) ≡ some (record { shape = x .shape; state = stateOr (x .state) o })
       go (refused n) q = unfold backupAnswer stateOr in e
       go (done a) q =
           unfold backupAnswer stateOr in
-          round-trip (x .shape) (a .state) fit (backup-sound era (x .shape) (fit .proper) t image (x .state) a (store-found pool table x e .sound) q)
+          round-trip (x .shape) (a .state) fit (backup-sound era (x .shape) (fit .proper) t brought image (x .state) a (store-found pool table x e .sound) q)
 
-  pub backup-leaves : (era : Era) (t : ℕ) (image : List ℕ) → IsStore (backupBy era pool table t image .pool) (backupBy era pool table t image .table)
-  backup-leaves era t image = record {
-    store = record { shape = x .shape; state = stateOr (x .state) (backup era (x .shape) (x .state) t image) };
-    is = backup-store era t image;
+  pub backup-leaves : (era : Era) (t : ℕ) (brought : Option ℕ) (image : List ℕ) → IsStore (backupBy era pool table t brought image .pool) (backupBy era pool table t brought image .table)
+  backup-leaves era t brought image = record {
+    store = record { shape = x .shape; state = stateOr (x .state) (backup era (x .shape) (x .state) t brought image) };
+    is = backup-store era t brought image;
   }
 
   pub retire-leaves : (t v : ℕ) → IsStore (retireOf pool table t v .pool) (retireOf pool table t v .table)

@@ -132,6 +132,7 @@ unfolding versionIn versionToWords
 version-back s v f = λ i. record {
   number = v .number;
   length = v .length;
+  day = v .day;
   pointers = (ap (map wordToPointer) front ∙ pointers-back (v .pointers) (f .pointers)) i;
 }
   where

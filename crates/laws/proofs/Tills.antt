@@ -13,13 +13,13 @@ use borrow.Author.Tests.{eqb-false, eq-eqb, ne-eqb, leb-true}
 use Rattle.lists.specs.Lists.{rises, isIn}
 use Rattle.lists.specs.Rows.{rows}
 use Rattle.lists.proofs.Tests.{clause, every-at}
-use Rattle.lists.proofs.Rows.{Wide, wide-all, length-rows, getD-rows, getD-fill}
+use Rattle.lists.proofs.Rows.{Wide, wide-all, length-rows, rows-below, getD-rows, getD-fill}
 use Rattle.lists.proofs.Rises.{rises-length}
 use Rattle.model.specs.Measures.{Shape, tillWords, tableWords}
 use Rattle.model.specs.State.{Version, Till, State}
 use Rattle.model.specs.Table.{versionToWords, tillToWords, stateToWords, shapeOf, stateIn}
 use Rattle.model.specs.Sound.{isNumbered, areTraceable, isTill}
-use Rattle.model.specs.Calls.{emptyTill, tillOf, heldFrom, heldBefore, oldestNumber, newestNumber, notHeld}
+use Rattle.model.specs.Calls.{emptyTill, tillOf, heldFrom, heldBefore, oldestNumber, newestNumber, newestDay, notHeld}
 use Rattle.laws.proofs.Fits.{StateFits}
 use Rattle.laws.proofs.RoundTrip.{length-version, length-till}
 use Rattle.laws.specs.Stores.{tillAt, Sound}
@@ -62,7 +62,17 @@ unfolding newestNumber
 newest-at v [] = refl
 newest-at v (w ∷ vs) = newest-at w vs
 
+-- the newest day
+pub newest-day-at : (v : Version) (vs : List Version) → newestDay (v ∷ vs) ≡ getD (map (λ (w : Version). w .day) (v ∷ vs)) (length vs) 0
+unfolding newestDay
+newest-day-at v [] = refl
+newest-day-at v (w ∷ vs) = newest-day-at w vs
+
 -- ---- a till of a sound store
+
+-- past the end of a list of versions
+abbrev pub noVersion : Version
+noVersion = record { number = 0; length = 0; day = 0; pointers = [] }
 
 module _ {pool table : List ℕ} (h : Sound pool table) (t : ℕ) (in-table : t < getD table 0 0) where
   abbrev pub till : Till
@@ -127,18 +137,30 @@ module _ {pool table : List ℕ} (h : Sound pool table) (t : ℕ) (in-table : t 
       let m : suc j * (3 + getD table 2 0) ≤ getD table 1 0 * (3 + getD table 2 0) = mul-le-mul-right (3 + getD table 2 0) (omega (arith, l, few)) in
       omega (arith, m, suc-mul j (3 + getD table 2 0))
 
-  pub number-word : (j : ℕ) → j < length (till .versions) → getD table (tillAt (shapeOf table) t + (4 + j * (3 + getD table 2 0))) 0 ≡ getD (map (λ (v : Version). v .number) (till .versions)) j 0
-  unfolding tillToWords versionToWords
-  number-word j l =
+  -- word i of the slot at place j
+  slot-word : (j i : ℕ) → j < length (till .versions) → i < 3 + getD table 2 0
+      → getD table (tillAt (shapeOf table) t + (4 + (j * (3 + getD table 2 0) + i))) 0 ≡ getD (versionToWords (getD table 2 0) (getD (till .versions) j noVersion)) i 0
+  unfolding tillToWords
+  slot-word j i l g =
       let b : ℕ = getD table 2 0 in
       let vs : List Version = till .versions in
-      let none : Version = record { number = 0; length = 0; pointers = [] } in
       let wide : Wide (versionToWords b) (3 + b) vs = wide-all (versionToWords b) (3 + b) (length-version b) vs in
       let most : length vs * (3 + b) ≤ getD table 1 0 * (3 + b) = mul-le-mul-right (3 + b) few in
-      let q : 4 + j * (3 + b) ≡ suc (suc (suc (suc (j * (3 + b))))) = omega arith in
-      word-at (4 + j * (3 + b)) (omega (arith, slot-in j l)) ∙ ap (λ (ws : List ℕ). getD ws (4 + j * (3 + b)) 0) till-words
-      ∙ ap (λ (i : ℕ). getD (tillToWords (getD table 1 0) b till) i 0) q
-      ∙ getD-fill (getD table 1 0 * (3 + b)) (rows (versionToWords b) vs) (j * (3 + b)) (omega (arith, most, length-rows (versionToWords b) (3 + b) vs wide))
-      ∙ ap (λ (i : ℕ). getD (rows (versionToWords b) vs) i 0) (sym (add-zero (j * (3 + b))))
-      ∙ getD-rows (versionToWords b) (3 + b) none 0 vs wide j 0 l (omega arith)
-      ∙ sym (List·getD-map (λ (v : Version). v .number) vs j none)
+      let within : j * (3 + b) + i < length (rows (versionToWords b) vs) = rows-below (versionToWords b) (3 + b) vs wide j i l g in
+      let q : 4 + (j * (3 + b) + i) ≡ suc (suc (suc (suc (j * (3 + b) + i)))) = omega arith in
+      word-at (4 + (j * (3 + b) + i)) (omega (arith, slot-in j l, g)) ∙ ap (λ (ws : List ℕ). getD ws (4 + (j * (3 + b) + i)) 0) till-words
+      ∙ ap (λ (n : ℕ). getD (tillToWords (getD table 1 0) b till) n 0) q
+      ∙ getD-fill (getD table 1 0 * (3 + b)) (rows (versionToWords b) vs) (j * (3 + b) + i) (omega (arith, most, within, length-rows (versionToWords b) (3 + b) vs wide))
+      ∙ getD-rows (versionToWords b) (3 + b) noVersion 0 vs wide j i l g
+
+  pub number-word : (j : ℕ) → j < length (till .versions) → getD table (tillAt (shapeOf table) t + (4 + j * (3 + getD table 2 0))) 0 ≡ getD (map (λ (v : Version). v .number) (till .versions)) j 0
+  unfolding versionToWords
+  number-word j l =
+      ap (λ (n : ℕ). getD table (tillAt (shapeOf table) t + (4 + n)) 0) (sym (add-zero (j * (3 + getD table 2 0)))) ∙ slot-word j 0 l (omega arith)
+      ∙ sym (List·getD-map (λ (v : Version). v .number) (till .versions) j noVersion)
+
+  pub day-word : (j : ℕ) → j < length (till .versions) → getD table (tillAt (shapeOf table) t + (4 + j * (3 + getD table 2 0)) + 2) 0 ≡ getD (map (λ (v : Version). v .day) (till .versions)) j 0
+  unfolding versionToWords
+  day-word j l =
+      let at : tillAt (shapeOf table) t + (4 + j * (3 + getD table 2 0)) + 2 ≡ tillAt (shapeOf table) t + (4 + (j * (3 + getD table 2 0) + 2)) = omega arith in
+      ap (λ (n : ℕ). getD table n 0) at ∙ slot-word j 2 l (omega arith) ∙ sym (List·getD-map (λ (v : Version). v .day) (till .versions) j noVersion)

@@ -1,4 +1,4 @@
--- Every word of a sound state's table is below 2^32, so that a table of 32-bit words can hold it.
+-- Every word of a sound state's table is below 2^32 if its days are, so that a table of 32-bit words can hold it.
 use mathlib.Core.Path.{_≡_, refl, sym, subst}
 use mathlib.Core.Bool.{Bool, true, false, false≢true}
 use mathlib.Core.List.{List, [], _∷_, map}
@@ -58,12 +58,13 @@ unfolding areTraceable hasLength isWithin
 lengths-most s st [] h = tt
 lengths-most s st (v ∷ vs) h = (leb-true _ _ (clause _ 1 (clause _ 0 (clause _ 0 h))), lengths-most s st vs (clause _ 3 h))
 
-module _ (s : Shape) (fit : Fit s) (st : State) (h : isSound s st ≡ true) (small : Word (s .measures .blockBytes * s .capacities .blocks)) where
+module _ (s : Shape) (fit : Fit s) (st : State) (h : isSound s st ≡ true) (small : Word (s .measures .blockBytes * s .capacities .blocks))
+    (days : Each (λ (t : Till). Each (λ (v : Version). Word (v .day)) (t .versions)) (st .tills)) where
   fits : StateFits s st
   fits = state-fits s st (fit .proper .bytes) (fit .most) h
 
   abbrev Small : Version → Type 0
-  Small v = VersionFits s v × ((v .number ≤ 65535) × (v .length ≤ s .measures .blockBytes * s .capacities .blocks))
+  Small v = VersionFits s v × ((v .number ≤ 65535) × ((v .length ≤ s .measures .blockBytes * s .capacities .blocks) × Word (v .day)))
 
   version-words : (v : Version) → Small v → Each Word (versionToWords (s .capacities .blocks) v)
   unfolding versionToWords
@@ -72,7 +73,7 @@ module _ (s : Shape) (fit : Fit s) (st : State) (h : isSound s st ≡ true) (sma
     (
       omega (arith, f .1 .1, small),
       (
-        lit< tt,
+        f .1 .1 .1,
         each-fill Word (s .capacities .blocks) (map pointerWord (v .pointers)) (lit< tt)
             (each-map Word pointerWord (v .pointers) (each-weaken PointerFits _ pointer-word (v .pointers) (f .0 .pointers))),
       ),
@@ -99,22 +100,22 @@ module _ (s : Shape) (fit : Fit s) (st : State) (h : isSound s st ≡ true) (sma
     ),
   )
 
-  small-till : (t : Till) → TillFits s t → isTill s (st .shelf) t ≡ true → SmallTill t
+  small-till : (t : Till) → TillFits s t → isTill s (st .shelf) t ≡ true → Each (λ (v : Version). Word (v .day)) (t .versions) → SmallTill t
   unfolding isTill isNumbered
-  small-till t f e =
+  small-till t f e ds =
       let top : t .last ≤ 65535 = leb-true _ _ (clause _ 1 (clause _ 0 e)) in
       let many : 0 + length (map (λ (v : Version). v .number) (t .versions)) ≤ t .last = rises-length 0 (t .last) (map (λ (v : Version). v .number) (t .versions)) zero-le (clause _ 2 (clause _ 0 e)) in (
         top,
         omega (arith, top, many, length-map (t .versions) (λ (v : Version). v .number)),
-        each-both (VersionFits s) (λ (v : Version). (v .number ≤ 65535) × (v .length ≤ s .measures .blockBytes * s .capacities .blocks)) (t .versions) (f .versions)
-            (each-both (λ (v : Version). v .number ≤ 65535) (λ (v : Version). v .length ≤ s .measures .blockBytes * s .capacities .blocks) (t .versions)
+        each-both (VersionFits s) (λ (v : Version). (v .number ≤ 65535) × ((v .length ≤ s .measures .blockBytes * s .capacities .blocks) × Word (v .day))) (t .versions) (f .versions)
+            (each-both (λ (v : Version). v .number ≤ 65535) (λ (v : Version). (v .length ≤ s .measures .blockBytes * s .capacities .blocks) × Word (v .day)) (t .versions)
             (numbers-most 0 (t .last) (t .versions) (clause _ 2 (clause _ 0 e)) top)
-            (lengths-most s st (t .versions) (clause _ 1 e))),
+            (each-both (λ (v : Version). v .length ≤ s .measures .blockBytes * s .capacities .blocks) (λ (v : Version). Word (v .day)) (t .versions) (lengths-most s st (t .versions) (clause _ 1 e)) ds)),
       )
 
-  small-tills : (ts : List Till) → Each (TillFits s) ts → every (isTill s (st .shelf)) ts ≡ true → Each SmallTill ts
-  small-tills [] f e = tt
-  small-tills (t ∷ ts) f e = (small-till t (f .0) (every-head (isTill s (st .shelf)) t ts e), small-tills ts (f .1) (every-tail (isTill s (st .shelf)) t ts e))
+  small-tills : (ts : List Till) → Each (TillFits s) ts → every (isTill s (st .shelf)) ts ≡ true → Each (λ (t : Till). Each (λ (v : Version). Word (v .day)) (t .versions)) ts → Each SmallTill ts
+  small-tills [] f e ds = tt
+  small-tills (t ∷ ts) f e ds = (small-till t (f .0) (every-head (isTill s (st .shelf)) t ts e) (ds .0), small-tills ts (f .1) (every-tail (isTill s (st .shelf)) t ts e) (ds .1))
 
   -- ---- records
 
@@ -195,4 +196,4 @@ module _ (s : Shape) (fit : Fit s) (st : State) (h : isSound s st ≡ true) (sma
   words-fit =
       each-append Word (headerToWords s) _ header-words
       (each-append Word (joined (map (tillToWords (s .capacities .versions) (s .capacities .blocks)) (st .tills))) _
-      (each-joined Word SmallTill (tillToWords (s .capacities .versions) (s .capacities .blocks)) till-words (st .tills) (small-tills (st .tills) (fits .tills) (clause _ 4 h))) records-words)
+      (each-joined Word SmallTill (tillToWords (s .capacities .versions) (s .capacities .blocks)) till-words (st .tills) (small-tills (st .tills) (fits .tills) (clause _ 4 h) days)) records-words)

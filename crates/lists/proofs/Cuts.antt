@@ -1,14 +1,14 @@
 -- Lists cut into rows, and rows read back from their words.
 use mathlib.Core.Path.{_≡_, refl, sym, ap, _∙_}
 use mathlib.Core.List.{List, [], _∷_, _++_, map, append-assoc, append-nil}
-use Prim.Native.Nat.{ℕ, zero, suc, _+_, _*_, _/_, _<_}
+use Prim.Native.Nat.{ℕ, zero, suc, zero-le, _+_, _*_, _/_, _≤_, _<_}
 use native.Mathlib.Nat.{zero-mul, suc-mul, mul-div-cancel, not-suc-le-zero, le-of-suc-le-suc}
 use native.Mathlib.Omega.{arith}
-use lib.ListN.{length, getD, take, drop, length-map, List·getD-map}
+use lib.ListN.{length, getD, take, drop, length-append, length-take, length-drop, length-map, List·getD-map}
 use lib.Seq.{take-at, drop-at, drop-drop, take-add, take-all, getD-take, getD-drop}
 use Rattle.lists.specs.Rows.{joined, parts, chunks, rows}
 use Rattle.lists.specs.Each.{Each}
-use Rattle.lists.proofs.Rows.{Wide, joined-rows, length-rows}
+use Rattle.lists.proofs.Rows.{Wide, joined-rows, length-rows, rows-append}
 use Rattle.lists.proofs.Each.{each-at, each-map}
 
 -- ---- parts
@@ -28,6 +28,16 @@ module _ {ℓ} {A : Type ℓ} (k : ℕ) where
       let p : suc i * k ≡ k + i * k = omega (arith, suc-mul i k) in
       part-at n (drop k ws) i (le-of-suc-le-suc h) ∙ ap (take k) (drop-drop (i * k) k ws ∙ ap (λ (m : ℕ). drop m ws) (sym p))
 
+  -- one more part
+  pub parts-next : (n : ℕ) (ws : List A) → parts k (n + 1) ws ≡ parts k n ws ++ (take k (drop (n * k) ws) ∷ [])
+  unfolding parts
+  parts-next zero ws = rw zero-mul
+  parts-next (suc n) ws =
+      let e : suc n + 1 ≡ suc (n + 1) = omega arith in
+      let p : k + n * k ≡ suc n * k = omega (arith, suc-mul n k) in
+      let d : drop (n * k) (drop k ws) ≡ drop (suc n * k) ws = drop-drop (n * k) k ws ∙ ap (λ (i : ℕ). drop i ws) p in
+      ap (λ (i : ℕ). parts k i ws) e ∙ ap (λ (r : List (List A)). take k ws ∷ r) (parts-next n (drop k ws) ∙ ap (λ (l : List A). parts k n (drop k ws) ++ (take k l ∷ [])) d)
+
   -- word j of part i
   pub part-word : (ws : List A) (i j : ℕ) (d : A) → j < k → getD (take k (drop (i * k) ws)) j d ≡ getD ws (i * k + j) d
   part-word ws i j d h = getD-take k (drop (i * k) ws) j d h ∙ getD-drop (i * k) ws j d
@@ -38,6 +48,42 @@ module _ {ℓ} {A : Type ℓ} (k : ℕ) where
   joined-parts (suc n) ws =
       let p : suc n * k ≡ k + n * k = omega (arith, suc-mul n k) in
       rw (p, take-add, joined-parts n (drop k ws))
+
+-- a list made of each part, one after the other
+module _ {ℓ κ} {A : Type ℓ} {B : Type κ} (f : List A → List B) (k : ℕ) where
+  pub cut-next : (n : ℕ) (ws : List A) → rows f (parts k (n + 1) ws) ≡ rows f (parts k n ws) ++ f (take k (drop (n * k) ws))
+  unfolding joined
+  cut-next n ws =
+      ap (rows f) (parts-next k n ws) ∙ rows-append f (parts k n ws) (take k (drop (n * k) ws) ∷ [])
+      ∙ ap (λ (l : List B). rows f (parts k n ws) ++ l) (append-nil (f (take k (drop (n * k) ws))))
+
+  -- where none is longer than its part
+  module _ (short : (x : List A) → length (f x) ≤ length x) where
+    pub cut-most : (n : ℕ) (ws : List A) → length (rows f (parts k n ws)) ≤ n * k
+    unfolding joined parts
+    cut-most zero ws = zero-le
+    cut-most (suc n) ws =
+        omega (
+          arith,
+          length-append (f (take k ws)) (rows f (parts k n (drop k ws))),
+          short (take k ws),
+          length-take k ws,
+          cut-most n (drop k ws),
+          suc-mul n k,
+        )
+
+    pub cut-short : (n : ℕ) (ws : List A) → length (rows f (parts k n ws)) ≤ length ws
+    unfolding joined parts
+    cut-short zero ws = zero-le
+    cut-short (suc n) ws =
+        omega (
+          arith,
+          length-append (f (take k ws)) (rows f (parts k n (drop k ws))),
+          short (take k ws),
+          length-take k ws,
+          length-drop k ws,
+          cut-short n (drop k ws),
+        )
 
 -- what holds of each part by its place holds of every part, and the other way round
 module _ {ℓ} {A : Type ℓ} (P : List A → Type 0) (k : ℕ) where

@@ -6,6 +6,7 @@ pub mod Rises
 pub mod Sets
 pub mod Counted
 pub mod Counts
+pub mod Keep
 pub mod Uses
 pub mod First
 pub mod Rows

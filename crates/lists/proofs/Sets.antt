@@ -93,6 +93,12 @@ two-set [] a b h = absurd (omega (arith, h))
 two-set (x ∷ []) a b h = absurd (omega (arith, h))
 two-set (x ∷ y ∷ ws) a b h = refl
 
+pub three-set : (ws : List ℕ) (a b c : ℕ) → 3 ≤ length ws → set (set (set ws 0 a) 1 b) 2 c ≡ a ∷ b ∷ c ∷ drop 3 ws
+three-set [] a b c h = absurd (omega (arith, h))
+three-set (x ∷ []) a b c h = absurd (omega (arith, h))
+three-set (x ∷ y ∷ []) a b c h = absurd (omega (arith, h))
+three-set (x ∷ y ∷ z ∷ ws) a b c h = refl
+
 pub set-false : (fs : List Bool) (x c : ℕ) → getD (set fs x false) c false ≡ cond (eqb c x) false (getD fs c false)
 set-false [] x c = go (eqb c x)
   where

@@ -1,9 +1,9 @@
 // The calls as C sees them (include/lurdempos.h): each passes its arguments on, and its contract is the call's.
 ghost use mathlib.Core.Path.{_≡_};
-ghost use Rattle.model.specs.Calls.{tableLengthOf, layoutOf, backupOf, restoreOf, retireOf, listingOf, tallyOf};
+ghost use Rattle.model.specs.Calls.{tableLengthOf, layoutOf, backupOf, backupDatedOf, restoreOf, retireOf, listingOf, versionOnOf, tallyOf};
 ghost use Rattle.layout.specs.Layout.{lengthAnswer, layoutAnswer};
 ghost use Rattle.backup.specs.Call.{backedUpAnswer};
-ghost use Rattle.tills.specs.Answers.{listingAnswer};
+ghost use Rattle.tills.specs.Answers.{listingAnswer, versionFound};
 ghost use Rattle.restore.specs.Answers.{restoreAnswer};
 ghost use Rattle.retire.specs.Answers.{retireAnswer};
 ghost use Rattle.tally.specs.Answers.{tallyAnswer};
@@ -32,6 +32,7 @@ use stream_read::StreamRead;
 use stream_write::StreamWritten;
 use tally::Tally;
 use tills::Listing;
+use tills::VersionFound;
 
 #[repr(C)]
 pub struct LaidOut {
@@ -117,6 +118,19 @@ pub extern "C" fn lurdempos_backup(
 }
 
 #[no_mangle]
+pub extern "C" fn lurdempos_backup_dated(
+    pool: &mut [u8],
+    table: &mut [u32],
+    till: u32,
+    day: u32,
+    image: &[u8],
+) -> BackedUp
+    ensures { λ r. ⌜ backedUpAnswer r (now (pool .exit)) (now (table .exit)) ≡ backupDatedOf (now (pool .entry)) (now (table .entry)) till day (now (image .entry)) ⌝ }
+{
+    store::backup_dated(pool, table, till, day, image)
+}
+
+#[no_mangle]
 pub extern "C" fn lurdempos_restore(
     pool: &[u8],
     table: &[u32],
@@ -146,6 +160,18 @@ pub extern "C" fn lurdempos_listing(pool: &[u8], table: &[u32], till: u32) -> Li
     ensures { λ r. ⌜ listingAnswer r ≡ listingOf (now (pool .entry)) (now (table .entry)) till ⌝ }
 {
     store::listing(pool, table, till)
+}
+
+#[no_mangle]
+pub extern "C" fn lurdempos_version_on(
+    pool: &[u8],
+    table: &[u32],
+    till: u32,
+    day: u32,
+) -> VersionFound
+    ensures { λ r. ⌜ versionFound r ≡ versionOnOf (now (pool .entry)) (now (table .entry)) till day ⌝ }
+{
+    store::version_on(pool, table, till, day)
 }
 
 #[no_mangle]

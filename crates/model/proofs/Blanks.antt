@@ -7,7 +7,7 @@ use Rattle.model.proofs.Steps.{backup, earlier, restore, retire, listin
 
 -- a version of whole blocks
 unfoldable pub version : ℕ → List Pointer → Version
-version n ps = record { number = n; length = 64 * length ps; pointers = ps }
+version n ps = record { number = n; length = 64 * length ps; day = 0; pointers = ps }
 
 unfoldable pub blanks : List Row
 blanks =
@@ -113,7 +113,7 @@ blanks =
           ∷ recordIs 1 (held 2 1 ∷ blankPosition ∷ nullPosition ∷ held 3 1 ∷ nullPosition ∷ blankPosition ∷ replicate 2 nullPosition)
           ∷ tally 0 2 1 2
           ∷ backup 0 (replicate 70 255) 0 3
-          ∷ slotIs 2 (record { number = 3; length = 70; pointers = blankPointer ∷ direct 0 1 ∷ [] })
+          ∷ slotIs 2 (record { number = 3; length = 70; day = 0; pointers = blankPointer ∷ direct 0 1 ∷ [] })
           ∷ recordIs 0 (blankPosition ∷ held 0 1 ∷ replicate 6 nullPosition)
           ∷ restore 0 3 (zeros 72) 0 70 0 (replicate 70 255 ++ zeros 2)
           ∷ restore 0 2 (zeros 384) 0 384 0 (blocks (65 ∷ 255 ∷ 0 ∷ 66 ∷ 0 ∷ 255 ∷ []))

@@ -18,11 +18,12 @@ use Rattle.model.specs.Sweep.{changeAt, changeAll, release, claim, moved
 use Rattle.model.specs.Trace.{hopsVia, endVia, hops, endOf, blockAt, tracedBlock, tracedBlocks, imageOf, longestChain}
 use Rattle.model.specs.Table.{pointerWord, recordToWords, versionToWords, tillToWords, measureWord, headerToWords, stateToWords, stateToBytes, measuresIn, shapeOf, pointerOf, wordToPointer, positionOf, positionsIn, segmentIn, recordsIn, cellsIn, shelfIn, versionIn, versionsIn, tillIn, tillsIn, stateIn}
 use Rattle.model.specs.Sound.{isShaped, hasLength, isNumbered, isUsed, hasCells, nextPointers, endsZero, areTraceable, isTill, allPointers, areCounted, allCounted, areFilled, isSound, ifSound, hasLengths, storeAs, storeOf}
-use Rattle.model.specs.Calls.{tableLengthOf, emptyTill, emptyState, layoutIf, layoutOf, tillOf, heldFrom, withTill, newestPointers, withNewestPointers, tillWith, fileIn, placeAndFile, backupAnswer, backupIn, backupBy, backupOf, restoreRefusal, restoreFrom, restoreIn, restoreOf, heldBefore, firstOf, notHeld, lookUp, closeUp, retireFrom, retireAnswer, retireIn, retireOf, oldestNumber, newestNumber, listingRefusal, listTill, listingIn, listingOf, tallyIn, tallyOf}
+use Rattle.model.specs.Calls.{tableLengthOf, emptyTill, emptyState, layoutIf, layoutOf, tillOf, heldFrom, withTill, newestPointers, withNewestPointers, newestDay, dayFor, tillWith, fileIn, placeAndFile, backupAnswer, backupIn, backupBy, backupOf, backupDatedOf, notAfter, newestOrNone, versionOnIn, versionOnOf, restoreRefusal, restoreFrom, restoreIn, restoreOf, heldBefore, firstOf, notHeld, lookUp, closeUp, retireFrom, retireAnswer, retireIn, retireOf, oldestNumber, newestNumber, listingRefusal, listTill, listingIn, listingOf, tallyIn, tallyOf}
 use Rattle.model.specs.State.{nullPointer, direct, indirect, nullPosition, held, removed}
 use Rattle.model.specs.Calls as Calls
 use Rattle.model.proofs.Steps.{Step, tableLength, layout, backup, restore, retire, listing, tally, slotIs, recordIs, poolIs, settingsAre, overwrite, Row, slotAt, recordAt, isAt, holdsFrom, holds, atBase, box, blocks, zeros, letters, ABCDEFGH, ABCDEFGZ, AIJKLMNO, ABIJKLMN, IJKLMNOP, QRSTUVWX, run8, to8, v512}
 use Rattle.model.proofs.Blanks.{version, blanks}
+use Rattle.model.proofs.Dates.{shopOf, oneBlock, A, B, dates}
 
 -- ---- the page's cases
 
@@ -221,7 +222,7 @@ beside =
       steps =
           backup 0 (blocks (65 ∷ 0 ∷ 66 ∷ [])) 0 1
           ∷ backup 0 (blocks (0 ∷ 66 ∷ 66 ∷ 65 ∷ 65 ∷ [])) 0 2
-          ∷ slotIs 0 (record { number = 1; length = 192; pointers = indirect 3 ∷ nullPointer ∷ indirect 1 ∷ [] })
+          ∷ slotIs 0 (record { number = 1; length = 192; day = 0; pointers = indirect 3 ∷ nullPointer ∷ indirect 1 ∷ [] })
           ∷ restore 0 1 (zeros 192) 0 192 1 (blocks (65 ∷ 0 ∷ 66 ∷ []))
           ∷ tally 0 4 1 4
           ∷ [];
@@ -261,9 +262,9 @@ beside =
           ∷ backup 0 (blocks (65 ∷ 66 ∷ 67 ∷ [])) 0 2
           ∷ backup 0 (blocks (66 ∷ 68 ∷ [])) 0 3
           ∷ retire 0 2 0 192
-          ∷ slotIs 0 (record { number = 1; length = 128; pointers = direct 1 0 ∷ indirect 0 ∷ [] })
-          ∷ slotIs 1 (record { number = 3; length = 128; pointers = direct 0 0 ∷ direct 0 1 ∷ [] })
-          ∷ slotIs 2 (record { number = 0; length = 0; pointers = [] })
+          ∷ slotIs 0 (record { number = 1; length = 128; day = 0; pointers = direct 1 0 ∷ indirect 0 ∷ [] })
+          ∷ slotIs 1 (record { number = 3; length = 128; day = 0; pointers = direct 0 0 ∷ direct 0 1 ∷ [] })
+          ∷ slotIs 2 (record { number = 0; length = 0; day = 0; pointers = [] })
           ∷ recordIs 1 (held 2 1 ∷ removed ∷ removed ∷ replicate 5 nullPosition)
           ∷ poolIs (blocks (66 ∷ 68 ∷ 65 ∷ []) ++ zeros (64 * 13))
           ∷ restore 0 1 (zeros 128) 0 128 1 (blocks (65 ∷ 66 ∷ []))
@@ -282,15 +283,15 @@ beside =
       steps =
           backup 0 (blocks (65 ∷ 65 ∷ 66 ∷ [])) 0 1
           ∷ backup 0 (blocks (65 ∷ 67 ∷ [])) 0 2
-          ∷ slotIs 0 (record { number = 1; length = 192; pointers = indirect 0 ∷ indirect 0 ∷ direct 0 2 ∷ [] })
+          ∷ slotIs 0 (record { number = 1; length = 192; day = 0; pointers = indirect 0 ∷ indirect 0 ∷ direct 0 2 ∷ [] })
           ∷ retire 0 2 0 128
-          ∷ slotIs 0 (record { number = 1; length = 192; pointers = direct 1 0 ∷ direct 1 0 ∷ direct 0 2 ∷ [] })
+          ∷ slotIs 0 (record { number = 1; length = 192; day = 0; pointers = direct 1 0 ∷ direct 1 0 ∷ direct 0 2 ∷ [] })
           ∷ recordIs 1 (held 0 2 ∷ removed ∷ replicate 6 nullPosition)
           ∷ restore 0 1 (zeros 192) 0 192 0 (blocks (65 ∷ 65 ∷ 66 ∷ []))
           ∷ listing 0 0 1 1 2
           ∷ tally 0 2 2 3
           ∷ backup 0 (blocks (66 ∷ 65 ∷ [])) 0 3
-          ∷ slotIs 0 (record { number = 1; length = 192; pointers = indirect 1 ∷ indirect 1 ∷ indirect 0 ∷ [] })
+          ∷ slotIs 0 (record { number = 1; length = 192; day = 0; pointers = indirect 1 ∷ indirect 1 ∷ indirect 0 ∷ [] })
           ∷ restore 0 1 (zeros 192) 0 192 1 (blocks (65 ∷ 65 ∷ 66 ∷ []))
           ∷ [];
     }
@@ -485,7 +486,7 @@ otherMeasures =
           ∷ recordIs 0 (counted (λ c. held c 1) 0 4)
           ∷ recordIs 1 (removed ∷ held 8 1 ∷ nullPosition ∷ nullPosition ∷ [])
           ∷ recordIs 2 (held 6 1 ∷ held 7 1 ∷ nullPosition ∷ nullPosition ∷ [])
-          ∷ slotIs 0 (record { number = 1; length = 384; pointers = counted indirect 0 5 ++ (direct 1 1 ∷ []) })
+          ∷ slotIs 0 (record { number = 1; length = 384; day = 0; pointers = counted indirect 0 5 ++ (direct 1 1 ∷ []) })
           ∷ restore 0 1 (zeros 384) 0 384 1 (blocks (letters 65 6))
           ∷ tally 0 7 3 7
           ∷ [];
@@ -513,7 +514,7 @@ otherMeasures =
           ∷ restore 0 1 (zeros 1000) 0 1000 0 (replicate 512 65 ++ replicate 488 66)
           ∷ tally 0 2 1 2
           ∷ backup 0 (replicate 512 65 ++ replicate 488 66) 0 2
-          ∷ slotIs 0 (record { number = 1; length = 1000; pointers = indirect 0 ∷ indirect 1 ∷ [] })
+          ∷ slotIs 0 (record { number = 1; length = 1000; day = 0; pointers = indirect 0 ∷ indirect 1 ∷ [] })
           ∷ restore 0 1 (zeros 1000) 0 1000 1 (replicate 512 65 ++ replicate 488 66)
           ∷ tally 0 2 1 2
           ∷ [];
@@ -557,8 +558,8 @@ otherMeasures =
     }
     ∷ []
 
-day-holds : every holds (theDay ++ (blanks ++ (beside ++ otherMeasures))) ≡ true
-unfolding theDay blanks beside otherMeasures boxOf version case1 case2 case3 case4 case5 case6 v512 to8 run8 letters ABCDEFGH ABCDEFGZ AIJKLMNO ABIJKLMN IJKLMNOP QRSTUVWX zeros blocks atBase box holds
+day-holds : every holds (theDay ++ (blanks ++ (dates ++ (beside ++ otherMeasures)))) ≡ true
+unfolding theDay blanks dates shopOf oneBlock A B beside otherMeasures boxOf version case1 case2 case3 case4 case5 case6 v512 to8 run8 letters ABCDEFGH ABCDEFGZ AIJKLMNO ABIJKLMN IJKLMNOP QRSTUVWX zeros blocks atBase box holds
     holdsFrom isAt slotAt recordAt
     counted every keep count total firstFrom allOf sameNumbers rises isIn distinct allZero largest joined parts chunks fill maskOf isWithin areMeasures inRange partsFor
     tableWords poolBytes zeroBlock blankBlock isBlank isBare blockFrom blocksFrom imageBlocks segmentsFrom imageSegments freeSegment isFree cellsOf namedCells cellAt positionAt
@@ -568,7 +569,7 @@ unfolding theDay blanks beside otherMeasures boxOf version case1 case2 case3 cas
     isBase measureWord headerToWords stateToWords stateToBytes measuresIn shapeOf pointerOf wordToPointer positionOf positionsIn segmentIn recordsIn cellsIn shelfIn versionIn
     versionsIn tillIn tillsIn stateIn isShaped hasLength isNumbered isUsed hasCells nextPointers endsZero areTraceable isTill allPointers areCounted
     allCounted areFilled isSound ifSound hasLengths storeAs storeOf emptyTill emptyState layoutIf layoutOf tillOf heldFrom withTill
-    newestPointers withNewestPointers tillWith fileIn placeAndFile Calls.backup backupAnswer backupIn backupBy backupOf restoreRefusal restoreFrom
+    newestPointers withNewestPointers newestDay dayFor tillWith fileIn placeAndFile Calls.backup backupAnswer backupIn backupBy backupOf backupDatedOf notAfter newestOrNone versionOnIn versionOnOf restoreRefusal restoreFrom
     Calls.restore restoreIn restoreOf heldBefore firstOf notHeld lookUp closeUp retireFrom Calls.retire retireAnswer retireIn retireOf oldestNumber newestNumber listingRefusal
     listTill listingIn listingOf tallyIn tallyOf tableLengthOf
 day-holds = refl

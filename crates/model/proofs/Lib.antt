@@ -1,4 +1,5 @@
 -- The starred day, proved from the definitions.
 pub mod Steps
 pub mod Blanks
+pub mod Dates
 pub mod Day

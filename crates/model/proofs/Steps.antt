@@ -2,6 +2,7 @@
 use Prim.Native.Nat.{ℕ, _+_, _*_}
 use mathlib.Core.Bool.{Bool, true, _&&_}
 use mathlib.Core.List.{List, [], _∷_, _++_}
+use mathlib.Core.Option.{none}
 use lib.ListN.{set, take, drop, replicate}
 use lib.Dec.{eqb}
 use Rattle.lists.specs.Lists.{counted, sameNumbers}
@@ -10,7 +11,7 @@ use Rattle.model.specs.Measures.{Capacities, Shape, baseMeasures, tableW
 use Rattle.model.specs.Image.{beforeBlanks}
 use Rattle.model.specs.Table.{recordToWords, versionToWords}
 use Rattle.model.specs.State.{Pointer, direct, held, Segment, Version}
-use Rattle.model.specs.Calls.{tableLengthOf, layoutOf, backupBy, backupOf, restoreOf, retireOf, listingOf, tallyOf, LengthAnswer, LayoutAnswer, BackupAnswer, RestoreAnswer, RetireAnswer, ListingAnswer, TallyAnswer}
+use Rattle.model.specs.Calls.{tableLengthOf, layoutOf, backupBy, backupOf, backupDatedOf, versionOnOf, VersionOnAnswer, restoreOf, retireOf, listingOf, tallyOf, LengthAnswer, LayoutAnswer, BackupAnswer, RestoreAnswer, RetireAnswer, ListingAnswer, TallyAnswer}
 
 -- A call with what it answers, or a fact of the buffers as the calls before it left them. Slots and records are read as words.
 pub data Step : Type 0 where
@@ -19,6 +20,9 @@ pub data Step : Type 0 where
   backup : (till : ℕ) (image : List ℕ) (refusal version : ℕ) → Step
   -- a backup from before blank blocks were known
   earlier : (till : ℕ) (image : List ℕ) (refusal version : ℕ) → Step
+  -- a backup with a day, and lookup by day
+  dated : (till day : ℕ) (image : List ℕ) (refusal version : ℕ) → Step
+  versionOn : (till day refusal version : ℕ) → Step
   restore : (till version : ℕ) (output : List ℕ) (refusal length hops : ℕ) (after : List ℕ) → Step
   retire : (till version refusal length : ℕ) → Step
   listing : (till refusal oldest newest last : ℕ) → Step
@@ -59,8 +63,14 @@ holdsFrom s (backup t image n v ∷ steps) pool table =
     let a : BackupAnswer = backupOf pool table t image in
     eqb (a .refusal) n && eqb (a .version) v && holdsFrom s steps (a .pool) (a .table)
 holdsFrom s (earlier t image n v ∷ steps) pool table =
-    let a : BackupAnswer = backupBy beforeBlanks pool table t image in
+    let a : BackupAnswer = backupBy beforeBlanks pool table t none image in
     eqb (a .refusal) n && eqb (a .version) v && holdsFrom s steps (a .pool) (a .table)
+holdsFrom s (dated t day image n v ∷ steps) pool table =
+    let a : BackupAnswer = backupDatedOf pool table t day image in
+    eqb (a .refusal) n && eqb (a .version) v && holdsFrom s steps (a .pool) (a .table)
+holdsFrom s (versionOn t day n v ∷ steps) pool table =
+    let a : VersionOnAnswer = versionOnOf pool table t day in
+    eqb (a .refusal) n && eqb (a .version) v && holdsFrom s steps pool table
 holdsFrom s (restore t v output n l h after ∷ steps) pool table =
     let a : RestoreAnswer = restoreOf pool table t v output in
     eqb (a .refusal) n && eqb (a .length) l && eqb (a .hops) h && sameNumbers (a .output) after && holdsFrom s steps pool table
@@ -138,4 +148,4 @@ to8 k = counted (direct k) 0 8
 
 -- a version of 512 bytes
 unfoldable pub v512 : ℕ → List Pointer → Version
-v512 n ps = record { number = n; length = 512; pointers = ps }
+v512 n ps = record { number = n; length = 512; day = 0; pointers = ps }

@@ -6,7 +6,7 @@ use mathlib.Core.List.{List, [], _∷_, _++_, map}
 use mathlib.Core.Option.{Option, none, some}
 use lib.ListN.{length, getD, set, take, drop, replicate}
 use lib.Dec.{eqb, ltb, leb}
-use Rattle.lists.specs.Lists.{count, total}
+use Rattle.lists.specs.Lists.{keep, count, total}
 use Rattle.model.specs.Measures.{Shape, inRange, tableWords, poolBytes}
 use Rattle.model.specs.State.{Block, Pointer, nullPointer, blankPointer, direct, indirect, Shelf, Version, withPointers, Till, State, Outcome, refused, done}
 use Rattle.model.specs.Image.{zeroBlock, Era, withBlanks, imageBlocks, imageSegments}
@@ -68,7 +68,7 @@ heldFrom n (v ∷ vs) = let r = heldFrom n vs in cond (eqb (v .number) n) (v ∷
 unfoldable pub withTill : State → ℕ → Till → Shelf → State
 withTill st t till shelf = record { tills = set (st .tills) t till; shelf = shelf }
 
--- ---- backup: 10, 3, 4, 11, 12, then 14 before 16 at the first segment that cannot be placed
+-- ---- backup: 10, 3, 4, 11, 12, 28 if it brings a day, then 14 before 16 at the first segment that cannot be placed
 
 pub record BackupAnswer : Type 0 where
   pub refusal : ℕ
@@ -105,53 +105,69 @@ withNewestPointers [] ps = []
 withNewestPointers (v ∷ []) ps = withPointers v ps ∷ []
 withNewestPointers (v ∷ w ∷ vs) ps = v ∷ withNewestPointers (w ∷ vs) ps
 
+-- §13: the day of the till's newest held version, 0 if none is held
+unfoldable pub newestDay : List Version → ℕ
+newestDay [] = 0
+newestDay (v ∷ []) = v .day
+newestDay (v ∷ w ∷ vs) = newestDay (w ∷ vs)
+
+-- the day of a new version: the one that is brought; "backups without one … take that day"
+unfoldable pub dayFor : Option ℕ → List Version → ℕ
+dayFor none vs = newestDay vs
+dayFor (some day) vs = day
+
 -- the till with the new version, the previous one's pointers turned
-unfoldable pub tillWith : Till → List Pointer → ℕ → List Pointer → Till
-tillWith till turned bytes pointers = record {
+unfoldable pub tillWith : Till → List Pointer → ℕ → ℕ → List Pointer → Till
+tillWith till turned bytes day pointers = record {
   last = suc (till .last);
-  versions = withNewestPointers (till .versions) turned ++ (record { number = suc (till .last); length = bytes; pointers = pointers } ∷ []);
+  versions = withNewestPointers (till .versions) turned ++ (record { number = suc (till .last); length = bytes; day = day; pointers = pointers } ∷ []);
 }
 
 -- steps 2 and 3, once the segments are placed
-unfoldable pub fileIn : Era → Shape → State → ℕ → List ℕ → List Block → Till → Outcome Placed → Outcome After
-fileIn era s st t image blocks till (refused n) = refused n
-fileIn era s st t image blocks till (done p) = done (record {
+unfoldable pub fileIn : Era → Shape → State → ℕ → ℕ → List ℕ → List Block → Till → Outcome Placed → Outcome After
+fileIn era s st t day image blocks till (refused n) = refused n
+fileIn era s st t day image blocks till (done p) = done (record {
   state =
       withTill st t
-      (tillWith till (turn era (p .shelf) blocks (newestPointers (till .versions))) (length image) (take (length blocks) (p .pointers)))
+      (tillWith till (turn era (p .shelf) blocks (newestPointers (till .versions))) (length image) day (take (length blocks) (p .pointers)))
       (sweep (s .measures) (release (p .shelf) (turning era (p .shelf) blocks (newestPointers (till .versions)))));
   answer = suc (till .last);
 })
 
 -- steps 1 to 3
-unfoldable pub placeAndFile : Era → Shape → State → ℕ → List ℕ → Till → Outcome After
-placeAndFile era s st t image till =
-    fileIn era s st t image (imageBlocks (s .measures .blockBytes) image) till
+unfoldable pub placeAndFile : Era → Shape → State → ℕ → ℕ → List ℕ → Till → Outcome After
+placeAndFile era s st t day image till =
+    fileIn era s st t day image (imageBlocks (s .measures .blockBytes) image) till
     (placeAll era (done (record { shelf = st .shelf; pointers = [] })) (imageSegments (s .measures .blockBytes) (s .measures .segmentBlocks) image))
 
-unfoldable pub backup : Era → Shape → State → ℕ → List ℕ → Outcome After
-backup era s st t image =
+-- with the day that it brings, if it does
+unfoldable pub backup : Era → Shape → State → ℕ → Option ℕ → List ℕ → Outcome After
+backup era s st t brought image =
     cond (leb (s .capacities .tills) t) (refused 3)
     (cond (eqb (length image) 0 || ltb (s .measures .blockBytes * s .capacities .blocks) (length image)) (refused 4)
     (cond (leb (s .capacities .versions) (length (tillOf st t .versions))) (refused 11)
     (cond (eqb (tillOf st t .last) 65535) (refused 12)
-    (placeAndFile era s st t image (tillOf st t)))))
+    (cond (ltb (dayFor brought (tillOf st t .versions)) (newestDay (tillOf st t .versions))) (refused 28)
+    (placeAndFile era s st t (dayFor brought (tillOf st t .versions)) image (tillOf st t))))))
 
 unfoldable pub backupAnswer : List ℕ → List ℕ → Shape → Outcome After → BackupAnswer
 backupAnswer pool table s (refused n) = record { refusal = n; version = 0; pool = pool; table = table }
 backupAnswer pool table s (done a) = record { refusal = 0; version = a .answer; pool = stateToBytes (a .state); table = stateToWords s (a .state) }
 
-unfoldable pub backupIn : Era → Option Store → List ℕ → List ℕ → ℕ → List ℕ → BackupAnswer
-backupIn era none pool table t image = record { refusal = 10; version = 0; pool = pool; table = table }
-backupIn era (some store) pool table t image = backupAnswer pool table (store .shape) (backup era (store .shape) (store .state) t image)
+unfoldable pub backupIn : Era → Option Store → List ℕ → List ℕ → ℕ → Option ℕ → List ℕ → BackupAnswer
+backupIn era none pool table t brought image = record { refusal = 10; version = 0; pool = pool; table = table }
+backupIn era (some store) pool table t brought image = backupAnswer pool table (store .shape) (backup era (store .shape) (store .state) t brought image)
 
 -- by the rules of an era: stores in the field have backups from before
-unfoldable pub backupBy : Era → List ℕ → List ℕ → ℕ → List ℕ → BackupAnswer
-backupBy era pool table t image = backupIn era (storeOf pool table) pool table t image
+unfoldable pub backupBy : Era → List ℕ → List ℕ → ℕ → Option ℕ → List ℕ → BackupAnswer
+backupBy era pool table t brought image = backupIn era (storeOf pool table) pool table t brought image
 
--- the public call
+-- the public calls, without a day and with one
 unfoldable pub backupOf : List ℕ → List ℕ → ℕ → List ℕ → BackupAnswer
-backupOf pool table t image = backupBy withBlanks pool table t image
+backupOf pool table t image = backupBy withBlanks pool table t none image
+
+unfoldable pub backupDatedOf : List ℕ → List ℕ → ℕ → ℕ → List ℕ → BackupAnswer
+backupDatedOf pool table t day image = backupBy withBlanks pool table t (some day) image
 
 -- ---- the version lookup of restore and retire: 17, 18
 
@@ -293,6 +309,27 @@ listingIn (some store) t = cond (leb (store .shape .capacities .tills) t) (listi
 
 unfoldable pub listingOf : List ℕ → List ℕ → ℕ → ListingAnswer
 listingOf pool table t = listingIn (storeOf pool table) t
+
+-- ---- lookup by day (§13): 10, 3, 29. "The newest held version not after the day."
+
+pub record VersionOnAnswer : Type 0 where
+  pub refusal : ℕ
+  pub version : ℕ
+
+unfoldable pub notAfter : ℕ → List Version → List Version
+notAfter day vs = keep (λ (v : Version). leb (v .day) day) vs
+
+unfoldable pub newestOrNone : List Version → VersionOnAnswer
+newestOrNone [] = record { refusal = 29; version = 0 }
+newestOrNone (v ∷ vs) = record { refusal = 0; version = newestNumber (v ∷ vs) }
+
+unfoldable pub versionOnIn : Option Store → ℕ → ℕ → VersionOnAnswer
+versionOnIn none t day = record { refusal = 10; version = 0 }
+versionOnIn (some store) t day =
+    cond (leb (store .shape .capacities .tills) t) (record { refusal = 3; version = 0 }) (newestOrNone (notAfter day (tillOf (store .state) t .versions)))
+
+unfoldable pub versionOnOf : List ℕ → List ℕ → ℕ → ℕ → VersionOnAnswer
+versionOnOf pool table t day = versionOnIn (storeOf pool table) t day
 
 -- ---- tally: 10. Occupied cells, records in use, sum of all counts.
 

@@ -30,15 +30,16 @@ pub record Shelf : Type 0 where
   pub records : List Segment
   pub cells : List Block
 
--- its number, its length in bytes, and one pointer for each block
+-- its number, its length in bytes, its day, and one pointer for each block
 pub record Version : Type 0 where
   pub number : ℕ
   pub length : ℕ
+  pub day : ℕ
   pub pointers : List Pointer
 
 -- a version with other pointers
 abbrev pub withPointers : Version → List Pointer → Version
-withPointers v ps = record { number = v .number; length = v .length; pointers = ps }
+withPointers v ps = record { number = v .number; length = v .length; day = v .day; pointers = ps }
 
 -- the last number given, and the held versions, the oldest first
 pub record Till : Type 0 where

@@ -1,7 +1,7 @@
 -- The words of a table and the bytes of a pool for a state, and the state that words and bytes are read as. docs/FORMAT.md has the picture.
 --   header    tills, versions, blocks, records, cells; block bytes, blocks per segment, rebuild percentage, or 0, 0, 0 for 64, 8, 20
 --   till      last number, held versions, 0, 0; then a slot for each version that the till can hold, the oldest first, unused ones zero
---   slot      number, length, 0; then a pointer word for each block that an image can have, unused ones zero
+--   slot      number, length, day; then a pointer word for each block that an image can have, unused ones zero
 --   record    mask of held positions, mask of removed ones, mask of blank ones; a cell word for each position; a count word for each position
 --   pointer   0; or 2^24 + record * 16 + position; or 2 * 2^24 + block; or 3 * 2^24
 use Prim.Native.Nat.{ℕ, zero, suc, _+_, _*_, _/_, _%_, min}
@@ -32,7 +32,7 @@ recordToWords seg = maskOf isHeld seg ∷ maskOf isRemoved seg ∷ maskOf isBlan
 
 -- for images of up to `b` blocks
 unfoldable pub versionToWords : ℕ → Version → List ℕ
-versionToWords b v = v .number ∷ v .length ∷ 0 ∷ fill b (map pointerWord (v .pointers))
+versionToWords b v = v .number ∷ v .length ∷ v .day ∷ fill b (map pointerWord (v .pointers))
 
 -- for up to `v` versions
 unfoldable pub tillToWords : ℕ → ℕ → Till → List ℕ
@@ -121,6 +121,7 @@ unfoldable pub versionIn : ℕ → List ℕ → Version
 versionIn bytes row = record {
   number = getD row 0 0;
   length = getD row 1 0;
+  day = getD row 2 0;
   pointers = map wordToPointer (take (partsFor bytes (getD row 1 0)) (drop 3 row));
 }
 

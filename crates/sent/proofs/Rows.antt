@@ -16,7 +16,7 @@ use Rattle.model.specs.Place.{barePointer, barePosition, pointersTo, newPositio
 use Rattle.model.specs.Turn.{turnsTo, target, turn, turning}
 use Rattle.model.specs.Sweep.{changeAt, changeAll, release, claim, moved, clearCells, freeRecord, strikeOnly, compact, removeFrom, sweepRecord, sweepFrom, sweep}
 use Rattle.model.specs.Trace.{hopsVia, endVia, hops, endOf, blockAt, tracedBlock, tracedBlocks, imageOf, longestChain}
-use Rattle.model.specs.Calls.{emptyTill, emptyState, tillOf, heldFrom, withTill, newestPointers, withNewestPointers, tillWith, fileIn, placeAndFile, backup, restoreRefusal, restoreFrom, restore, BackupAnswer, heldBefore, firstOf, notHeld, lookUp}
+use Rattle.model.specs.Calls.{emptyTill, emptyState, tillOf, heldFrom, withTill, newestPointers, withNewestPointers, newestDay, dayFor, tillWith, fileIn, placeAndFile, backup, restoreRefusal, restoreFrom, restore, BackupAnswer, heldBefore, firstOf, notHeld, lookUp}
 use Rattle.model.proofs.Steps.{blocks, zeros, letters, ABCDEFGH, AIJKLMNO, ABIJKLMN, IJKLMNOP, QRSTUVWX}
 use Rattle.sent.specs.Sent.{segmentBytes, canMatch, contents, zeroSegment, firstWith, had, offerFits, offer, OfferAnswer, offerAnswer, offerIn, goOn, takeSent, goOnWith, takeHad, gather, cutTo, assembled, sentFits, made, backupOn, backupSent, backupSentIn}
 use Rattle.sent.proofs.Steps.{Step, backed, offering, sending, shows, firstByte, prints, answers, after, holdsFrom, Row, holds, atBase, box}
@@ -168,7 +168,7 @@ unfolding rows holds holdsFrom answers after firstByte prints atBase box blocks 
     equals freeCells better scan findRun barePointer barePosition pointersTo newPositions stored share write writeRun writeRecord shareOrWrite placeSegment afterSome
     placeNext placeAll turnsTo target turn turning changeAt changeAll release claim moved clearCells freeRecord strikeOnly compact removeFrom sweepRecord sweepFrom
     sweep hopsVia endVia hops endOf blockAt tracedBlock tracedBlocks imageOf longestChain emptyTill emptyState tillOf heldFrom heldBefore firstOf notHeld lookUp withTill newestPointers
-    withNewestPointers tillWith fileIn placeAndFile backup restoreRefusal restoreFrom restore
+    withNewestPointers newestDay dayFor tillWith fileIn placeAndFile backup restoreRefusal restoreFrom restore
     segmentBytes canMatch contents zeroSegment firstWith had offerFits offer offerAnswer goOn takeSent goOnWith takeHad gather cutTo assembled sentFits made
     backupOn backupSent
 rows-hold = refl

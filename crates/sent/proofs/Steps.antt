@@ -2,6 +2,7 @@
 use Prim.Native.Nat.{ℕ}
 use mathlib.Core.Bool.{Bool, true, false, _&&_}
 use mathlib.Core.List.{List, [], _∷_}
+use mathlib.Core.Option.{none}
 use lib.ListN.{getD, replicate}
 use lib.Dec.{eqb}
 use Rattle.lists.specs.Lists.{sameNumbers}
@@ -39,7 +40,7 @@ after st (done a) = a .state
 unfoldable pub holdsFrom : Shape → List Step → State → Bool
 holdsFrom s [] st = true
 holdsFrom s (backed era t image v ∷ steps) st =
-    let o : Outcome After = backup era s st t image in
+    let o : Outcome After = backup era s st t none image in
     answers o 0 v && holdsFrom s steps (after st o)
 holdsFrom s (offering t fs ms n ms′ ∷ steps) st =
     let a : OfferAnswer = offerAnswer ms (offer firstByte s st t fs ms) in

@@ -157,7 +157,7 @@ made print s st t bytes fingerprints marks segments =
 
 unfoldable pub backupOn : Shape → State → ℕ → Outcome (List ℕ) → Outcome After
 backupOn s st t (refused n) = refused n
-backupOn s st t (done image) = backup withBlanks s st t image
+backupOn s st t (done image) = backup withBlanks s st t none image
 
 unfoldable pub backupSent : Print → Shape → State → ℕ → ℕ → List ℕ → List ℕ → List ℕ → Outcome After
 backupSent print s st t bytes fingerprints marks segments = backupOn s st t (made print s st t bytes fingerprints marks segments)

@@ -4,7 +4,7 @@ use mathlib.Core.Bool.{Bool, true, false, cond}
 use mathlib.Core.List.{List, [], _∷_, _++_}
 use mathlib.Core.Option.{Option, none, some}
 use Prim.Native.Nat.{ℕ, zero, suc, _+_, _-_, _*_, _≤_, _<_}
-use native.Mathlib.Nat.{add-zero, sub-zero, zero-mul, suc-mul, not-suc-le-zero, le-of-suc-le-suc}
+use native.Mathlib.Nat.{add-zero, sub-zero, zero-mul, not-suc-le-zero, le-of-suc-le-suc}
 use native.Mathlib.Numerals.{add-one}
 use native.Mathlib.Omega.{arith}
 use lib.ListN.{length, getD, take, drop}
@@ -13,6 +13,7 @@ use Rattle.lists.specs.Each.{Each}
 use Rattle.lists.specs.Lists.{total, allZero, sameNumbers}
 use Rattle.lists.specs.Rows.{parts}
 use Rattle.lists.proofs.Counts.{sum-next}
+use Rattle.lists.proofs.Cuts.{parts-next}
 use Rattle.lists.proofs.Each.{each-at}
 use Rattle.lists.proofs.Places.{row-next}
 use Rattle.lists.proofs.Slices.{drop-next, drop-end}
@@ -24,15 +25,6 @@ use Rattle.laws.proofs.Measures.{parts-enough}
 use Rattle.sent.specs.Sent.{segmentBytes, had, Gathered, goOn, takeSent, goOnWith, takeHad, gather, cutTo, assembled}
 use Rattle.sent.specs.Found.{printAt, Brings, orTwenty, sentAt, source, ended, Message}
 use Rattle.sent_laws.proofs.Numbers.{NotZero}
-
--- one more part
-parts-next {ℓ} : {A : Type ℓ} (k n : ℕ) (xs : List A) → parts k (n + 1) xs ≡ parts k n xs ++ (take k (drop (n * k) xs) ∷ [])
-unfolding parts
-parts-next k zero xs = rw (zero-mul)
-parts-next {A = A} k (suc n) xs =
-    let e : suc n + 1 ≡ suc (n + 1) = omega arith in
-    let d : drop (suc n * k) xs ≡ drop (n * k) (drop k xs) = sym (drop-drop (n * k) k xs ∙ ap (λ (i : ℕ). drop i xs) (let q : k + n * k ≡ suc n * k = omega (arith, suc-mul n k) in q)) in
-    ap (λ (i : ℕ). parts k i xs) e ∙ ap (λ (r : List (List A)). take k xs ∷ r) (parts-next k n (drop k xs) ∙ ap (λ (l : List A). parts k n (drop k xs) ++ (take k l ∷ [])) (sym d))
 
 module _ (m : Measures) (shelf : Shelf) where
   abbrev width : ℕ

@@ -15,7 +15,7 @@ use Rattle.model.specs.Image.{Era, isBare, imageBlocks, imageSegments}
 use Rattle.model.specs.Records.{isFree, equals}
 use Rattle.model.specs.Runs.{Run, findRun}
 use Rattle.model.specs.Place.{Placed, stored, writeRun, writeRecord, shareOrWrite, placeSegment, afterSome, placeNext, placeAll}
-use Rattle.model.specs.Calls.{tillOf, fileIn, placeAndFile, backup}
+use Rattle.model.specs.Calls.{newestDay, dayFor, tillOf, fileIn, placeAndFile, backup}
 
 abbrev pub Never19 : {A : Type 0} → Outcome A → Type 0
 Never19 (refused n) = ¬ (n ≡ 19)
@@ -52,20 +52,21 @@ module _ (era : Era) where
   place-every [] o h = h
   place-every (seg ∷ segs) o h = place-every segs (placeNext era o seg) (place-next o seg h)
 
-  pub never-19 : (s : Shape) (st : State) (t : ℕ) (image : List ℕ) → Never19 (backup era s st t image)
+  pub never-19 : (s : Shape) (st : State) (t : ℕ) (brought : Option ℕ) (image : List ℕ) → Never19 (backup era s st t brought image)
   unfolding backup
-  never-19 s st t image =
+  never-19 s st t brought image =
       by-test Never19 (leb (s .capacities .tills) t) (λ e n. absurd (omega (arith, n))) (λ e.
       by-test Never19 (eqb (length image) 0 || ltb (s .measures .blockBytes * s .capacities .blocks) (length image)) (λ e n. absurd (omega (arith, n))) (λ e.
       by-test Never19 (leb (s .capacities .versions) (length (tillOf st t .versions))) (λ e n. absurd (omega (arith, n))) (λ e.
-      by-test Never19 (eqb (tillOf st t .last) 65535) (λ e n. absurd (omega (arith, n))) (λ e. filed))))
+      by-test Never19 (eqb (tillOf st t .last) 65535) (λ e n. absurd (omega (arith, n))) (λ e.
+      by-test Never19 (ltb (dayFor brought (tillOf st t .versions)) (newestDay (tillOf st t .versions))) (λ e n. absurd (omega (arith, n))) (λ e. filed (dayFor brought (tillOf st t .versions)))))))
     where
-      file : (o : Outcome Placed) → Never19 o → Never19 (fileIn era s st t image (imageBlocks (s .measures .blockBytes) image) (tillOf st t) o)
-      file (refused n) h = unfold fileIn in h
-      file (done p) h = unfold fileIn in tt
+      file : (day : ℕ) (o : Outcome Placed) → Never19 o → Never19 (fileIn era s st t day image (imageBlocks (s .measures .blockBytes) image) (tillOf st t) o)
+      file day (refused n) h = unfold fileIn in h
+      file day (done p) h = unfold fileIn in tt
 
-      filed : Never19 (placeAndFile era s st t image (tillOf st t))
-      filed =
+      filed : (day : ℕ) → Never19 (placeAndFile era s st t day image (tillOf st t))
+      filed day =
           unfold placeAndFile in
-          file (placeAll era (done (record { shelf = st .shelf; pointers = [] })) (imageSegments (s .measures .blockBytes) (s .measures .segmentBlocks) image))
+          file day (placeAll era (done (record { shelf = st .shelf; pointers = [] })) (imageSegments (s .measures .blockBytes) (s .measures .segmentBlocks) image))
           (place-every (imageSegments (s .measures .blockBytes) (s .measures .segmentBlocks) image) (done (record { shelf = st .shelf; pointers = [] })) tt)

@@ -22,7 +22,7 @@ use Rattle.model.specs.State.{State, Outcome, refused, done}
 use Rattle.model.specs.Image.{withBlanks, imageBlocks}
 use Rattle.model.specs.Sound.{Store, storeOf}
 use Rattle.model.specs.Table.{shapeOf, stateIn}
-use Rattle.model.specs.Calls.{tillOf, After, placeAndFile, backup, backupAnswer, backupIn, backupBy, backupOf}
+use Rattle.model.specs.Calls.{tillOf, After, newestDay, dayFor, placeAndFile, backup, backupAnswer, backupIn, backupBy, backupOf}
 use Rattle.sent.specs.Sent.{Print, segmentBytes, segmentsOf, contents, zeroSegment, sentFits, made, backupOn, backupSent, backupSentIn, backupSentBy}
 use Rattle.sent.specs.Claims.{sentOf, sentFor, knownIn, NoneShare, AllHad, MarksFor, AsWhole, SentIsBackup}
 use Rattle.laws.proofs.Image.{length-blocks}
@@ -87,16 +87,17 @@ module _ (print : Print) (wide : (x : List ℕ) → length (print x) ≡ 20) (s 
   sent-or-20 : (t : ℕ) → NoneShare print (zeroSegment (s .measures) ∷ (contents (s .measures) (st .shelf) ++ segmentsOf (s .measures) image))
       → ((backupSent print s st t (length image) (rows print (segmentsOf (s .measures) image)) marks (joined (sentOf marks (segmentsOf (s .measures) image))) ≡ refused 20)
       × (¬ (AllHad print (s .measures) (st .shelf) (segmentsOf (s .measures) image) marks)))
-      ⊎ backupSent print s st t (length image) (rows print (segmentsOf (s .measures) image)) marks (joined (sentOf marks (segmentsOf (s .measures) image))) ≡ backup withBlanks s st t image
+      ⊎ backupSent print s st t (length image) (rows print (segmentsOf (s .measures) image)) marks (joined (sentOf marks (segmentsOf (s .measures) image))) ≡ backup withBlanks s st t none image
   unfolding backupSent made
   sent-or-20 t u =
       rw fits-if
       (unfold backup in
       same-order (¬ (AllHad print (s .measures) (st .shelf) (segmentsOf (s .measures) image) marks)) s st t (leb (s .capacities .tills) t) (eqb (length image) 0 || ltb (s .measures .blockBytes * s .capacities .blocks) (length image))
       (leb (s .capacities .versions) (length (tillOf st t .versions))) (eqb (tillOf st t .last) 65535)
-      (placeAndFile withBlanks s st t image (tillOf st t)) _ (on (assembled-ok print wide (s .measures) (st .shelf) image marks p e u)))
+      (cond (ltb (dayFor none (tillOf st t .versions)) (newestDay (tillOf st t .versions))) (refused 28) (placeAndFile withBlanks s st t (dayFor none (tillOf st t .versions)) image (tillOf st t))) _
+      (on (assembled-ok print wide (s .measures) (st .shelf) image marks p e u)))
     where
-      on : {N : Type 0} {o : Outcome (List ℕ)} → ((o ≡ refused 20) × N) ⊎ (o ≡ done image) → ((backupOn s st t o ≡ refused 20) × N) ⊎ backupOn s st t o ≡ backup withBlanks s st t image
+      on : {N : Type 0} {o : Outcome (List ℕ)} → ((o ≡ refused 20) × N) ⊎ (o ≡ done image) → ((backupOn s st t o ≡ refused 20) × N) ⊎ backupOn s st t o ≡ backup withBlanks s st t none image
       on (inl h) = inl (ap (backupOn s st t) (h .0) ∙ (unfold backupOn in refl), h .1)
       on (inr h) = inr (ap (backupOn s st t) h ∙ (unfold backupOn in refl))
 
@@ -140,12 +141,12 @@ sent-as-whole print wide pool table t image marks h u = go (storeOf pool table) 
         → NoneShare print (knownIn o ++ segs)
         → ¬ (backupSentIn print o pool table t (length image) (rows print segs) marks (joined (sentOf marks segs)) .refusal ≡ 19)
         × (¬ (backupSentIn print o pool table t (length image) (rows print segs) marks (joined (sentOf marks segs)) .refusal ≡ 20)
-        → backupSentIn print o pool table t (length image) (rows print segs) marks (joined (sentOf marks segs)) ≡ backupIn withBlanks o pool table t image)
+        → backupSentIn print o pool table t (length image) (rows print segs) marks (joined (sentOf marks segs)) ≡ backupIn withBlanks o pool table t none image)
     go o (inl f) p u = rw f (unfold backupSentIn backupIn in ((λ n. absurd (omega (arith, n))), λ n. refl))
     go o (inr f) p u =
         rw f
         (unfold backupSentIn backupIn in
-        either (backup withBlanks (shapeOf table) (storeRead pool table .state) t image) (never-19 withBlanks (shapeOf table) (storeRead pool table .state) t image) _
+        either (backup withBlanks (shapeOf table) (storeRead pool table .state) t none image) (never-19 withBlanks (shapeOf table) (storeRead pool table .state) t none image) _
         (less (sent-or-20 print wide (shapeOf table) (storeRead pool table .state) image marks (p f) (h .0) (h .1) t
         (unfold knownIn in subst (λ (x : Option Store). NoneShare print (knownIn x ++ segs)) f u))))
 
@@ -159,7 +160,7 @@ unfolding sentFor backupSentBy backupOf backupBy
 sent-if-had print wide pool table h t image marks mk u c =
     ap (λ (o : Option Store). backupSentIn print o pool table t (length image) (rows print segs) marks (joined (sentOf marks segs))) (h .is)
     ∙ inside
-    ∙ sym (ap (λ (o : Option Store). backupIn withBlanks o pool table t image) (h .is))
+    ∙ sym (ap (λ (o : Option Store). backupIn withBlanks o pool table t none image) (h .is))
   where
     segs : List (List ℕ)
     segs = segmentsOf (shapeOf table .measures) image
@@ -169,7 +170,7 @@ sent-if-had print wide pool table h t image marks mk u c =
     go (inr f) = f
 
     inside : backupSentIn print (some (storeRead pool table)) pool table t (length image) (rows print segs) marks (joined (sentOf marks segs))
-        ≡ backupIn withBlanks (some (storeRead pool table)) pool table t image
+        ≡ backupIn withBlanks (some (storeRead pool table)) pool table t none image
     inside =
         unfold backupSentIn backupIn in
         ap (backupAnswer pool table (shapeOf table))

@@ -97,9 +97,9 @@ behind-first v b n u us h =
 
 -- the head of a slot goes to the words before
 pub slot-head : (b : ℕ) (p : List ℕ) (u : Version) (z : List ℕ)
-    → p ++ (versionToWords b u ++ z) ≡ (p ++ (u .number ∷ u .length ∷ 0 ∷ [])) ++ (fill b (map pointerWord (u .pointers)) ++ z)
+    → p ++ (versionToWords b u ++ z) ≡ (p ++ (u .number ∷ u .length ∷ u .day ∷ [])) ++ (fill b (map pointerWord (u .pointers)) ++ z)
 unfolding versionToWords
-slot-head b p u z = sym (append-assoc p (u .number ∷ u .length ∷ 0 ∷ []) (fill b (map pointerWord (u .pointers)) ++ z))
+slot-head b p u z = sym (append-assoc p (u .number ∷ u .length ∷ u .day ∷ []) (fill b (map pointerWord (u .pointers)) ++ z))
 
 module _ (b j : ℕ) (till : List ℕ) (v last : ℕ) (older : List Version) (u : Version) (newer : List Version) (lo : length older ≡ j) (few : length (older ++ (u ∷ newer)) ≤ v)
     (et : till ≡ tillToWords v b (record { last = last; versions = older ++ (u ∷ newer) })) where
@@ -110,15 +110,15 @@ module _ (b j : ℕ) (till : List ℕ) (v last : ℕ) (older : List Version) (u 
   below = omega (arith, few, length-append older (u ∷ newer))
 
   around : (w : Version) → length (older ++ (w ∷ newer)) ≡ n → tillToWords v b (record { last = last; versions = older ++ (w ∷ newer) })
-      ≡ (front b last n older ++ (w .number ∷ w .length ∷ 0 ∷ [])) ++ (fill b (map pointerWord (w .pointers)) ++ behind v b (suc (length older)) newer)
+      ≡ (front b last n older ++ (w .number ∷ w .length ∷ w .day ∷ [])) ++ (fill b (map pointerWord (w .pointers)) ++ behind v b (suc (length older)) newer)
   around w e =
       till-around v b last older (w ∷ newer) (omega (arith, e, few))
       ∙ ap (λ (k : ℕ). front b last k older ++ behind v b (length older) (w ∷ newer)) e
       ∙ ap (λ (l : List ℕ). front b last n older ++ l) (behind-first v b (length older) w newer below)
       ∙ slot-head b (front b last n older) w (behind v b (suc (length older)) newer)
 
-  start-is : length (front b last n older ++ (u .number ∷ u .length ∷ 0 ∷ [])) ≡ 4 + j * (3 + b) + 3
-  start-is = omega (arith, length-append (front b last n older) (u .number ∷ u .length ∷ 0 ∷ []), front-length b last n older, ap (λ (k : ℕ). k * (3 + b)) lo)
+  start-is : length (front b last n older ++ (u .number ∷ u .length ∷ u .day ∷ [])) ≡ 4 + j * (3 + b) + 3
+  start-is = omega (arith, length-append (front b last n older) (u .number ∷ u .length ∷ u .day ∷ []), front-length b last n older, ap (λ (k : ℕ). k * (3 + b)) lo)
 
   same-count : (w : Version) → length (older ++ (w ∷ newer)) ≡ n
   same-count w = omega (arith, length-append older (w ∷ newer), length-append older (u ∷ newer))
@@ -129,7 +129,7 @@ module _ (b j : ℕ) (till : List ℕ) (v last : ℕ) (older : List Version) (u 
   pointers-put pws ys ps lp ep l ey =
       let s : ℕ = 4 + j * (3 + b) + 3 in
       let k : s + b - s ≡ b = omega arith in
-      let p : List ℕ = front b last n older ++ (u .number ∷ u .length ∷ 0 ∷ []) in
+      let p : List ℕ = front b last n older ++ (u .number ∷ u .length ∷ u .day ∷ []) in
       let q : List ℕ = behind v b (suc (length older)) newer in
       let e : till ≡ p ++ (fill b (map pointerWord (u .pointers)) ++ q) = et ∙ around u refl in
       let m : take b (drop s till) ≡ fill b (map pointerWord (u .pointers)) = mid-is p (fill b (map pointerWord (u .pointers))) q till s b e start-is (length-fill b (map pointerWord (u .pointers))) in

@@ -8,7 +8,7 @@ use borrow.Author.Tests.{not-true, not-false}
 use Rattle.lists.specs.Lists.{isSome}
 use Rattle.lists.specs.Rows.{fill}
 use Rattle.model.specs.Sound.{storeOf}
-use Rattle.model.specs.Calls.{BackupAnswer, backupBy, backupIn, backupOf, ListingAnswer, RestoreAnswer, listingRefusal, listingIn, listingOf, restoreRefusal, restoreIn, restoreOf, RetireAnswer, retireIn, retireOf, TallyAnswer, tallyIn, tallyOf}
+use Rattle.model.specs.Calls.{BackupAnswer, backupBy, backupIn, backupOf, backupDatedOf, ListingAnswer, RestoreAnswer, listingRefusal, listingIn, listingOf, restoreRefusal, restoreIn, restoreOf, VersionOnAnswer, versionOnIn, versionOnOf, RetireAnswer, retireIn, retireOf, TallyAnswer, tallyIn, tallyOf}
 use Rattle.laws.specs.Stores.{Sound}
 use Rattle.stream.specs.Stream.{streamRefusal}
 use Rattle.stream.specs.Version.{writeRestored, writeStreamOf}
@@ -26,6 +26,10 @@ module _ (pool table : List ℕ) (r : Bool) (e : r ≡ isSome (storeOf pool tabl
   pub listing-10 : not r ≡ true → (t : ℕ) → record { refusal = 10; oldest = 0; newest = 0; last = 0 } ≡ listingOf pool table t
   unfolding listingOf listingIn listingRefusal
   listing-10 n t = rw (no-store n)
+
+  pub version-on-10 : not r ≡ true → (t day : ℕ) → record { refusal = 10; version = 0 } ≡ versionOnOf pool table t day
+  unfolding versionOnOf versionOnIn
+  version-on-10 n t day = rw (no-store n)
 
   pub restore-10 : not r ≡ true → (t v : ℕ) (output : List ℕ) → record { refusal = 10; length = 0; hops = 0; output = output } ≡ restoreOf pool table t v output
   unfolding restoreOf restoreIn restoreRefusal
@@ -46,6 +50,10 @@ module _ (pool table : List ℕ) (r : Bool) (e : r ≡ isSome (storeOf pool tabl
   pub backup-10 : not r ≡ true → (t : ℕ) (image : List ℕ) → record { refusal = 10; version = 0; pool = pool; table = table } ≡ backupOf pool table t image
   unfolding backupOf backupBy backupIn
   backup-10 n t image = rw (no-store n)
+
+  pub dated-10 : not r ≡ true → (t day : ℕ) (image : List ℕ) → record { refusal = 10; version = 0; pool = pool; table = table } ≡ backupDatedOf pool table t day image
+  unfolding backupDatedOf backupBy backupIn
+  dated-10 n t day image = rw (no-store n)
 
   pub offer-10 : not r ≡ true → (t : ℕ) (fingerprints marks : List ℕ) → record { refusal = 10; marks = marks } ≡ offerOf pool table t fingerprints marks
   unfolding offerOf offerIn

@@ -1,9 +1,9 @@
 // The calls, on lent buffers. No call has a premise: what is no sound store is refused with 10.
 ghost use mathlib.Core.Path.{_≡_};
-ghost use Rattle.model.specs.Calls.{tableLengthOf, layoutOf, backupOf, restoreOf, retireOf, listingOf, tallyOf};
+ghost use Rattle.model.specs.Calls.{tableLengthOf, layoutOf, backupOf, backupDatedOf, restoreOf, retireOf, listingOf, versionOnOf, tallyOf};
 ghost use Rattle.layout.specs.Layout.{shape, lengthAnswer, layoutAnswer};
 ghost use Rattle.backup.specs.Call.{backedUpAnswer};
-ghost use Rattle.tills.specs.Answers.{listingAnswer};
+ghost use Rattle.tills.specs.Answers.{listingAnswer, versionFound};
 ghost use Rattle.restore.specs.Answers.{restoreAnswer};
 ghost use Rattle.retire.specs.Answers.{retireAnswer};
 ghost use Rattle.tally.specs.Answers.{tallyAnswer};
@@ -22,6 +22,7 @@ use retire::Retired;
 use stream_write::StreamWritten;
 use tally::Tally;
 use tills::Listing;
+use tills::VersionFound;
 
 pub fn table_length(c: Capacities) -> TableLength
     ensures { λ r. ⌜ lengthAnswer r ≡ tableLengthOf (shape c) ⌝ }
@@ -45,6 +46,25 @@ pub fn backup(pool: &mut [u8], table: &mut [u32], till: u32, image: &[u8]) -> Ba
         };
     }
     backup::back_up(pool, table, till, image)
+}
+
+// With a day for the new version.
+pub fn backup_dated(
+    pool: &mut [u8],
+    table: &mut [u32],
+    till: u32,
+    day: u32,
+    image: &[u8],
+) -> BackedUp
+    ensures { λ r. ⌜ backedUpAnswer r (now (pool .exit)) (now (table .exit)) ≡ backupDatedOf (now (pool .entry)) (now (table .entry)) till day (now (image .entry)) ⌝ }
+{
+    if !audit::sound(pool, table) {
+        return BackedUp {
+            refusal: 10,
+            version: 0,
+        };
+    }
+    backup::back_up_dated(pool, table, till, day, image)
 }
 
 pub fn restore(pool: &[u8], table: &[u32], till: u32, version: u32, output: &mut [u8]) -> Restored
@@ -84,6 +104,19 @@ pub fn listing(pool: &[u8], table: &[u32], till: u32) -> Listing
         };
     }
     tills::list_till(pool, table, till)
+}
+
+// The version of a day: the newest one held that is not after it.
+pub fn version_on(pool: &[u8], table: &[u32], till: u32, day: u32) -> VersionFound
+    ensures { λ r. ⌜ versionFound r ≡ versionOnOf (now (pool .entry)) (now (table .entry)) till day ⌝ }
+{
+    if !audit::sound(pool, table) {
+        return VersionFound {
+            refusal: 10,
+            version: 0,
+        };
+    }
+    tills::version_on(pool, table, till, day)
 }
 
 pub fn tally(pool: &[u8], table: &[u32]) -> Tally

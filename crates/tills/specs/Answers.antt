@@ -1,5 +1,5 @@
 -- A till's head, the place of a version among those held, and what the answers say.
-use Prim.Native.Nat.{ℕ, _≤_, _<_}
+use Prim.Native.Nat.{ℕ, _-_, _≤_, _<_}
 use mathlib.Core.Path.{_≡_}
 use mathlib.Core.List.{List, map}
 use lib.ListN.{length, getD, take, drop}
@@ -11,6 +11,7 @@ use Rattle.laws.specs.Stores.{tillAt}
 use Rattle.tills.specs.declared.Found.{Found}
 use Rattle.tills.specs.declared.Head.{Head}
 use Rattle.tills.specs.declared.Listing.{Listing}
+use Rattle.tills.specs.declared.VersionFound.{VersionFound}
 
 abbrev pub tillSize : List ℕ → ℕ
 tillSize table = tillWords (getD table 1 0) (getD table 2 0)
@@ -20,12 +21,15 @@ pub record HeadOf (pool table : List ℕ) (t : ℕ) (r : Head) : Type 0 where
   pub last : r .last ≡ calls.tillOf (stateIn (shapeOf table) pool table) t .last
   pub held : r .held ≡ length (calls.tillOf (stateIn (shapeOf table) pool table) t .versions)
 
--- the versions that a till holds, the oldest first, and their numbers
+-- the versions that a till holds, the oldest first, their numbers and their days
 abbrev pub versionsHeld : List ℕ → List ℕ → ℕ → List Version
 versionsHeld pool table t = calls.tillOf (stateIn (shapeOf table) pool table) t .versions
 
 abbrev pub numbersHeld : List ℕ → List ℕ → ℕ → List ℕ
 numbersHeld pool table t = map (λ (v : Version). v .number) (versionsHeld pool table t)
+
+abbrev pub daysHeld : List ℕ → List ℕ → ℕ → List ℕ
+daysHeld pool table t = map (λ (v : Version). v .day) (versionsHeld pool table t)
 
 -- place r is that of version n; past the last if it is not held
 pub record PlaceOf (pool table : List ℕ) (t n r : ℕ) : Type 0 where
@@ -40,5 +44,14 @@ pub record LookedUp (pool table : List ℕ) (t n : ℕ) (r : Found) : Type 0 whe
       → calls.lookUp (calls.tillOf (stateIn (shapeOf table) pool table) t) n ≡ calls.firstOf 0 (take (r .place) (versionsHeld pool table t)) (drop (r .place) (versionsHeld pool table t))
   pub missing : (r .refusal ≡ 0 → ⊥) → calls.lookUp (calls.tillOf (stateIn (shapeOf table) pool table) t) n ≡ calls.missing (r .refusal)
 
+-- the first r versions held: all that are not after a day are among them, and the last of them is one
+pub record UptoDay (pool table : List ℕ) (t day r : ℕ) : Type 0 where
+  pub most : r ≤ length (versionsHeld pool table t)
+  pub all : calls.notAfter day (versionsHeld pool table t) ≡ calls.notAfter day (take r (versionsHeld pool table t))
+  pub last : 0 < r → getD (daysHeld pool table t) (r - 1) 0 ≤ day
+
 abbrev pub listingAnswer : Listing → calls.ListingAnswer
 listingAnswer r = record { refusal = r .refusal; oldest = r .oldest; newest = r .newest; last = r .last }
+
+abbrev pub versionFound : VersionFound → calls.VersionOnAnswer
+versionFound r = record { refusal = r .refusal; version = r .version }

@@ -1,11 +1,11 @@
-// A till of a sound store: where its words are, the version of a number, and its listing.
+// A till of a sound store: where its words are, the version of a number or of a day, and its listing.
 ghost use mathlib.Core.Path.{_≡_};
 ghost use Prim.Native.Nat.{ℕ, _<_};
 ghost use lib.ListN.{length, getD};
-ghost use Rattle.model.specs.Table.{shapeOf};
-ghost use Rattle.model.specs.Calls.{notHeld, listingOf};
+ghost use Rattle.model.specs.Table.{shapeOf, stateIn};
+ghost use Rattle.model.specs.Calls.{tillOf, newestDay, notHeld, listingOf, versionOnOf};
 ghost use Rattle.laws.specs.Stores.{tillAt, recordsFrom, Sound, Header};
-ghost use Rattle.tills.specs.Answers.{tillSize, HeadOf, versionsHeld, numbersHeld, PlaceOf, LookedUp, listingAnswer};
+ghost use Rattle.tills.specs.Answers.{tillSize, HeadOf, versionsHeld, numbersHeld, daysHeld, PlaceOf, LookedUp, UptoDay, listingAnswer, versionFound};
 
 // Refusal 0 is an accepted call.
 #[repr(C)]
@@ -14,6 +14,12 @@ pub struct Listing {
     pub oldest: u32,
     pub newest: u32,
     pub last: u32,
+}
+
+#[repr(C)]
+pub struct VersionFound {
+    pub refusal: u32,
+    pub version: u32,
 }
 
 // A till's first word, its last number given and how many versions it holds.
@@ -140,5 +146,71 @@ pub fn list_till(pool: &[u8], table: &[u32], till: u32) -> Listing
         oldest: number_at(pool, table, till, head.at, 0),
         newest: number_at(pool, table, till, head.at, head.held as usize - 1),
         last: head.last,
+    }
+}
+
+// The day of the version at place j of those held, the oldest first.
+fn day_at(pool: &[u8], table: &[u32], till: u32, at: usize, j: usize) -> u32
+    requires { ⌜ Sound (now pool) (now table) × (till < getD (now table) 0 0) × (at ≡ tillAt (shapeOf (now table)) till) × (j < length (versionsHeld (now pool) (now table) till)) ⌝ }
+    ensures { λ r. ⌜ r ≡ getD (daysHeld (now (pool .entry)) (now (table .entry)) till) j 0 ⌝ }
+{
+    let width = 3 + table[2] as usize;
+    let slot = at + (4 + j * width);
+    table[slot + 2]
+}
+
+// The day of a till's newest held version; 0 if it holds none, or is not there.
+pub fn newest_day(pool: &[u8], table: &[u32], till: u32) -> u32
+    requires { ⌜ Sound (now pool) (now table) ⌝ }
+    ensures { λ r. ⌜ r ≡ newestDay (tillOf (stateIn (shapeOf (now (table .entry))) (now (pool .entry)) (now (table .entry))) till .versions) ⌝ }
+{
+    if table[0] <= till {
+        return 0;
+    }
+    let head = till_head(pool, table, till);
+    if head.held == 0 {
+        return 0;
+    }
+    day_at(pool, table, till, head.at, head.held as usize - 1)
+}
+
+// How many versions are held from the oldest up to the newest one that is not after a day; 0 if all are after it.
+fn upto_day(pool: &[u8], table: &[u32], till: u32, head: Head, day: u32) -> usize
+    requires { ⌜ Sound (now pool) (now table) × (till < getD (now table) 0 0) × HeadOf (now pool) (now table) till head ⌝ }
+    ensures { λ r. ⌜ UptoDay (now (pool .entry)) (now (table .entry)) till day r ⌝ }
+{
+    let mut j = head.held as usize;
+    while 0 < j {
+        let newest = j - 1;
+        if day_at(pool, table, till, head.at, newest) <= day {
+            return j;
+        }
+        j = newest;
+    }
+    0
+}
+
+// The newest held version that is not after a day.
+pub fn version_on(pool: &[u8], table: &[u32], till: u32, day: u32) -> VersionFound
+    requires { ⌜ Sound (now pool) (now table) ⌝ }
+    ensures { λ r. ⌜ versionFound r ≡ versionOnOf (now (pool .entry)) (now (table .entry)) till day ⌝ }
+{
+    if table[0] <= till {
+        return VersionFound {
+            refusal: 3,
+            version: 0,
+        };
+    }
+    let head = till_head(pool, table, till);
+    let n = upto_day(pool, table, till, head, day);
+    if n == 0 {
+        return VersionFound {
+            refusal: 29,
+            version: 0,
+        };
+    }
+    VersionFound {
+        refusal: 0,
+        version: number_at(pool, table, till, head.at, n - 1),
     }
 }

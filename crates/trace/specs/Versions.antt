@@ -10,7 +10,7 @@ use Rattle.shelf.specs.Fits.{Fits}
 use Rattle.trace.specs.declared.Traced.{Traced}
 
 abbrev pub noVersion : Version
-noVersion = record { number = 0; length = 0; pointers = [] }
+noVersion = record { number = 0; length = 0; day = 0; pointers = [] }
 
 -- the pointers of version i, none past the end
 abbrev pub pointersAt : List Version → ℕ → List Pointer

@@ -21,6 +21,10 @@ pub enum What {
     TableLength,
     LayOut,
     Listing,
+    /// Of the oldest held version's day, so that all are looked at.
+    VersionOn {
+        day: u32,
+    },
     Tally,
     Restore {
         version: u32,
@@ -72,8 +76,8 @@ impl Kept {
         Kept { name, capacities, pool, table }
     }
 
-    fn backup(&mut self, till: usize, image: &[u8]) {
-        let [refusal, _] = Twin.backup(&mut self.pool, &mut self.table, till as u32, image);
+    fn backup(&mut self, till: usize, day: usize, image: &[u8]) {
+        let [refusal, _] = Twin.backup_dated(&mut self.pool, &mut self.table, till as u32, day as u32, image);
         assert_eq!(refusal, 0, "a backup in making the {} store", self.name);
     }
 
@@ -86,11 +90,11 @@ impl Kept {
         (whole.fingerprints, sending)
     }
 
-    /// 64 closings of so many tills but one of till 0, so that it has room for one more.
+    /// 64 closings of so many tills, on a day each, but one of till 0, so that it has room for one more.
     fn closings(mut self, tills: usize, mut next: impl FnMut(usize) -> Vec<u8>) -> Kept {
         for n in 0..64 * tills {
             let image = next(n % tills);
-            self.backup(n % tills, &image);
+            self.backup(n % tills, 1 + n / tills, &image);
         }
         assert_eq!(Twin.retire(&mut self.pool, &mut self.table, 0, 1)[0], 0);
         self
@@ -204,6 +208,7 @@ fn of_store(store: &Rc<Kept>, day: &[Vec<u8>], targets: bool) -> Vec<Case> {
         (What::LayOut, None),
         (What::Tally, Some(5.0)),
         (What::Listing, Some(5.0)),
+        (What::VersionOn { day: 2 }, None),
         (restore(2), Some(5.0)),
         (restore(64), Some(5.0)),
         (What::WriteStream { version: 2 }, None),
@@ -225,6 +230,7 @@ impl What {
             What::TableLength => "table length".into(),
             What::LayOut => "lay out".into(),
             What::Listing => "listing".into(),
+            What::VersionOn { .. } => "lookup of the oldest by day".into(),
             What::Tally => "tally".into(),
             What::Restore { version: 2, .. } => "restore of the oldest".into(),
             What::Restore { .. } => "restore of the newest".into(),
@@ -258,6 +264,7 @@ impl Case {
             What::TableLength => store.table_length(std::hint::black_box(capacities))[0],
             What::LayOut => store.lay_out(pool, table, capacities)[0],
             What::Listing => store.listing(pool, table, 0)[0],
+            What::VersionOn { day } => store.version_on(pool, table, 0, *day)[0],
             What::Tally => store.tally(pool, table)[0],
             What::Restore { version, room } => store.restore(pool, table, 0, *version, &mut output[..*room])[0],
             What::WriteStream { version } => store.write_stream(pool, table, 0, *version, output)[0],

@@ -1,6 +1,7 @@
 //! A call with its arguments, and random lists of calls.
 
 use crate::collected::misfit;
+use crate::days::{any_day, next_day};
 use crate::images::Images;
 use crate::messages::Messages;
 use crate::whole::Till;
@@ -19,6 +20,12 @@ pub enum Call {
         till: u32,
         image: Vec<u8>,
     },
+    /// A backup with a day.
+    Dated {
+        till: u32,
+        day: u32,
+        image: Vec<u8>,
+    },
     /// A backup as it was made before blank blocks were known.
     Earlier {
         till: u32,
@@ -35,6 +42,10 @@ pub enum Call {
     },
     Listing {
         till: u32,
+    },
+    VersionOn {
+        till: u32,
+        day: u32,
     },
     Tally,
     WriteStream {
@@ -63,10 +74,12 @@ impl fmt::Debug for Call {
             Call::TableLength(capacities) => write!(f, "table length {:?}", capacities.to_array()),
             Call::LayOut(capacities) => write!(f, "lay out {:?}", capacities.to_array()),
             Call::Backup { till, image } => write!(f, "backup till {till}, {} bytes", image.len()),
+            Call::Dated { till, day, image } => write!(f, "backup till {till}, day {day}, {} bytes", image.len()),
             Call::Earlier { till, image } => write!(f, "earlier backup till {till}, {} bytes", image.len()),
             Call::Restore { till, version, room } => write!(f, "restore till {till}, version {version}, room {room}"),
             Call::Retire { till, version } => write!(f, "retire till {till}, version {version}"),
             Call::Listing { till } => write!(f, "listing till {till}"),
+            Call::VersionOn { till, day } => write!(f, "version of till {till} on day {day}"),
             Call::Tally => write!(f, "tally"),
             Call::WriteStream { till, version, room } => {
                 write!(f, "stream till {till}, version {version}, room {room}")
@@ -86,10 +99,10 @@ impl fmt::Debug for Call {
 }
 
 impl Call {
-    /// The same call, made before blank blocks were known.
+    /// The same call, made before blank blocks were known. There were no days either then.
     pub fn made_before(self) -> Call {
         match self {
-            Call::Backup { till, image } => Call::Earlier { till, image },
+            Call::Backup { till, image } | Call::Dated { till, image, .. } => Call::Earlier { till, image },
             other => other,
         }
     }
@@ -144,13 +157,21 @@ pub struct List {
     capacities: Capacities,
     style: Style,
     habit: Habit,
+    /// Whether it has backups with days.
+    has_days: bool,
     images: Images,
 }
 
 impl List {
     pub fn new(random: &mut Random, capacities: Capacities, style: Style) -> List {
         let habit = *random.pick(&[Habit::Oldest, Habit::Newest, Habit::AnyHeld, Habit::AnyHeld]);
-        List { capacities, style, habit, images: Images::new(random, capacities, style.kinds) }
+        let has_days = random.percent(60);
+        List { capacities, style, habit, has_days, images: Images::new(random, capacities, style.kinds) }
+    }
+
+    /// The same with backups that have days.
+    pub fn with_days(self) -> List {
+        List { has_days: true, ..self }
     }
 
     pub fn next(&self, random: &mut Random, course: &Course) -> Call {
@@ -161,8 +182,9 @@ impl List {
         let till_number = if wrong && random.percent(30) { self.no_till(random) } else { number };
         let retire = if till.held.len() == self.capacities.versions as usize { 60 } else { self.style.retires };
         match random.below(100) {
-            0..=3 => Call::Tally,
-            4..=7 => Call::Listing { till: till_number },
+            0..=2 => Call::Tally,
+            3..=5 => Call::Listing { till: till_number },
+            6..=7 => Call::VersionOn { till: till_number, day: any_day(random, till) },
             8 => Call::TableLength(self.capacities_near(random)),
             9 => self.refused_lay_out(random),
             10..=26 => self.restore(random, till_number, till, wrong),
@@ -174,7 +196,7 @@ impl List {
             }
             33..=52 => self.sent(random, course, till_number, till, wrong),
             53..=57 => self.closing(random, course),
-            _ => Call::Backup { till: till_number, image: self.image(random, keeper, till, wrong) },
+            _ => self.backup(random, keeper, till_number, till, wrong),
         }
     }
 
@@ -198,6 +220,15 @@ impl List {
         }
         let other = random.pick(keeper.tills()).newest_image();
         self.images.next(random, till.newest_image(), other)
+    }
+
+    /// A full backup, in a list with days mostly with one.
+    fn backup(&self, random: &mut Random, keeper: &Keeper, number: u32, till: &Till, wrong: bool) -> Call {
+        let image = self.image(random, keeper, till, wrong);
+        match self.has_days && random.percent(70) {
+            true => Call::Dated { till: number, day: next_day(random, till), image },
+            false => Call::Backup { till: number, image },
+        }
     }
 
     fn restore(&self, random: &mut Random, number: u32, till: &Till, wrong: bool) -> Call {

@@ -107,8 +107,10 @@ impl Course {
             assert_eq!(first, *other, "{}: answers differ", self.place(call));
             assert!(output == *other_output, "{}: outputs differ", self.place(call));
         }
-        if let (Call::Sent { till, .. }, Ok(image)) = (call, &expected) {
-            self.as_a_full_backup(call, *till, image, first);
+        match (call, &expected) {
+            (Call::Sent { till, .. }, Ok(image)) => self.as_a_full_backup(call, *till, None, image, first),
+            (Call::Dated { till, day, .. }, Ok(image)) => self.as_a_full_backup(call, *till, Some(*day), image, first),
+            _ => {}
         }
         let accepted = first[0] == 0;
         self.met.insert((letter(call), first[0]));
@@ -127,13 +129,17 @@ impl Course {
         first
     }
 
-    /// The image that a message makes, backed up on a copy of the store before it: the answer, every byte and every word
-    /// are those that the message left.
-    fn as_a_full_backup(&self, call: &Call, till: u32, image: &[u8], answer: Numbers) {
+    /// The image that a message makes, or one with a day, backed up without one on a copy of the store before it: the
+    /// answer, every byte and every word are those that the call left, but for the day.
+    fn as_a_full_backup(&self, call: &Call, till: u32, day: Option<u32>, image: &[u8], answer: Numbers) {
         for lane in &self.lanes {
             let (mut pool, mut table) = (self.pool.clone(), self.table.clone());
             let full = lane.store.backup(&mut pool, &mut table, till, image);
             assert_eq!(full, answer[..2], "{}: another answer than a full backup's", self.place(call));
+            if let (0, Some(day)) = (full[0], day) {
+                let at = Words::new(&table, self.capacities).newest_day_at(till as usize);
+                table[at] = day;
+            }
             assert!(pool == lane.pool && table == lane.table, "{}: another store", self.place(call));
         }
     }
@@ -169,7 +175,7 @@ impl Course {
                 (events.shared, events.shared_with_blanks) = (0, 0);
                 events += Events::taken_over(&self.table, self.capacities, till as usize, version);
             }
-            Call::Backup { till, .. } | Call::Sent { till, .. } => {
+            Call::Backup { till, .. } | Call::Dated { till, .. } | Call::Sent { till, .. } => {
                 events += Events::turned(&self.table, after, self.capacities, till as usize);
             }
             _ => {}
@@ -200,7 +206,11 @@ impl Course {
         let written = expected.expect("the call was accepted");
         match call {
             Call::Backup { till, .. } | Call::Earlier { till, .. } | Call::Sent { till, .. } => {
-                self.keeper.file(*till, &written, !matches!(call, Call::Earlier { .. }));
+                self.keeper.file(*till, None, &written, !matches!(call, Call::Earlier { .. }));
+                assert_eq!(answer[1], self.keeper.tills()[*till as usize].last, "{}", self.place(call));
+            }
+            Call::Dated { till, day, .. } => {
+                self.keeper.file(*till, Some(*day), &written, true);
                 assert_eq!(answer[1], self.keeper.tills()[*till as usize].last, "{}", self.place(call));
             }
             Call::Retire { till, version } => {
@@ -212,6 +222,9 @@ impl Course {
             Call::Listing { till } => {
                 let listing = self.keeper.tills()[*till as usize].listing();
                 assert_eq!(answer[1..4], [listing.oldest, listing.newest, listing.last], "{}", self.place(call));
+            }
+            Call::VersionOn { till, day } => {
+                assert_eq!(Ok(answer[1]), self.version_on(*till, *day), "{}", self.place(call));
             }
             Call::Tally => {
                 let cells = self.pool.chunks(self.capacities.block_bytes as usize);
@@ -240,7 +253,7 @@ impl Course {
             self.judge_refusal(call, refusals[n], self.backup_refusal(till, image.len()).as_ref(), true);
             self.met.insert((IN_A_CLOSING, refusals[n]));
             if refusals[n] == 0 {
-                self.keeper.file(till, image, true);
+                self.keeper.file(till, None, image, true);
             }
             let last = if refusals[n] == 0 { self.keeper.tills()[till as usize].last } else { 0 };
             assert_eq!(versions[n], last, "{}: version of image {n}", self.place(call));
@@ -293,7 +306,7 @@ fn changes(call: &Call) -> bool {
 
 /// Whether it files one image.
 fn files(call: &Call) -> bool {
-    matches!(call, Call::Backup { .. } | Call::Earlier { .. } | Call::Sent { .. })
+    matches!(call, Call::Backup { .. } | Call::Dated { .. } | Call::Earlier { .. } | Call::Sent { .. })
 }
 
 /// A store laid out in buffers that were not all zero.
@@ -310,10 +323,11 @@ fn keeper_of(store: &dyn Calls, pool: &[u8], table: &[u32], capacities: Capaciti
     for till in 0..capacities.tills {
         let [0, .., last] = store.listing(pool, table, till) else { panic!("an unsound store") };
         keeper.begin(till, last);
-        for version in Words::new(table, capacities).numbers(till as usize) {
+        let words = Words::new(table, capacities);
+        for (version, day) in words.numbers(till as usize).into_iter().zip(words.days(till as usize)) {
             let mut image = vec![0; capacities.image_bytes()];
             let [0, length, _] = store.restore(pool, table, till, version, &mut image) else { panic!("not restored") };
-            keeper.find(till, version, &image[..length as usize]);
+            keeper.find(till, version, day, &image[..length as usize]);
         }
     }
     keeper
@@ -332,6 +346,7 @@ fn answer_by(earlier: Option<Backup>, lane: &mut Lane, call: &Call) -> Answer {
         Call::TableLength(capacities) => store.table_length(*capacities).to_vec(),
         Call::LayOut(capacities) => store.lay_out(pool, table, *capacities).to_vec(),
         Call::Backup { till, image } => store.backup(pool, table, *till, image).to_vec(),
+        Call::Dated { till, day, image } => store.backup_dated(pool, table, *till, *day, image).to_vec(),
         Call::Earlier { till, image } => {
             let earlier = earlier.expect("somebody makes the earlier backups");
             earlier(pool, table, *till, image).to_vec()
@@ -351,6 +366,7 @@ fn answer_by(earlier: Option<Backup>, lane: &mut Lane, call: &Call) -> Answer {
         Call::Sent { till, sending } => store.backup_sent(pool, table, *till, sending.message()).to_vec(),
         Call::Retire { till, version } => store.retire(pool, table, *till, *version).to_vec(),
         Call::Listing { till } => store.listing(pool, table, *till).to_vec(),
+        Call::VersionOn { till, day } => store.version_on(pool, table, *till, *day).to_vec(),
         Call::Tally => store.tally(pool, table).to_vec(),
         Call::All(collected) => store.backup_all(pool, table, collected.closing()).to_vec(),
     };
@@ -366,10 +382,12 @@ fn letter(call: &Call) -> char {
         Call::TableLength(_) => 'l',
         Call::LayOut(_) => 'o',
         Call::Backup { .. } => 'b',
+        Call::Dated { .. } => 'd',
         Call::Earlier { .. } => 'e',
         Call::Restore { .. } => 'r',
         Call::Retire { .. } => 'q',
         Call::Listing { .. } => 'i',
+        Call::VersionOn { .. } => 'v',
         Call::Tally => 't',
         Call::WriteStream { .. } => 's',
         Call::Offer { .. } => 'f',

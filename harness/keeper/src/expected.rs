@@ -21,10 +21,15 @@ impl Course {
             Call::Backup { till, image } | Call::Earlier { till, image } => {
                 return self.backup_refusal(*till, image.len()).map_or_else(|| Ok(image.clone()), Err)
             }
+            Call::Dated { till, day, image } => {
+                let refusal = self.backup_refusal(*till, image.len()).or_else(|| self.day_refusal(*till, *day));
+                return refusal.map_or_else(|| Ok(image.clone()), Err);
+            }
             Call::TableLength(capacities) => outside(capacities),
             Call::LayOut(capacities) => outside(capacities).or(Some(Refusal::Lengths)),
             Call::Tally => None,
             Call::Listing { till } => no_till(till),
+            Call::VersionOn { till, day } => self.version_on(*till, *day).err(),
             Call::Restore { till, version, room } => too_short(self.image(*till, *version), *room, <[u8]>::len),
             Call::WriteStream { till, version, room } => too_short(self.image(*till, *version), *room, stream_length),
             Call::Retire { till, version } => self.image(*till, *version).err(),
@@ -56,6 +61,17 @@ impl Course {
     fn image(&self, till: u32, version: u32) -> Result<&[u8], Refusal> {
         let till = self.keeper().till(till).ok_or(Refusal::NoSuchTill)?;
         till.image(version).ok_or(till.missing(version))
+    }
+
+    /// The version that the keeper finds by a day, or why it finds none.
+    pub(crate) fn version_on(&self, till: u32, day: u32) -> Result<u32, Refusal> {
+        let till = self.keeper().till(till).ok_or(Refusal::NoSuchTill)?;
+        till.version_on(day).ok_or(Refusal::NoneSoEarly)
+    }
+
+    /// The refusal of a day, where nothing else is wrong with a backup that the keeper knows of.
+    fn day_refusal(&self, till: u32, day: u32) -> Option<Refusal> {
+        (day < self.keeper().till(till)?.newest_day()).then_some(Refusal::EarlierDay)
     }
 
     pub(crate) fn backup_refusal(&self, till: u32, length: usize) -> Option<Refusal> {

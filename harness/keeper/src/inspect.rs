@@ -15,7 +15,7 @@ fn is_blank(block: &[u8]) -> bool {
     block.iter().all(|&byte| byte == 255)
 }
 
-/// The slots have the keeper's numbers. The occupied cells, the cells that are not zero and the cells that direct
+/// The slots have the keeper's numbers and days. The occupied cells, the cells that are not zero and the cells that direct
 /// pointers lead to are the same ones. The blocks of an image are the store's.
 pub fn inspect(pool: &[u8], table: &[u32], keeper: &Keeper) {
     let capacities = Capacities::of_table(table).expect("a sound store");
@@ -25,10 +25,21 @@ pub fn inspect(pool: &[u8], table: &[u32], keeper: &Keeper) {
     let mut led_to = BTreeSet::new();
     for (n, till) in keeper.tills().iter().enumerate() {
         assert!(words.numbers(n).iter().eq(till.held.keys()), "numbers of till {n}");
+        assert!(words.days(n).into_iter().eq(till.days()), "days of till {n}");
         led_to.extend(inspect_till(&words, n, till, bytes));
     }
     assert!(filled == words.named(), "cells that are not zero and cells that positions name");
     assert!(filled == led_to, "cells that are not zero and cells that pointers lead to");
+}
+
+/// What is said of days after every list of calls from a freshly laid out store: from an older version to a newer one
+/// of its till they never fall.
+pub fn days_never_fall(table: &[u32]) {
+    let capacities = Capacities::of_table(table).expect("a sound store");
+    let words = Words::new(table, capacities);
+    for till in 0..capacities.tills as usize {
+        assert!(words.days(till).is_sorted(), "days of till {till}: {:?}", words.days(till));
+    }
 }
 
 /// No block that the next newer image has too is pointed to directly, if the older version was the till's newest when

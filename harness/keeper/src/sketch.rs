@@ -1,6 +1,6 @@
 //! Any sound stores, most of them such as no list of calls leads to: records of equal content, cells in any order,
 //! direct pointers where indirect ones would do, cells of 255s beside blank positions, numbers that begin anywhere and
-//! have gaps.
+//! have gaps, days that fall.
 
 use crate::Random;
 use terms::{Capacities, LAST_NUMBER};
@@ -24,6 +24,7 @@ enum Pointer {
 struct Version {
     number: u32,
     length: usize,
+    day: u32,
     pointers: Vec<Pointer>,
     /// Whether each block, as traced, is blank without a cell.
     blank: Vec<bool>,
@@ -82,13 +83,14 @@ impl Sketch {
     fn draw_till(&self, random: &mut Random) -> Till {
         let last = *random.pick(&[0, 1, 2, 3, 4, 9, 1_000, LAST_NUMBER - 1, LAST_NUMBER]);
         let held = random.below(1 + self.capacities.versions.min(last) as usize);
+        let mut days = draw_days(random, held);
         let mut versions: Vec<Version> = Vec::new();
         let mut above = last as usize + 1;
         for older in (0..held).rev() {
             // Each older one needs a number too.
             let number = if random.percent(50) { above - 1 } else { random.between(older + 1, above - 1) };
             let version = self.draw_version(random, number as u32, versions.last());
-            versions.push(version);
+            versions.push(Version { day: days.pop().unwrap_or(0), ..version });
             above = number;
         }
         Till { last, versions }
@@ -121,7 +123,7 @@ impl Sketch {
                 (*pointer, *blank) = (Pointer::Null, false);
             }
         }
-        Version { number, length, pointers, blank }
+        Version { number, length, day: 0, pointers, blank }
     }
 
     /// Counts every direct pointer.
@@ -191,7 +193,7 @@ impl Sketch {
             let held = till.versions.len();
             words.extend([till.last, held as u32, 0, 0]);
             for version in till.versions.iter().rev() {
-                words.extend([version.number, version.length as u32, 0]);
+                words.extend([version.number, version.length as u32, version.day]);
                 words.extend(version.pointers.iter().map(pointer_word));
                 words.extend(vec![0; blocks - version.pointers.len()]);
             }
@@ -200,6 +202,19 @@ impl Sketch {
         self.records.iter().for_each(|record| words.extend(record_words(record)));
         words
     }
+}
+
+/// A till's days, the oldest version's first: all 0, as before there were days; rising, as calls leave them; or any.
+fn draw_days(random: &mut Random, held: usize) -> Vec<u32> {
+    let way = random.below(3);
+    let mut days: Vec<u32> =
+        (0..held).map(|_| *random.pick(&[0, 1, 2, 3, 9, 20_000, u32::MAX - 1, u32::MAX])).collect();
+    match way {
+        0 => days.fill(0),
+        1 => days.sort(),
+        _ => {}
+    }
+    days
 }
 
 /// Whether a pointer is blank, or leads to a blank one by way of the next newer version.

@@ -52,6 +52,22 @@ impl<'a> Trial<'a> {
         self.store.backup(&mut self.pool, &mut self.table, till, image)
     }
 
+    /// Backs letters up with a day.
+    pub fn file_on(&mut self, day: u32, text: &str) -> [u32; 2] {
+        let image = letters(text, self.capacities.block_bytes);
+        self.store.backup_dated(&mut self.pool, &mut self.table, 0, day, &image)
+    }
+
+    pub fn version_on(&self, day: u32) -> [u32; 2] {
+        self.store.version_on(&self.pool, &self.table, 0, day)
+    }
+
+    /// The word of each slot of till 0, also of those not in use, that has the day.
+    pub fn days(&self) -> Vec<u32> {
+        let slot = 3 + self.capacities.blocks as usize;
+        self.table[12..][..slot * self.capacities.versions as usize].chunks(slot).map(|words| words[2]).collect()
+    }
+
     /// Backs letters up as an earlier rule did.
     pub fn file_by(&mut self, earlier: Backup, till: u32, text: &str) -> [u32; 2] {
         earlier(&mut self.pool, &mut self.table, till, &letters(text, self.capacities.block_bytes))

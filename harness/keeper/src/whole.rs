@@ -18,6 +18,7 @@ pub struct Till {
 #[derive(Clone)]
 pub struct Kept {
     pub image: Vec<u8>,
+    pub day: u32,
     /// The number of its till's newest version when it was taken, 0 if none was held.
     pub previous: u32,
     /// Whether it was taken when blank blocks were known, or was its till's newest when such a one was taken: then its
@@ -44,22 +45,22 @@ impl Keeper {
     }
 
     /// A version that is there from the beginning. Nobody knows which one was the newest when it was taken.
-    pub fn find(&mut self, till: u32, version: u32, image: &[u8]) {
+    pub fn find(&mut self, till: u32, version: u32, day: u32, image: &[u8]) {
         self.tills[till as usize]
             .held
-            .insert(version, Kept { image: image.to_vec(), previous: 0, knows_blanks: false });
+            .insert(version, Kept { image: image.to_vec(), day, previous: 0, knows_blanks: false });
     }
 
     /// An accepted backup files the image under the till's next number. It was made when blank blocks were known, or
-    /// before.
-    pub fn file(&mut self, till: u32, image: &[u8], knows_blanks: bool) {
+    /// before. Without a day it takes that of the till's newest held version, or 0 if none is held.
+    pub fn file(&mut self, till: u32, day: Option<u32>, image: &[u8], knows_blanks: bool) {
         let till = &mut self.tills[till as usize];
-        let previous = till.newest();
+        let (previous, day) = (till.newest(), day.unwrap_or(till.newest_day()));
         if let Some(kept) = till.held.get_mut(&previous) {
             kept.knows_blanks |= knows_blanks;
         }
         till.last += 1;
-        till.held.insert(till.last, Kept { image: image.to_vec(), previous, knows_blanks });
+        till.held.insert(till.last, Kept { image: image.to_vec(), day, previous, knows_blanks });
     }
 
     /// An accepted retire strikes the version named.
@@ -88,6 +89,21 @@ impl Till {
 
     pub fn image(&self, version: u32) -> Option<&[u8]> {
         self.held.get(&version).map(|kept| kept.image.as_slice())
+    }
+
+    /// The day of the newest held version, 0 if none is held.
+    pub fn newest_day(&self) -> u32 {
+        self.held.last_key_value().map_or(0, |(_, kept)| kept.day)
+    }
+
+    /// The newest held version that is not after a day.
+    pub fn version_on(&self, day: u32) -> Option<u32> {
+        self.held.iter().filter(|(_, kept)| kept.day <= day).map(|(&number, _)| number).max()
+    }
+
+    /// The days of the held versions, the oldest version's first.
+    pub fn days(&self) -> impl Iterator<Item = u32> + '_ {
+        self.held.values().map(|kept| kept.day)
     }
 
     /// Why a number is not held: it was given once, or never.

@@ -46,8 +46,24 @@ impl<'a> Words<'a> {
 
     /// The numbers in a till's slots that are in use, the oldest first.
     pub fn numbers(&self, till: usize) -> Vec<u32> {
+        self.of_slots(till, 0)
+    }
+
+    /// The days in a till's slots that are in use, the oldest version's first.
+    pub fn days(&self, till: usize) -> Vec<u32> {
+        self.of_slots(till, 2)
+    }
+
+    /// Where the day of a till's newest version stands, if it has one.
+    pub fn newest_day_at(&self, till: usize) -> usize {
         let (at, held) = (self.till_at(till), self.table[self.till_at(till) + 1] as usize);
-        (0..held).map(|slot| self.table[at + 4 + slot * (3 + self.blocks)]).collect()
+        at + 4 + (held - 1) * (3 + self.blocks) + 2
+    }
+
+    /// One word of each slot that is in use.
+    fn of_slots(&self, till: usize, word: usize) -> Vec<u32> {
+        let (at, held) = (self.till_at(till), self.table[self.till_at(till) + 1] as usize);
+        (0..held).map(|slot| self.table[at + 4 + slot * (3 + self.blocks) + word]).collect()
     }
 
     /// The pointer words of a slot, those past the version's last block too.

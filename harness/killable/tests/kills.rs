@@ -13,9 +13,10 @@ struct Scene {
     prepare: fn(&Bench),
 }
 
-const SCENES: [Scene; 14] = [
+const SCENES: [Scene; 15] = [
     Scene { name: "init", line: "init new --tills 2 --blocks 16 --cells 64 --records 8", file: "new", prepare: |_| {} },
     Scene { name: "backup", line: "backup s 0 image", file: "s", prepare: |_| {} },
+    Scene { name: "dated", line: "backup s 0 image --day 7", file: "s", prepare: |_| {} },
     Scene { name: "closing", line: "closing s 0=image 1=image", file: "s", prepare: |_| {} },
     Scene { name: "backup-sent", line: "backup-sent s 0 message", file: "s", prepare: message },
     Scene { name: "offer", line: "offer s 0 prints out", file: "out", prepare: message },

@@ -8,12 +8,16 @@ pub trait Calls {
     fn table_length(&self, capacities: Capacities) -> [u32; 2];
     fn lay_out(&self, pool: &mut [u8], table: &mut [u32], capacities: Capacities) -> [u32; 1];
     fn backup(&self, pool: &mut [u8], table: &mut [u32], till: u32, image: &[u8]) -> [u32; 2];
+    /// A backup with a day. Every other one takes the day of the till's newest held version, or 0 if none is held.
+    fn backup_dated(&self, pool: &mut [u8], table: &mut [u32], till: u32, day: u32, image: &[u8]) -> [u32; 2];
     /// Files several images, each as a backup does. Answers the refusal of the whole, then each image's refusal, then each
     /// image's version, in as many places as a closing can have images.
     fn backup_all(&self, pool: &mut [u8], table: &mut [u32], closing: Closing) -> [u32; CLOSING_NUMBERS];
     fn restore(&self, pool: &[u8], table: &[u32], till: u32, version: u32, output: &mut [u8]) -> [u32; 3];
     fn retire(&self, pool: &mut [u8], table: &mut [u32], till: u32, version: u32) -> [u32; 2];
     fn listing(&self, pool: &[u8], table: &[u32], till: u32) -> [u32; 4];
+    /// The newest held version of a till that is not after a day.
+    fn version_on(&self, pool: &[u8], table: &[u32], till: u32, day: u32) -> [u32; 2];
     fn tally(&self, pool: &[u8], table: &[u32]) -> [u32; 4];
     fn write_stream(&self, pool: &[u8], table: &[u32], till: u32, version: u32, output: &mut [u8]) -> [u32; 2];
     /// Reads a stream into an image. It needs no store.

@@ -25,10 +25,12 @@ pub enum Refusal {
     StreamLength = 25,
     StreamBits = 26,
     NoTurn = 27,
+    EarlierDay = 28,
+    NoneSoEarly = 29,
 }
 
 impl Refusal {
-    pub const ALL: [Refusal; 18] = [
+    pub const ALL: [Refusal; 20] = [
         Refusal::Capacity,
         Refusal::Lengths,
         Refusal::NoSuchTill,
@@ -47,6 +49,8 @@ impl Refusal {
         Refusal::StreamLength,
         Refusal::StreamBits,
         Refusal::NoTurn,
+        Refusal::EarlierDay,
+        Refusal::NoneSoEarly,
     ];
 
     /// The page's number.
@@ -86,6 +90,8 @@ impl Refusal {
                 "a stream with a bit on a null or missing block, or a byte other than zero after the length"
             }
             Refusal::NoTurn => "a till count outside 1 to 16, a mark at or above it, or a last till at or above it",
+            Refusal::EarlierDay => "a day before that of the till's newest held version",
+            Refusal::NoneSoEarly => "no held version is as early as that day",
         }
     }
 }
@@ -107,7 +113,7 @@ mod tests {
         for refusal in Refusal::ALL {
             assert_eq!(Refusal::from_number(refusal.number()), Some(refusal));
         }
-        for number in [0, 6, 7, 8, 9, 13, 15, 21, 23, 28, u32::MAX] {
+        for number in [0, 6, 7, 8, 9, 13, 15, 21, 23, 30, u32::MAX] {
             assert_eq!(Refusal::from_number(number), None);
         }
     }

@@ -1,6 +1,7 @@
 //! A refusal in plain words: what it means for this call, and what to do about it.
 
 use crate::arguments::Named;
+use crate::calendar;
 use crate::names::{quoted, shown};
 use crate::words::{bytes, counted};
 use crate::{image, numbers, table, Failure};
@@ -17,6 +18,8 @@ pub struct Call<'a> {
     pub till: u32,
     /// The version named, 0 if the call names none.
     pub version: u32,
+    /// The day named, 0 if the call names none.
+    pub day: u32,
     /// The image, empty if the call has none.
     pub image: &'a [u8],
 }
@@ -24,7 +27,7 @@ pub struct Call<'a> {
 impl<'a> Call<'a> {
     /// A call that names a till and no more.
     pub fn of_till(file: &'a Path, store: &'a Store, till: u32) -> Call<'a> {
-        Call { file, store, till, version: 0, image: &[] }
+        Call { file, store, till, version: 0, day: 0, image: &[] }
     }
 
     /// The number of a version that the command line names.
@@ -32,6 +35,10 @@ impl<'a> Call<'a> {
         match version {
             Named::Number(number) => Ok(number),
             Named::Newest => self.store.listing(self.till).map(|listing| listing.newest),
+            Named::OnDay(day) => {
+                let found = self.store.version_on(self.till, day);
+                return found.map_err(|refusal| Call { day, ..*self }.refused(refusal));
+            }
         }
         .map_err(|refusal| self.refused(refusal))
     }
@@ -52,6 +59,8 @@ impl<'a> Call<'a> {
             Refusal::NoRecord | Refusal::NoRun => self.no_room(refusal),
             Refusal::NeverGiven => self.never_given(),
             Refusal::NoLongerHeld => self.no_longer_held(),
+            Refusal::EarlierDay => self.earlier_day(),
+            Refusal::NoneSoEarly => self.none_so_early(),
             Refusal::Unsound => return unsound(refusal, self.file),
             Refusal::Capacity | Refusal::Lengths | Refusal::ShortOutput | Refusal::NoTurn => unforeseen(),
             // Streams are read before there is a call.
@@ -133,6 +142,41 @@ impl<'a> Call<'a> {
         let (till, version, held, choose) = (self.till, self.version, self.held(), self.choose());
         let here = format!("version {version} was given and is retired; till {till} holds {held}");
         (here, format!("{choose}; a retired version is in older copies of the file only."))
+    }
+
+    /// The day is mistyped, or that of the newest version is.
+    fn earlier_day(&self) -> (String, String) {
+        let (file, till, newest) = (quoted(self.file), self.till, self.listing().newest);
+        let [asked, beaten] = [self.day, table::day(self.store, till, newest)].map(calendar::shown);
+        let here = format!("{asked} is before {beaten} of version {newest}, the newest that till {till} holds");
+        let advice = format!(
+            "give {beaten} or a later one, or no --day at all, which takes that one; if the day of version {newest} itself \
+             is wrong, restore its image, retire it with `lurdempos retire {file} {till} {newest}`, and keep the image again."
+        );
+        (here, advice)
+    }
+
+    /// The day is mistyped, or what was held then is retired.
+    fn none_so_early(&self) -> (String, String) {
+        let (till, choose, numbers) = (self.till, self.choose(), table::numbers(self.store, self.till));
+        let dated = numbers.iter().map(|&number| (table::day(self.store, till, number), number));
+        let Some((day, version)) = dated.min() else {
+            return (format!("till {till} holds no version"), format!("{choose}."));
+        };
+        let [asked, first] = [self.day, day].map(calendar::shown);
+        let here =
+            format!("the earliest that till {till} holds is version {version} of {first}, which is after {asked}");
+        let retired = match self.listing().last as usize == numbers.len() {
+            true => "",
+            false => "; a retired version is in older copies of the file only",
+        };
+        (
+            here,
+            format!(
+                "give {first} or a later one: `lurdempos list {} {till}` shows them all{retired}.",
+                quoted(self.file)
+            ),
+        )
     }
 
     /// What the till holds.

@@ -1,7 +1,8 @@
 //! The words of a command line, taken strictly.
 
+use crate::calendar::{self, NoDay};
 use crate::names::{quoted, shown};
-use crate::syntax::{Command, Opt, Takes};
+use crate::syntax::{Argument, Command, Opt, Takes, DAY};
 use crate::{streams, Failure};
 use std::ffi::{OsStr, OsString};
 use std::os::unix::ffi::OsStrExt;
@@ -20,6 +21,8 @@ pub struct Arguments {
 pub enum Named {
     Number(u32),
     Newest,
+    /// The newest that is not after a day.
+    OnDay(u32),
 }
 
 impl Arguments {
@@ -74,16 +77,26 @@ impl Arguments {
 
     /// The arguments, if there are neither too few nor too many.
     fn counted(self) -> Result<Arguments, Failure> {
-        match self.words.get(self.command.arguments.len()) {
-            Some(word) if !self.command.repeats() => {
+        let all = self.command.arguments;
+        let (replaced, places): (Vec<_>, Vec<_>) = all.iter().partition(|argument| self.is_replaced(argument));
+        match (self.words.get(places.len()), &replaced[..]) {
+            (Some(_), [Argument { name, instead, .. }]) if self.words.len() == all.len() => {
+                return Err(self.wrong(&format!("{name} and {instead} both say which version; give one of them")))
+            }
+            (Some(word), _) if !self.command.repeats() => {
                 return Err(self.wrong(&format!("one argument too many: {}", shown(word))))
             }
             _ => {}
         }
-        match self.command.arguments.iter().skip(self.words.len()).find(|argument| argument.needed) {
+        match places.iter().skip(self.words.len()).find(|argument| argument.needed) {
             Some(argument) => Err(self.missing(argument.name)),
             None => Ok(self),
         }
+    }
+
+    /// Whether an option stands in the argument's place.
+    fn is_replaced(&self, argument: &Argument) -> bool {
+        !argument.instead.is_empty() && self.value(argument.instead).is_some()
     }
 
     /// Wrong use of this command.
@@ -97,8 +110,14 @@ impl Arguments {
         self.wrong(&format!("{name} is missing"))
     }
 
+    /// The word of the command's argument at this place; none if an option stands for it.
     pub fn word(&self, at: usize) -> Option<&OsStr> {
-        self.words.get(at).map(OsString::as_os_str)
+        let all = self.command.arguments;
+        let replaced = all.iter().take(at).filter(|argument| self.is_replaced(argument)).count();
+        match all.get(at) {
+            Some(argument) if self.is_replaced(argument) => None,
+            _ => self.words.get(at - replaced).map(OsString::as_os_str),
+        }
     }
 
     /// The words from this place on.
@@ -150,12 +169,31 @@ impl Arguments {
         self.parsed(self.name(at), word)
     }
 
-    /// The argument at this place as a version: a number, or the word `newest`.
+    /// The argument at this place as a version: a number, the word `newest`, or a day in its place.
     pub fn version(&self, at: usize) -> Result<Named, Failure> {
-        if self.word(at).is_some_and(|word| word == "newest") {
-            return Ok(Named::Newest);
+        match (self.word(at), self.day()?) {
+            (None, Some(day)) => Ok(Named::OnDay(day)),
+            (Some(word), _) if word == "newest" => Ok(Named::Newest),
+            _ => self.number(at).map(Named::Number),
         }
-        self.number(at).map(Named::Number)
+    }
+
+    /// The day that the command line names, if it does: a number, or a date.
+    pub fn day(&self) -> Result<Option<u32>, Failure> {
+        let Some(word) = self.value(DAY.name) else { return Ok(None) };
+        let text = shown(word);
+        match word.to_str().and_then(calendar::of_date) {
+            Some(Ok(day)) => Ok(Some(day)),
+            Some(Err(NoDay::NoDate)) => Err(self.wrong(&format!("there is no date {text}"))),
+            Some(Err(NoDay::TooEarly)) => {
+                Err(self.wrong(&format!("{text} is before 1970-01-01, the first date of a day")))
+            }
+            None if word.to_str().is_some_and(is_plain) => self.parsed(DAY.name, word).map(Some),
+            None => {
+                Err(self
+                    .wrong(&format!("--day has to be a number in plain digits, or a date as 2026-03-31, not `{text}`")))
+            }
+        }
     }
 
     /// An option's number, if the option is given.

@@ -73,6 +73,8 @@ const TAIL: &str = r#"    if [[ $files == *" $before "* ]]; then
     for ((n = 2; n < COMP_CWORD; n++)); do
         [[ ${COMP_WORDS[n]} == -?* || $values == *" ${COMP_WORDS[n-1]} "* ]] || ((place++))
     done
+    # A day stands in a version's place.
+    [[ " ${COMP_WORDS[*]} " == *' --day '* ]] && kinds=(${kinds[@]/newest/})
     # A pair can come again. An equals sign is a word of its own to bash; what follows it is the file.
     if [[ ${#kinds[@]} != 0 && ${kinds[-1]} == pair ]] && ((place >= ${#kinds[@]})); then place=$((${#kinds[@]} - 1)); fi
     case ${kinds[place]} in

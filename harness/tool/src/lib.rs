@@ -5,6 +5,7 @@ mod advice;
 mod arguments;
 mod attributes;
 mod bakery;
+mod calendar;
 mod checksum;
 mod commands;
 mod completions;

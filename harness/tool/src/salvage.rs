@@ -15,6 +15,8 @@ pub struct Found {
     pub slot: usize,
     /// None if the word has no version's number.
     pub number: Option<u32>,
+    /// None if the word cannot be relied on.
+    pub day: Option<u32>,
     pub image: Vec<u8>,
     /// Whether the words that tell its number and length can be relied on.
     pub named: bool,
@@ -205,13 +207,15 @@ impl<'a> Wreck<'a> {
         let at = self.layout.slot(till, slot);
         let number = self.word(at).filter(|number| (1..=LAST_NUMBER).contains(number));
         let named = number.is_some() && self.names_hold(till, slot, length);
+        let day = self.layout.day(till, slot);
+        let day = self.word(day).filter(|_| self.word_is_good(day));
         let verdict = match self.damaged {
             _ if !missing.is_empty() => Verdict::Incomplete,
             _ if !named || !doubtful.is_empty() => Verdict::Doubtful,
             None => Verdict::Unchecked,
             Some(_) => Verdict::Certain,
         };
-        Found { till: till as u32, slot, number, image, named, doubtful, missing, verdict }
+        Found { till: till as u32, slot, number, day, image, named, doubtful, missing, verdict }
     }
 
     /// Whether the capacities, the till's own words and the slot's number and length can be relied on.

@@ -23,6 +23,8 @@ pub struct Argument {
     pub needed: bool,
     /// Whether it can stand several times. Then it is the last one.
     pub repeated: bool,
+    /// The option that can stand in its place; empty if none can.
+    pub instead: &'static str,
     pub takes: Takes,
 }
 
@@ -59,25 +61,30 @@ pub const WAIT: Opt = Opt::with("--wait", "SECONDS", "wait so long for another r
 /// The option of every command that can replace a file.
 pub const FORCE: Opt = Opt::flag("--force", "replace the output even if it is a store or write-protected");
 
+/// The option of commands that look a version up by its day.
+pub const DAY: Opt =
+    Opt::with("--day", "D", "in VERSION's place: the newest version not after the day D, a number or a date");
+
 /// The options of commands that can be tried out.
 pub const DRY_RUN: Opt = Opt::flag("--dry-run", "change nothing; tell what would come of it, with the cells in use");
 
 pub const FILE: Argument = Argument::needed("FILE", Takes::File);
 pub const TILL: Argument = Argument::needed("TILL", Takes::Anything);
-pub const VERSION: Argument = Argument::needed("VERSION", Takes::Version);
+/// A version of a command that has the option [`DAY`] too.
+pub const VERSION: Argument = Argument { instead: DAY.name, ..Argument::needed("VERSION", Takes::Version) };
 
 impl Argument {
     pub const fn needed(name: &'static str, takes: Takes) -> Argument {
-        Argument { name, needed: true, repeated: false, takes }
+        Argument { name, needed: true, repeated: false, instead: "", takes }
     }
 
     pub const fn optional(name: &'static str, takes: Takes) -> Argument {
-        Argument { name, needed: false, repeated: false, takes }
+        Argument { name, needed: false, repeated: false, instead: "", takes }
     }
 
     /// One that stands any number of times, or not at all.
     pub const fn repeated(name: &'static str, takes: Takes) -> Argument {
-        Argument { name, needed: false, repeated: true, takes }
+        Argument { name, needed: false, repeated: true, instead: "", takes }
     }
 
     /// As a usage line shows it.

@@ -26,6 +26,11 @@ impl Layout {
         self.till(till) + TILL_WORDS + slot * self.slot_words()
     }
 
+    /// The day of a slot.
+    pub fn day(self, till: usize, slot: usize) -> usize {
+        self.slot(till, slot) + 2
+    }
+
     pub fn record(self, record: usize) -> usize {
         self.till(self.capacities.tills as usize) + record * self.capacities.record_words()
     }
@@ -89,6 +94,8 @@ impl Position {
 pub struct Version {
     pub number: u32,
     pub bytes: u32,
+    /// 0 if none is known.
+    pub day: u32,
     /// How many pointers are of each kind.
     pub direct: u32,
     pub indirect: u32,
@@ -125,6 +132,14 @@ pub fn numbers(store: &Store, till: u32) -> Vec<u32> {
     (0..held(store, till) as usize).filter_map(number).collect()
 }
 
+/// The day of a version that a till holds.
+pub fn day(store: &Store, till: u32, version: u32) -> u32 {
+    let layout = Layout { capacities: store.capacities() };
+    let slot = numbers(store, till).into_iter().position(|number| number == version);
+    let word = slot.and_then(|slot| store.table().get(layout.day(till as usize, slot)));
+    word.copied().unwrap_or(0)
+}
+
 /// The held versions of each till, the oldest first.
 pub fn tills(store: &Store) -> Vec<Vec<Version>> {
     let (tills, records) = (store.capacities().tills, records(store));
@@ -146,9 +161,9 @@ fn versions(store: &Store, till: u32, records: &[Vec<Position>]) -> Vec<Version>
 }
 
 fn version(slot: &[u32], capacities: Capacities, newer: &[Traced], records: &[Vec<Position>]) -> Version {
-    let (number, bytes) = (slot[0], slot[1]);
+    let (number, bytes, day) = (slot[0], slot[1], slot[2]);
     let blocks = bytes.div_ceil(capacities.block_bytes) as usize;
-    let mut version = Version { number, bytes, direct: 0, indirect: 0, null: 0, blank: 0, traced: Vec::new() };
+    let mut version = Version { number, bytes, day, direct: 0, indirect: 0, null: 0, blank: 0, traced: Vec::new() };
     for &word in slot.iter().skip(SLOT_WORDS).take(blocks) {
         let traced = match Pointer::of(word) {
             Pointer::Direct { record, position } => {

@@ -86,8 +86,10 @@ fn json_for_programs() {
     let listed = "{\"file\": \"s\", \"tills\": [\n  \
                     {\"till\": 0, \"oldest\": 0, \"newest\": 0, \"last\": 0, \"versions\": []},\n  \
                     {\"till\": 1, \"oldest\": 1, \"newest\": 2, \"last\": 2, \"versions\": [\n    \
-                      {\"version\": 1, \"bytes\": 192, \"chain\": 1, \"direct\": 0, \"indirect\": 2, \"null\": 1, \"blank\": 0},\n    \
-                      {\"version\": 2, \"bytes\": 150, \"chain\": 0, \"direct\": 3, \"indirect\": 0, \"null\": 0, \"blank\": 0}]}]";
+                      {\"version\": 1, \"day\": 0, \"date\": null, \"bytes\": 192, \"chain\": 1, \
+                       \"direct\": 0, \"indirect\": 2, \"null\": 1, \"blank\": 0},\n    \
+                      {\"version\": 2, \"day\": 0, \"date\": null, \"bytes\": 150, \"chain\": 0, \
+                       \"direct\": 3, \"indirect\": 0, \"null\": 0, \"blank\": 0}]}]";
     let capacities = "\"capacities\": {\"tills\": 2, \"versions\": 4, \"blocks\": 16, \"records\": 8, \"cells\": 64, \
                       \"block_bytes\": 64, \"segment_blocks\": 8, \"rebuild_percent\": 20}}\n";
     assert_eq!(bench.run("list --json s").accepted().out, format!("{listed}, {capacities}"));
@@ -176,8 +178,8 @@ fn chains_are_the_librarys() {
         let numbers = store.listing(till).unwrap();
         for version in numbers.oldest..=numbers.newest {
             let Ok(restored) = store.restore(till, version, &mut [0; 2048]) else { continue };
-            let line =
-                format!("{{\"version\": {version}, \"bytes\": {}, \"chain\": {},", restored.length, restored.hops);
+            let (undated, length, hops) = ("\"day\": 0, \"date\": null", restored.length, restored.hops);
+            let line = format!("{{\"version\": {version}, {undated}, \"bytes\": {length}, \"chain\": {hops},");
             let part = listed.split("{\"till\": ").find(|part| part.starts_with(&format!("{till},"))).unwrap();
             assert!(part.contains(&line), "till {till}: {line} is not in {part}");
         }

@@ -5,15 +5,18 @@ use common::{letters, Bench, Run};
 use std::process::Command;
 
 /// Every command that answers, in an order in which all succeed.
-const LINES: [&str; 28] = [
+const LINES: [&str; 31] = [
     "init n --tills 1",
     "backup s 0 image",
     "backup s 0 image --unless-same",
     "backup s 0 image --dry-run",
     "backup s 0 other --rotate",
     "restore s 0 newest out",
+    "restore s 0 --day 2026-03-31 out",
+    "verify s 0 --day 7 other",
     "export s 0 newest stream",
     "import s 1 stream",
+    "import s 1 stream --day 2026-03-31",
     "fingerprints s image prints",
     "offer s 1 prints marks",
     "sent s image marks message",
@@ -105,8 +108,8 @@ fn what_programs_are_told() {
     let kept = bench.run("backup s 0 image --json").accepted().out.clone();
     assert_eq!(
         kept,
-        "{\"file\": \"s\", \"till\": 0, \"version\": 1, \"bytes\": 192, \"kept\": true, \"retired\": null, \
-         \"dry_run\": false, \"cells\": null}\n"
+        "{\"file\": \"s\", \"till\": 0, \"version\": 1, \"day\": 0, \"date\": null, \"bytes\": 192, \"kept\": true, \
+         \"retired\": null, \"dry_run\": false, \"cells\": null}\n"
     );
     let tried = bench.run("backup s 0 other --dry-run --json").accepted().out.clone();
     assert!(tried.ends_with("\"dry_run\": true, \"cells\": {\"before\": 3, \"after\": 4, \"of\": 64}}\n"), "{tried}");
@@ -195,6 +198,11 @@ fn completions_for_bash() {
     assert_eq!(offered(&bench, &["lurdempos", "backup", "--rotate", "s", "0", "im"]), ["image"]);
     assert!(offered(&bench, &["lurdempos", "backup", "--bytes", ""]).is_empty());
     assert_eq!(offered(&bench, &["lurdempos", "restore", "s", "0", ""]), ["newest"]);
+    // With a day there is no version, and the output follows the till.
+    assert_eq!(offered(&bench, &["lurdempos", "restore", "s", "0", "--d"]), ["--day"]);
+    assert_eq!(offered(&bench, &["lurdempos", "restore", "s", "0", "--day", "7", "ot"]), ["other"]);
+    assert_eq!(offered(&bench, &["lurdempos", "verify", "--day", "7", "s", "0", "im"]), ["image"]);
+    assert!(offered(&bench, &["lurdempos", "restore", "s", "0", "--day", ""]).is_empty());
     // To bash an equals sign is a word.
     for words in [&["0", "=", "im"][..], &["0", "=", "image", "1", "=", "im"], &["--wait", "3", "0", "=", "im"]] {
         assert_eq!(offered(&bench, &[&["lurdempos", "closing", "s"], words].concat()), ["image"]);

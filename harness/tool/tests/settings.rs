@@ -122,7 +122,8 @@ fn lists_and_maps_are_the_librarys() {
         let (store, listed) = (store(settings), bench.run("list s --json").out);
         for (till, version, image) in held(settings) {
             let hops = store.restore(till, version, &mut vec![0; 40 * 512]).unwrap().hops;
-            let line = format!("{{\"version\": {version}, \"bytes\": {}, \"chain\": {hops},", image.len());
+            let (undated, length) = ("\"day\": 0, \"date\": null", image.len());
+            let line = format!("{{\"version\": {version}, {undated}, \"bytes\": {length}, \"chain\": {hops},");
             let part = listed.split("{\"till\": ").find(|part| part.starts_with(&format!("{till},"))).unwrap();
             assert!(part.contains(&line), "till {till}: {line} is not in {part}");
             let blocks = || image.chunks(settings[0] as usize);

@@ -55,17 +55,27 @@ pub fn each_call(random: &mut Random, pool: &[u8], table: &[u32]) -> Vec<Call> {
     let messages = Messages { capacities, stock: &stock, print: &fingerprint_of };
     let (fingerprints, room) = messages.offer(random, &image, false);
     let all = of_tills(random, &image, capacities);
+    let day = day_near(random, &Words::new(table, capacities).days(till as usize));
     vec![
         Call::Tally,
         Call::Listing { till },
+        Call::VersionOn { till, day },
         Call::Restore { till, version, room: capacities.image_bytes() },
         Call::WriteStream { till, version, room: LONGEST_STREAM },
         Call::Retire { till, version },
         Call::Offer { till, fingerprints, room },
         Call::Sent { till, sending: messages.sent(random, &image, false) },
         Call::All(all),
+        Call::Dated { till, day, image: image.clone() },
         Call::Backup { till, image },
     ]
+}
+
+/// A day at one of these or beside it, or any.
+fn day_near(random: &mut Random, days: &[u32]) -> u32 {
+    let any = random.edge();
+    let day = if days.is_empty() { any } else { *random.pick(days) };
+    *random.pick(&[day, day.saturating_sub(1), day.saturating_add(1), any])
 }
 
 /// A closing of some tills with an image whole and in parts, and now and then of lists that do not fit.

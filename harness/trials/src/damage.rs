@@ -9,7 +9,7 @@ pub fn damage(random: &mut Random, pool: &mut [u8], table: &mut [u32], capacitie
     let at = table.len() - size * capacities.records as usize;
     let (here, there) = (random.below(table.len()), random.below(table.len()));
     let (cell, other) = (block * random.below(pool.len() / block), block * random.below(pool.len() / block));
-    match random.below(21) {
+    match random.below(22) {
         0 => table[here] ^= 1 << random.below(32),
         1 => table[here] = random.edge(),
         2 => table[here] = table[there],
@@ -30,6 +30,7 @@ pub fn damage(random: &mut Random, pool: &mut [u8], table: &mut [u32], capacitie
         17 => mark_blank(random, &mut table[at..], size),
         18 => point_blank(random, &mut table[..at]),
         19 => shorten(random, &mut table[..at], block),
+        20 => redate(random, &mut table[..at]),
         _ => swap_cells(random, pool, &mut table[at..], capacities),
     }
 }
@@ -86,6 +87,17 @@ fn shorten(random: &mut Random, words: &mut [u32], block: usize) {
         let less = *random.pick(&[0, 1, block as u32 - 1, any]);
         // Other damage may have made it too large for that.
         *length = length.checked_next_multiple_of(block as u32).map_or(0, |whole| whole.saturating_sub(less));
+    }
+}
+
+/// A slot gets any day: sound where it is in use.
+fn redate(random: &mut Random, words: &mut [u32]) {
+    let (versions, blocks) = (words[1] as usize, words[2] as usize);
+    let Some((words, _)) = numbers_of(random, words) else { return };
+    if versions > 0 {
+        let day = &mut words[4 + random.below(versions) * (3 + blocks) + 2];
+        let any = random.number() as u32;
+        *day = *random.pick(&[1, any, u32::MAX, day.wrapping_add(1), day.wrapping_sub(1)]);
     }
 }
 

@@ -2,7 +2,7 @@
 
 use crate::stores;
 use keeper::calls::{Before, List, Style};
-use keeper::inspect::inspect;
+use keeper::inspect::{days_never_fall, inspect};
 use keeper::{Course, Random};
 use terms::Capacities;
 
@@ -42,6 +42,7 @@ pub fn run_from_before(
         if n % look == 0 {
             let (pool, table) = course.buffers();
             inspect(pool, table, course.keeper());
+            days_never_fall(table);
         }
     }
     course

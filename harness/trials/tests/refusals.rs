@@ -115,6 +115,89 @@ fn backups(store: &dyn Calls) -> Vec<(u32, u32)> {
     cases
 }
 
+/// A backup with a day 10, 3, 4, 11, 12, 28, then 14 before 16.
+fn dated(store: &dyn Calls) -> Vec<(u32, u32)> {
+    let mut cases = Vec::new();
+    let mut one = Trial::new(store, Capacities::new(2, 2, 16, 2, 9));
+    let make = |one: &mut Trial, till, day, image: &[u8]| {
+        let before = (one.pool.clone(), one.table.clone());
+        let answer = store.backup_dated(&mut one.pool, &mut one.table, till, day, image);
+        let stays = answer[1] == 0 && before == (one.pool.clone(), one.table.clone());
+        assert!(answer[0] == 0 || stays, "altered though refused with {}", answer[0]);
+        answer[0]
+    };
+    let (large, many) = (letters("abcdefgh"), letters("ABCDEFGHIJKLMNOP"));
+    one.table[TILL] = 65_533;
+    cases.push((make(&mut one, 0, 7, &letters("A")), 0));
+    // A day before the newest's, also where there is no record for the second segment.
+    for image in [letters("B"), large.clone(), many.clone()] {
+        cases.push((make(&mut one, 0, 6, &image), 28));
+        cases.push((make(&mut one, 2, 6, &image), 3));
+    }
+    for image in [&[][..], &[1; 1_025]] {
+        cases.extend([(make(&mut one, 0, 6, image), 4), (make(&mut one, 0, 7, image), 4)]);
+        cases.extend([(make(&mut one, 2, 6, image), 3), (make(&mut one, u32::MAX, 7, image), 3)]);
+    }
+    cases.push((make(&mut one, 0, 7, &many), 14));
+    cases.push((make(&mut one, 0, 8, &letters("ABCDEFGHIJ")), 14));
+    cases.push((make(&mut one, 0, 8, &letters("B")), 0));
+    for day in [0, 7, 8, u32::MAX] {
+        cases.extend([(make(&mut one, 0, day, &large), 11), (make(&mut one, 0, day, &[]), 4)]);
+    }
+    cases.push((store.retire(&mut one.pool, &mut one.table, 0, 65_534)[0], 0));
+    for day in [0, 7, 8, u32::MAX] {
+        cases.extend([(make(&mut one, 0, day, &large), 12), (make(&mut one, 0, day, &[]), 4)]);
+    }
+    cases.extend(dated_without_room(store, make));
+    one.pool[64 * 8] = 1;
+    for (till, day, image) in [(0, 6, &large[..]), (0, 9, &large), (2, 6, &large), (2, 9, &[]), (0, 9, &[])] {
+        cases.push((make(&mut one, till, day, image), 10));
+    }
+    cases
+}
+
+/// The same where a run is lacking: a day that is not too early gets 16.
+fn dated_without_room(store: &dyn Calls, make: impl Fn(&mut Trial, u32, u32, &[u8]) -> u32) -> Vec<(u32, u32)> {
+    let mut one = Trial::new(store, Capacities::new(2, 4, 16, 4, 9));
+    let large = letters("abcdefgh");
+    vec![
+        (make(&mut one, 0, 7, &letters("ABCDEFGH")), 0),
+        (make(&mut one, 0, 7, &large), 16),
+        (make(&mut one, 0, 8, &large), 16),
+        (make(&mut one, 0, 6, &large), 28),
+        (make(&mut one, 1, 6, &large), 16),
+        (make(&mut one, 1, 0, &letters("a")), 0),
+    ]
+}
+
+/// Lookup by day 10, 3, 29.
+fn days(store: &dyn Calls) -> Vec<(u32, u32)> {
+    let mut one = Trial::new(store, Capacities::new(2, 4, 16, 8, 32));
+    let on = |one: &Trial, till, day| {
+        let [refusal, version] = store.version_on(&one.pool, &one.table, till, day);
+        assert_eq!(refusal == 0, version != 0, "a version and a refusal, or neither");
+        refusal
+    };
+    let mut cases = vec![(on(&one, 0, u32::MAX), 29), (on(&one, 2, u32::MAX), 3), (on(&one, u32::MAX, 0), 3)];
+    assert_eq!(one.file_on(5, "A"), [0, 1]);
+    cases.extend([
+        (on(&one, 0, 4), 29),
+        (on(&one, 0, 5), 0),
+        (on(&one, 1, 5), 29),
+        (on(&one, 2, 5), 3),
+        (on(&one, 2, 4), 3),
+    ]);
+    one.table[TILL + 4 + 19 + 2] = 1;
+    for (till, day) in [(0, 5), (0, 4), (1, 5), (2, 5), (2, 4)] {
+        cases.push((on(&one, till, day), 10));
+    }
+    cases.extend([
+        (store.version_on(&[], &[], 0, 0)[0], 10),
+        (store.version_on(&one.pool, &one.table[..7], 9, 0)[0], 10),
+    ]);
+    cases
+}
+
 /// Restore 10, 3, 17 or 18, 5; retire 10, 3, 17 or 18; listing 10, 3; tally 10.
 fn others(store: &dyn Calls) -> Vec<(u32, u32)> {
     let mut one = Trial::of_page(store, 32);
@@ -365,6 +448,8 @@ fn every_number() {
     met.extend(numbers(offers));
     met.extend(numbers(messages));
     met.extend(numbers(closings));
+    met.extend(numbers(dated));
+    met.extend(numbers(days));
     met.extend(numbers(turns));
     let all: BTreeSet<u32> = Refusal::ALL.iter().map(|refusal| refusal.number()).chain([0]).collect();
     assert_eq!(met, all);

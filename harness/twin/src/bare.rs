@@ -28,6 +28,10 @@ impl Calls for Twin {
         numbers(crate::backup(pool, table, till, image))
     }
 
+    fn backup_dated(&self, pool: &mut [u8], table: &mut [u32], till: u32, day: u32, image: &[u8]) -> [u32; 2] {
+        numbers(crate::backup_dated(pool, table, till, day, image))
+    }
+
     fn backup_all(&self, pool: &mut [u8], table: &mut [u32], closing: Closing) -> [u32; CLOSING_NUMBERS] {
         numbers(crate::backup_all(pool, table, closing))
     }
@@ -42,6 +46,10 @@ impl Calls for Twin {
 
     fn listing(&self, pool: &[u8], table: &[u32], till: u32) -> [u32; 4] {
         numbers(crate::listing(pool, table, till))
+    }
+
+    fn version_on(&self, pool: &[u8], table: &[u32], till: u32, day: u32) -> [u32; 2] {
+        numbers(crate::version_on(pool, table, till, day))
     }
 
     fn tally(&self, pool: &[u8], table: &[u32]) -> [u32; 4] {

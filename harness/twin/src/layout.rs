@@ -114,7 +114,11 @@ impl<'a> TillWords<'a> {
 
     /// The numbers held, rising.
     pub fn numbers(&self) -> impl Iterator<Item = u32> + '_ {
-        (0..self.held()).map(|slot| self.slot(slot)[0])
+        (0..self.held()).map(|slot| self.number(slot))
+    }
+
+    pub fn number(&self, slot: usize) -> u32 {
+        self.slot(slot)[0]
     }
 
     /// The slot of a held version; or refusal 17 for a number that is 0 or above the last given, and 18 for one that
@@ -132,6 +136,16 @@ impl<'a> TillWords<'a> {
 
     pub fn length(&self, slot: usize) -> usize {
         self.slot(slot)[1] as usize
+    }
+
+    /// The day of a held version.
+    pub fn day(&self, slot: usize) -> u32 {
+        self.slot(slot)[2]
+    }
+
+    /// The day of the newest held version, or 0 if none is held.
+    pub fn newest_day(&self) -> u32 {
+        self.held().checked_sub(1).map_or(0, |newest| self.day(newest))
     }
 
     /// The pointer word of one block.

@@ -3,6 +3,7 @@
 
 mod bare;
 mod closing;
+mod dated;
 mod era;
 mod layout;
 mod line;
@@ -20,6 +21,7 @@ mod turn;
 
 pub use bare::{earlier, Twin};
 pub use closing::backup_all;
+pub use dated::{backup_dated, version_on};
 pub use era::Era;
 use layout::{Layout, Place, Pointer, Record, HEADER, SLOT_HEAD, TILL_HEAD};
 pub use line::take_turn;
@@ -78,24 +80,32 @@ pub fn backup(pool: &mut [u8], table: &mut [u32], till: u32, image: &[u8]) -> Re
 
 /// The same by the rule of an era.
 pub fn backup_by(era: Era, pool: &mut [u8], table: &mut [u32], till: u32, image: &[u8]) -> Result<u32, Refusal> {
-    backup_in(&mut sound::check(pool, table)?, era, pool, table, till, image)
+    backup_in(&mut sound::check(pool, table)?, pool, table, till, New { era, ..New::now(image) })
 }
 
-/// The same in a store that was found sound. What was found then goes for the store that is left.
-fn backup_in(
-    found: &mut Found,
+/// An image that is to be filed.
+struct New<'a> {
     era: Era,
-    pool: &mut [u8],
-    table: &mut [u32],
-    till: u32,
-    image: &[u8],
-) -> Result<u32, Refusal> {
+    /// None takes the day of the till's newest held version, or 0 if none is held.
+    day: Option<u32>,
+    image: &'a [u8],
+}
+
+impl New<'_> {
+    /// By the rule of now, without a day.
+    fn now(image: &[u8]) -> New<'_> {
+        New { era: Era::WithBlanks, day: None, image }
+    }
+}
+
+/// A backup in a store that was found sound. What was found then goes for the store that is left.
+fn backup_in(found: &mut Found, pool: &mut [u8], table: &mut [u32], till: u32, new: New) -> Result<u32, Refusal> {
     let till = found.layout.till(till)?;
-    if image.is_empty() || image.len() > found.layout.bytes * found.layout.blocks {
+    if new.image.is_empty() || new.image.len() > found.layout.bytes * found.layout.blocks {
         return Err(Refusal::ImageLength);
     }
     room_in(&found.layout, table, till)?;
-    file(found, era, pool, table, till, image)
+    file(found, pool, table, till, new)
 }
 
 /// Whether a till can take one more version.
@@ -113,13 +123,17 @@ fn room_in(layout: &Layout, table: &[u32], till: usize) -> Result<(), Refusal> {
 /// Files an image that has a length, for a till that has room.
 fn file(
     Found { layout, occupied }: &mut Found,
-    era: Era,
     pool: &mut [u8],
     table: &mut [u32],
     till: usize,
-    image: &[u8],
+    New { era, day, image }: New,
 ) -> Result<u32, Refusal> {
-    let (last, held) = (layout.till_of(table, till).last(), layout.till_of(table, till).held());
+    let old = layout.till_of(table, till);
+    let (last, held, newest_day) = (old.last(), old.held(), old.newest_day());
+    let day = day.unwrap_or(newest_day);
+    if day < newest_day {
+        return Err(Refusal::EarlierDay);
+    }
     let mut cells = layout.cells_of_mut(pool);
     let (words, mut records) = layout.parts(table);
     let bytes = place::fill_up(image, layout);
@@ -138,7 +152,7 @@ fn file(
         let let_go = turn::turn(&mut previous[SLOT_HEAD..][..used], era, image, cells.read(), records.read());
         sweep::let_go(let_go, &mut cells, &mut records, occupied, layout.percent);
     }
-    slot[..2].copy_from_slice(&[last + 1, image.len() as u32]);
+    slot[..SLOT_HEAD].copy_from_slice(&[last + 1, image.len() as u32, day]);
     slot[SLOT_HEAD..][..blocks].copy_from_slice(&pointers[..blocks]);
     words[layout.till_at(till)..][..2].copy_from_slice(&[last + 1, held as u32 + 1]);
     Ok(last + 1)

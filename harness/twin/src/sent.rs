@@ -3,7 +3,7 @@
 use crate::layout::{ones, Layout, Record};
 use crate::rows::{is_blank, Blocks, Records};
 use crate::sha1::fingerprint_of;
-use crate::{file, room_in, sound, Era};
+use crate::{file, room_in, sound, New};
 use std::borrow::Cow;
 use std::collections::HashMap;
 use terms::{Fingerprint, Message, Refusal, FINGERPRINT};
@@ -32,7 +32,7 @@ pub fn backup_sent(pool: &mut [u8], table: &mut [u32], till: u32, message: Messa
     }
     room_in(&found.layout, table, till)?;
     let image = assembled(message, &Kept::of(&found.layout, pool, table))?;
-    file(&mut found, Era::WithBlanks, pool, table, till, &image)
+    file(&mut found, pool, table, till, New::now(&image))
 }
 
 /// Whether a message has a length that an image can have, and lists that fit it.

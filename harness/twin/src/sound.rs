@@ -100,7 +100,8 @@ fn till(words: &[u32], layout: &Layout, owed: &mut Owed) -> Option<()> {
 /// One version against the pointers of the next newer one; its own pointers if it is sound.
 fn version<'a>(slot: &'a [u32], newer: &[u32], owed: &mut Owed, bytes: usize) -> Option<&'a [u32]> {
     let (head, words) = slot.split_first_chunk::<SLOT_HEAD>()?;
-    let [_, length, 0] = *head else { return None };
+    // Any day is sound.
+    let [_, length, _] = *head;
     let blocks = (length as usize).div_ceil(bytes);
     holds((1..=words.len()).contains(&blocks))?;
     let (pointers, unused) = words.split_at(blocks);

@@ -3,7 +3,7 @@
 use keeper::calls::{Before, List, Style};
 use keeper::closings::Shop;
 use keeper::events::Events;
-use keeper::inspect::inspect;
+use keeper::inspect::{days_never_fall, inspect};
 use keeper::{Call, Course, Random};
 use terms::{Capacities, BLOCK_BYTES, SEGMENT_BLOCKS};
 use twin::{earlier, Twin};
@@ -22,6 +22,7 @@ fn history_from_before(seed: u64, capacities: Capacities, style: Style, calls: u
         course.call(&before.made(&mut random, n, calls, call));
         if n % 50 == 0 {
             inspect(course.buffers().0, course.buffers().1, course.keeper());
+            days_never_fall(course.buffers().1);
         }
     }
     course.events

@@ -42,6 +42,15 @@ impl Calls for Proved {
         [answer.refusal, answer.version]
     }
 
+    fn backup_dated(&self, pool: &mut [u8], table: &mut [u32], till: u32, day: u32, image: &[u8]) -> [u32; 2] {
+        let (bytes, words) = (pool.len(), table.len());
+        let (pool, table) = (pool.as_mut_ptr(), table.as_mut_ptr());
+        // SAFETY: all three are slices, the first two lent for writing to this call alone.
+        let answer =
+            unsafe { raw::lurdempos_backup_dated(pool, bytes, table, words, till, day, image.as_ptr(), image.len()) };
+        [answer.refusal, answer.version]
+    }
+
     fn backup_all(&self, pool: &mut [u8], table: &mut [u32], closing: Closing) -> [u32; CLOSING_NUMBERS] {
         let Closing { tills, lengths, images } = closing;
         let (bytes, words) = (pool.len(), table.len());
@@ -81,6 +90,13 @@ impl Calls for Proved {
         // SAFETY: both parts are slices, lent for reading.
         let answer = unsafe { raw::lurdempos_listing(pool.as_ptr(), pool.len(), table.as_ptr(), table.len(), till) };
         [answer.refusal, answer.oldest, answer.newest, answer.last]
+    }
+
+    fn version_on(&self, pool: &[u8], table: &[u32], till: u32, day: u32) -> [u32; 2] {
+        let (bytes, words) = (pool.len(), table.len());
+        // SAFETY: both parts are slices, lent for reading.
+        let answer = unsafe { raw::lurdempos_version_on(pool.as_ptr(), bytes, table.as_ptr(), words, till, day) };
+        [answer.refusal, answer.version]
     }
 
     fn tally(&self, pool: &[u8], table: &[u32]) -> [u32; 4] {

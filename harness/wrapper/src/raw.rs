@@ -59,6 +59,14 @@ pub struct ListingAnswer {
     pub last: u32,
 }
 
+/// Of a lookup by day.
+#[repr(C)]
+#[derive(Clone, Copy, Debug, PartialEq, Eq)]
+pub struct VersionOnAnswer {
+    pub refusal: u32,
+    pub version: u32,
+}
+
 /// Of a tally.
 #[repr(C)]
 #[derive(Clone, Copy, Debug, PartialEq, Eq)]
@@ -166,6 +174,17 @@ extern "C" {
         image_len: usize,
     ) -> BackupAnswer;
 
+    pub fn lurdempos_backup_dated(
+        pool: *mut u8,
+        pool_len: usize,
+        table: *mut u32,
+        table_len: usize,
+        till: u32,
+        day: u32,
+        image: *const u8,
+        image_len: usize,
+    ) -> BackupAnswer;
+
     pub fn lurdempos_backup_all(
         pool: *mut u8,
         pool_len: usize,
@@ -206,6 +225,15 @@ extern "C" {
         table_len: usize,
         till: u32,
     ) -> ListingAnswer;
+
+    pub fn lurdempos_version_on(
+        pool: *const u8,
+        pool_len: usize,
+        table: *const u32,
+        table_len: usize,
+        till: u32,
+        day: u32,
+    ) -> VersionOnAnswer;
 
     pub fn lurdempos_tally(pool: *const u8, pool_len: usize, table: *const u32, table_len: usize) -> TallyAnswer;
 

@@ -52,9 +52,16 @@ impl Store {
         Capacities::of_table(&self.table).expect("the store is sound")
     }
 
-    /// Files an image as the till's next version and answers its number.
+    /// Files an image as the till's next version and answers its number. Its day is that of the till's newest held
+    /// version, or 0 if none is held.
     pub fn backup(&mut self, till: u32, image: &[u8]) -> Result<u32, Refusal> {
         let [refusal, version] = Proved.backup(&mut self.pool, &mut self.table, till, image);
+        accepted(refusal).map(|()| version)
+    }
+
+    /// The same with a day, which must not be before that of the till's newest held version.
+    pub fn backup_dated(&mut self, till: u32, day: u32, image: &[u8]) -> Result<u32, Refusal> {
+        let [refusal, version] = Proved.backup_dated(&mut self.pool, &mut self.table, till, day, image);
         accepted(refusal).map(|()| version)
     }
 
@@ -120,6 +127,12 @@ impl Store {
     pub fn listing(&self, till: u32) -> Result<Listing, Refusal> {
         let [refusal, oldest, newest, last] = Proved.listing(&self.pool, &self.table, till);
         accepted(refusal).map(|()| Listing { oldest, newest, last })
+    }
+
+    /// The newest held version of a till that is not after a day.
+    pub fn version_on(&self, till: u32, day: u32) -> Result<u32, Refusal> {
+        let [refusal, version] = Proved.version_on(&self.pool, &self.table, till, day);
+        accepted(refusal).map(|()| version)
     }
 
     /// Occupied cells, records in use, sum of all counts.

@@ -1,43 +1,30 @@
 use native.Mathlib.Omega.{arith}
-use mathlib.Core.Path.{_≡_, sym}
 use denote.Ref.{now}
 use Rattle.laws.proofs.Stores.{header}
 use Rattle.accept.proofs.Judging.{no-till, no-bytes, many-bytes, judged, judged-so}
-use borrow.Author.Needs.{needs}
 use Rattle.accept.proofs.backup_refusal.Statement.{statement}
 use Rattle.accept.proofs.backup_refusal.Tie as tie
-use Rattle.accept.proofs.backup_refusal.Reads as reads
-use Rattle.accept.proofs.backup_refusal.Lts as lts
-use Rattle.accept.proofs.most_bytes.Reads as most-bytes-reads
-use Rattle.accept.proofs.till_refusal.Reads as till-refusal-reads
 
--- src/lib.rt:37:8
 shared-slice-read-if1 : tie.Need-shared-slice-read-if1
 shared-slice-read-if1 c = omega (arith, header (c .before .before .before .before .pre) .eight)
 
--- src/lib.rt:38:9
 returns : tie.Need-returns
-returns c = judged-so (c .before .before .before .before .before .pre) (c .before .before .before .before .before .args .till) (now (c .before .before .before .before .before .args .image)) 3 (λ e. omega (arith, e)) (no-till (c .before .before .before .before .before .pre) (c .before .before .before .before .before .args .till) (now (c .before .before .before .before .before .args .image)) (c .if1 .taken))
+returns c = judged-so (c .before .before .before .before .before .pre) (c .before .before .before .before .before .args .till) (c .before .before .before .before .before .args .day) (now (c .before .before .before .before .before .args .image)) 3 (λ e. omega (arith, e)) (no-till (c .before .before .before .before .before .pre) (c .before .before .before .before .before .args .till) (c .before .before .before .before .before .args .day) (now (c .before .before .before .before .before .args .image)) (c .if1 .taken))
 
--- src/lib.rt:42:9
 returns-2 : tie.Need-returns-2
-returns-2 c = judged-so (c .before .before .before .before .before .before .pre) (c .before .before .before .before .before .before .args .till) (now (c .before .before .before .before .before .before .args .image)) 4 (λ e. omega (arith, e)) (no-bytes (c .before .before .before .before .before .before .pre) (c .before .before .before .before .before .before .args .till) (now (c .before .before .before .before .before .before .args .image)) (omega (arith, c .before .if1 .left)) (c .if2 .taken))
+returns-2 c = judged-so (c .before .before .before .before .before .before .pre) (c .before .before .before .before .before .before .args .till) (c .before .before .before .before .before .before .args .day) (now (c .before .before .before .before .before .before .args .image)) 4 (λ e. omega (arith, e)) (no-bytes (c .before .before .before .before .before .before .pre) (c .before .before .before .before .before .before .args .till) (c .before .before .before .before .before .before .args .day) (now (c .before .before .before .before .before .before .args .image)) (omega (arith, c .before .if1 .left)) (c .if2 .taken))
 
--- src/lib.rt:44:16
 most-bytes-requires : tie.Need-most-bytes-requires
 most-bytes-requires c κs = header (c .before .before .before .before .before .before .pre)
 
--- src/lib.rt:45:9
 returns-3 : tie.Need-returns-3
-returns-3 c = judged-so (c .before .before .before .before .before .before .before .before .pre) (c .before .before .before .before .before .before .before .before .args .till) (now (c .before .before .before .before .before .before .before .before .args .image)) 4 (λ e. omega (arith, e)) (many-bytes (c .before .before .before .before .before .before .before .before .pre) (c .before .before .before .before .before .before .before .before .args .till) (now (c .before .before .before .before .before .before .before .before .args .image)) (omega (arith, c .before .before .before .if1 .left)) (c .before .before .if2 .left) (omega (arith, c .before .most-bytes .ensures, c .if3 .taken)))
+returns-3 c = judged-so (c .before .before .before .before .before .before .before .before .pre) (c .before .before .before .before .before .before .before .before .args .till) (c .before .before .before .before .before .before .before .before .args .day) (now (c .before .before .before .before .before .before .before .before .args .image)) 4 (λ e. omega (arith, e)) (many-bytes (c .before .before .before .before .before .before .before .before .pre) (c .before .before .before .before .before .before .before .before .args .till) (c .before .before .before .before .before .before .before .before .args .day) (now (c .before .before .before .before .before .before .before .before .args .image)) (omega (arith, c .before .before .before .if1 .left)) (c .before .before .if2 .left) (omega (arith, c .before .most-bytes .ensures, c .if3 .taken)))
 
--- src/lib.rt:47:5
-till-refusal-requires : tie.Need-till-refusal-requires
-till-refusal-requires c κs = (c .before .before .before .before .before .before .before .before .pre, omega (arith, c .before .before .before .if1 .left))
+dated-refusal-requires : tie.Need-dated-refusal-requires
+dated-refusal-requires c κs = (c .before .before .before .before .before .before .before .before .pre, omega (arith, c .before .before .before .if1 .left))
 
--- src/lib.rt:33:1
 returns-4 : tie.Need-returns-4
-returns-4 c = judged (c .before .before .before .before .before .before .before .before .before .pre) (c .before .before .before .before .before .before .before .before .before .args .till) (omega (arith, c .before .before .before .before .if1 .left)) (now (c .before .before .before .before .before .before .before .before .before .args .image)) (omega (arith, c .before .before .before .if2 .left)) (omega (arith, c .before .before .most-bytes .ensures, c .before .if3 .left)) _ (c .till-refusal .ensures)
+returns-4 c = judged (c .before .before .before .before .before .before .before .before .before .pre) (c .before .before .before .before .before .before .before .before .before .args .till) (omega (arith, c .before .before .before .before .if1 .left)) (c .before .before .before .before .before .before .before .before .before .args .day) (now (c .before .before .before .before .before .before .before .before .before .args .image)) (omega (arith, c .before .before .before .if2 .left)) (omega (arith, c .before .before .most-bytes .ensures, c .before .if3 .left)) _ (c .dated-refusal .ensures)
 
 pub backup-refusal-spec : {M : Type 1} → statement M
 backup-refusal-spec =
@@ -48,5 +35,5 @@ backup-refusal-spec =
     returns-2
     most-bytes-requires
     returns-3
-    till-refusal-requires
+    dated-refusal-requires
     returns-4)

@@ -3,6 +3,7 @@ use borrow.Author.Tests.{not-false}
 use Rattle.lists.proofs.Checkers.{is-not, refutes, proves, same-as}
 use Rattle.audit_counts.proofs.Counters.{zeros-fit}
 use Rattle.audit_counts.proofs.Counts.{counts-are}
+use Rattle.audit_tills.specs.Says.{tillsPointers}
 use borrow.Author.Needs.{needs}
 use Rattle.audit.proofs.counted_good.Statement.{statement}
 use Rattle.audit.proofs.counted_good.Tie as tie
@@ -36,7 +37,7 @@ returns-2 : tie.Need-returns-2
 returns-2 c =
     let a = c .before .before .before .before .before .before .before .before .before .args in
     let s = c .before .before .before .before .tills-say .ensures in
-    let t = counts-are (a .m .blocks) (a .tills .now) (a .records .now) 65536 _ (search needs) (search needs) refl (s .1 (not-false _ (c .before .before .if1 .left))) (c .records-counts .ensures) in
+    let t = counts-are (a .m .blocks) (tillsPointers (a .m .bytes) (a .versions) (a .blocks) (a .count) (a .tills .now)) (a .records .now) 65536 _ (search needs) (search needs) refl (s .1 (not-false _ (c .before .before .if1 .left))) (c .records-counts .ensures) in
     same-as (λ p. (proves (s .0) (c .before .before .if1 .left), p)) (λ p. p .1) t
 
 pub counted-good-spec : {M : Type 1} → statement M

@@ -3,8 +3,7 @@ use mathlib.Core.Bool.{Bool}
 use mathlib.Core.Path.{_≡_, refl, sym, _∙_}
 use mathlib.Core.List.{List}
 use Prim.Native.Nat.{ℕ, _+_, _-_, _≤_}
-use lib.ListN.{length, getD, take, drop}
-use lib.Seq.{length-take-le, getD-take}
+use lib.ListN.{length, take, drop}
 use denote.Ref.{now}
 use borrow.Author.Tests.{not-false}
 use Rattle.lists.specs.Tells.{Tells}
@@ -12,7 +11,7 @@ use Rattle.lists.proofs.Checkers.{clash, is-not, refutes, proves}
 use Rattle.lists.proofs.Answers.{tells-at}
 use Rattle.audit_words.specs.Words.{SlotFrame}
 use Rattle.audit_tails.proofs.Blocks.{first-slot, slot-fits}
-use Rattle.audit_tills.proofs.Slots.{shelf-records, slot-tallied, form-frame, frame-form}
+use Rattle.audit_tills.proofs.Slots.{shelf-records, form-frame, frame-form}
 use borrow.Author.Needs.{needs}
 use Rattle.audit_tills.proofs.slot_says.Statement.{statement}
 use Rattle.audit_tills.proofs.slot_says.Tie as tie
@@ -77,16 +76,12 @@ returns-3 : tie.Need-returns-3
 returns-3 c =
     let a = c .before .before .before .before .before .before .before .before .before .before .before .before .before .args in
     let f = proves (frame _ (a .blocks) (a .slots .now) (c .before .before .before .before .before .before .before .slot-frame .ensures)) (c .before .before .before .before .before .before .if1 .left) in
-    let g = proves (c .before .before .before .before .slot-points .ensures .0 _ (shelf-records _ (a .pool .now) (a .records .now))) (c .before .if2 .left) in
-    let row = take (3 + a .blocks) (a .slots .now) in
-    let l : length row ≡ 3 + a .blocks = length-take-le (3 + a .blocks) (a .slots .now) (here (c .before .before .before .before .before .before .before .before .before)) in
-    let n : getD row 0 0 ≡ getD (a .slots .now) 0 0 = getD-take (3 + a .blocks) (a .slots .now) 0 0 (omega arith) in (
+    let g = proves (c .before .before .before .before .slot-points .ensures .0 _ (shelf-records _ (a .pool .now) (a .records .now))) (c .before .if2 .left) in (
       record {
         holds = λ e. record { form = frame-form f (g .say); leading = g .lead; ends = sym (c .tail-zero .ensures) ∙ e };
         seen = λ s. c .tail-zero .ensures ∙ s .ends;
       },
-      λ e. c .before .before .before .before .slot-points .ensures .1 (not-false _ (c .before .if2 .left))
-          ∙ sym (slot-tallied _ (a .blocks) row _ (omega (arith, l)) (omega (arith, n, c .before .before .before .before .before .before .before .before .before .before .before .before .before .pre .5)) f (search needs) (search needs)),
+      λ e. c .before .before .before .before .slot-points .ensures .1 (not-false _ (c .before .if2 .left)),
     )
 
 pub slot-says-spec : {M : Type 1} → statement M

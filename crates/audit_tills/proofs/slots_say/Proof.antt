@@ -1,12 +1,10 @@
 use native.Mathlib.Omega.{arith}
 use borrow.Author.Needs.{needs}
 use mathlib.Core.Bool.{Bool}
-use mathlib.Core.Path.{_≡_, refl, ap, _∙_}
+use mathlib.Core.Path.{_≡_, refl}
 use mathlib.Core.List.{List}
 use Prim.Native.Nat.{ℕ, _+_, _*_, _-_, _≤_, _<_}
-use lib.ListN.{length, getD, take, drop, length-drop}
-use lib.Seq.{getD-drop}
-use native.Mathlib.Nat.{add-zero}
+use lib.ListN.{length, take, drop, length-drop}
 use denote.Ref.{now}
 use borrow.Author.Count.{below-none, below-more}
 use borrow.Author.Tests.{not-false}
@@ -19,8 +17,8 @@ use Rattle.model.specs.Table.{shelfIn}
 use Rattle.numbers.specs.Measures.{measuresOf}
 use Rattle.audit_counts.specs.Counters.{tallied}
 use Rattle.audit_pointers.proofs.Slots.{slot-inside}
-use Rattle.audit_tills.specs.Says.{SlotSays}
-use Rattle.audit_tills.proofs.Slots.{rest-fits, none-tallied, next-tallied, room-left}
+use Rattle.audit_tills.specs.Says.{pointerWords, slotsPointers, SlotSays}
+use Rattle.audit_tills.proofs.Slots.{rest-fits, slot-short, none-tallied, next-tallied, room-left}
 use Rattle.audit_tills.proofs.slots_say.Statement.{statement}
 use Rattle.audit_tills.proofs.slots_say.Tie as tie
 use Rattle.audit_tills.proofs.slots_say.Reads as reads
@@ -30,7 +28,7 @@ use Rattle.audit_tills.proofs.slot_says.Reads as slot-says-reads
 abbrev Inv-loop : tie.InvT-loop
 Inv-loop pool records slots blocks count counts₀ m i₀ counts i =
     (i ≤ count) × ((j : ℕ) → j < i → SlotSays (m .bytes) (shelfIn (measuresOf m) pool records) blocks (count - j) (drop (j * (3 + blocks)) slots))
-    × (length counts ≡ length counts₀) × (counts ≡ tallied (take (i * (3 + blocks)) slots) counts₀)
+    × (length counts ≡ length counts₀) × (counts ≡ tallied (slotsPointers (m .bytes) blocks i slots) counts₀)
 
 abbrev μ-loop : tie.MeasureT-loop
 μ-loop pool records slots blocks count counts₀ m i₀ counts i = count - i
@@ -44,12 +42,9 @@ rest bytes shelf b n at ws t = tells-at (SlotSays bytes shelf b n) (tail-all ws 
 rest-long : (i n b : ℕ) (ws : List ℕ) → i ≤ n → n * (3 + b) ≤ length ws → (n - i) * (3 + b) ≤ length (take (length ws - i * (3 + b)) (drop (i * (3 + b)) ws))
 rest-long i n b ws h g = rw (tail-all ws (i * (3 + b)), length-drop (i * (3 + b)) ws) (rest-fits i n b (length ws) h g)
 
-rest-first : (at : ℕ) (ws : List ℕ) → getD (take (length ws - at) (drop at ws)) 0 0 ≡ getD ws at 0
-rest-first at ws = ap (λ (r : List ℕ). getD r 0 0) (tail-all ws at) ∙ getD-drop at ws 0 0 ∙ ap (λ (m : ℕ). getD ws m 0) (add-zero at)
-
 -- src/lib.rt:75:5
 loop-holds : tie.Need-loop-holds Inv-loop μ-loop
-loop-holds c = (omega arith, below-none _, refl, none-tallied (3 + c .before .before .before .before .args .blocks) (c .before .before .before .before .args .slots .now) _)
+loop-holds c = (omega arith, below-none _, refl, none-tallied (pointerWords (c .before .before .before .before .args .m .bytes)) (3 + c .before .before .before .before .args .blocks) (c .before .before .before .before .args .slots .now) _)
 
 -- src/lib.rt:76:23
 add-at : tie.Need-add-at Inv-loop μ-loop
@@ -86,7 +81,7 @@ slot-says-requires c κs =
     let l = c .before .before .before .loop in
     let p = c .before .before .before .before .before .before .before .before .pre in
     let m : l .i * (3 + a .blocks) + (3 + a .blocks) ≤ a .count * (3 + a .blocks) = slot-inside (l .i) (a .count) (a .blocks) _ (search needs) (omega arith) in
-    (search needs, search needs, search needs, search needs, rest-long (l .i) (a .count) (a .blocks) (a .slots .now) (search needs) (p .3), rw (rest-first (l .i * (3 + a .blocks)) (a .slots .now)) (p .4 (l .i) (search needs)), room-left (l .i * (3 + a .blocks)) (a .blocks) (a .slots .now) _ _ (l .inv .3) (λ k. omega (arith, m, p .5 k)))
+    (search needs, search needs, search needs, search needs, rest-long (l .i) (a .count) (a .blocks) (a .slots .now) (search needs) (p .3), room-left (pointerWords (a .m .bytes)) (3 + a .blocks) (slot-short (a .m .bytes)) (l .i) (a .blocks) (a .slots .now) _ _ (l .inv .3) (λ k. omega (arith, m, p .4 k)))
 
 -- src/lib.rt:86:13
 same-length : tie.Need-same-length Inv-loop μ-loop
@@ -113,7 +108,7 @@ loop-again c =
       search needs,
       below-more _ _ (l .inv .1) (proves (rest _ _ (a .blocks) _ _ (a .slots .now) (e .0)) (c .if1 .left)),
       omega (arith, c .before .before .before .slot-says .kept, l .inv .2),
-      next-tallied (l .i) (3 + a .blocks) (a .slots .now) _ _ _ (l .inv .3) (rw (tail-all (a .slots .now) (l .i * (3 + a .blocks))) at (e .1 (not-false _ (c .if1 .left)))),
+      next-tallied (pointerWords (a .m .bytes)) (3 + a .blocks) (l .i) (a .slots .now) _ _ _ (l .inv .3) (rw (tail-all (a .slots .now) (l .i * (3 + a .blocks))) at (e .1 (not-false _ (c .if1 .left)))),
     )
 
 -- src/lib.rt:62:1

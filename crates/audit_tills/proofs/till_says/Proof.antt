@@ -13,8 +13,7 @@ use Rattle.lists.proofs.Answers.{tells-at, answer-no, answer-yes}
 use Rattle.lists.proofs.Slices.{tail-all}
 use Rattle.model.specs.State.{Shelf}
 use Rattle.audit_tills.specs.Says.{numbersIn, SlotSays}
-use Rattle.audit_tills.proofs.Numbers.{numbers-most}
-use Rattle.audit_tills.proofs.Slots.{used-fit, slots-fit, till-tallied}
+use Rattle.audit_tills.proofs.Slots.{used-fit, slots-fit}
 use borrow.Author.Needs.{needs}
 use Rattle.audit_tills.proofs.till_says.Statement.{statement}
 use Rattle.audit_tills.proofs.till_says.Tie as tie
@@ -111,8 +110,7 @@ slots-say-requires : tie.Need-slots-say-requires
 slots-say-requires c κs =
     let a = c .before .before .before .before .before .before .before .before .before .before .before .before .before .before .before .before .args in
     let p = c .before .before .before .before .before .before .before .before .before .before .before .before .before .before .before .before .pre in
-    let slots = take (length (a .till .now) - 4) (drop 4 (a .till .now)) in
-    (search needs, search needs, search needs, slots-fit (a .versions) (a .blocks) _ (a .till .now) (search needs) (p .3), λ i h. omega (arith, numbers-most (a .blocks) _ _ slots (answer-yes (c .before .before .before .numbers-rise .ensures) (c .before .before .if4 .left)) i h, c .before .before .before .before .before .before .before .before .if2 .left), λ k. omega (arith, used (c .before .before .before .before .before .before .before .before .before), p .3, p .4 k))
+    (search needs, search needs, search needs, slots-fit (a .versions) (a .blocks) _ (a .till .now) (search needs) (p .3), λ k. omega (arith, used (c .before .before .before .before .before .before .before .before .before), p .3, p .4 k))
 
 -- src/lib.rt:156:9
 same-length : tie.Need-same-length
@@ -171,7 +169,7 @@ returns-6 c =
         holds = λ t. record { few = search needs; most = search needs; rising = up; zeros = two; slots = proves (slots _ _ (a .blocks) _ row (e .0)) (c .before .before .if5 .left); rest = sym z ∙ t };
         seen = λ t. z ∙ t .rest;
       },
-      λ t. till-tallied row _ _ (getD row 1 0 * (3 + a .blocks)) (omega (arith, c .before .before .before .before .before .before .before .before .before .before .before .before .before .before .before .before .before .before .before .before .before .before .pre .3)) (search needs) (omega (arith, c .before .before .before .before .before .before .before .before .before .before .before .before .before .before .before .if1 .left, c .before .before .before .before .before .before .before .before .before .before .before .before .before .before .before .before .before .before .before .before .before .before .pre .1)) two (sym z ∙ t) (rw (tail-all row 4) at (e .1 (not-false _ (c .before .before .if5 .left)))),
+      λ t. rw (tail-all row 4) at (e .1 (not-false _ (c .before .before .if5 .left))),
     )
 
 pub till-says-spec : {M : Type 1} → statement M

@@ -1,11 +1,10 @@
 use native.Mathlib.Omega.{arith}
 use borrow.Author.Needs.{needs}
 use mathlib.Core.Bool.{Bool}
-use mathlib.Core.Path.{_≡_, refl, ap, _∙_}
+use mathlib.Core.Path.{_≡_, refl}
 use mathlib.Core.List.{List}
 use Prim.Native.Nat.{ℕ, _+_, _*_, _-_, _≤_, _<_}
 use lib.ListN.{length, take, drop}
-use lib.Seq.{take-all}
 use denote.Ref.{now}
 use borrow.Author.Count.{below-none, below-more}
 use borrow.Author.Tests.{not-false}
@@ -18,8 +17,8 @@ use Rattle.model.specs.Table.{shelfIn}
 use Rattle.numbers.specs.Measures.{measuresOf}
 use Rattle.audit_counts.specs.Counters.{tallied}
 use Rattle.audit_words.proofs.Sizes.{till-small}
-use Rattle.audit_tills.specs.Says.{TillSays}
-use Rattle.audit_tills.proofs.Slots.{till-fits, none-tallied, next-tallied, room-left}
+use Rattle.audit_tills.specs.Says.{tillPointers, tillsPointers, TillSays}
+use Rattle.audit_tills.proofs.Slots.{till-fits, till-short, none-tallied, next-tallied, room-left}
 use Rattle.audit_tills.proofs.tills_say.Statement.{statement}
 use Rattle.audit_tills.proofs.tills_say.Tie as tie
 use Rattle.audit_tills.proofs.tills_say.Reads as reads
@@ -29,7 +28,7 @@ use Rattle.audit_tills.proofs.till_says.Reads as till-says-reads
 abbrev Inv-loop : tie.InvT-loop
 Inv-loop pool records tills count versions blocks counts₀ m width t₀ counts t =
     (t ≤ count) × ((j : ℕ) → j < t → TillSays (m .bytes) (shelfIn (measuresOf m) pool records) versions blocks (take (tillWords versions blocks) (drop (j * tillWords versions blocks) tills)))
-    × (length counts ≡ length counts₀) × (counts ≡ tallied (take (t * tillWords versions blocks) tills) counts₀)
+    × (length counts ≡ length counts₀) × (counts ≡ tallied (tillsPointers (m .bytes) versions blocks t tills) counts₀)
 
 abbrev μ-loop : tie.MeasureT-loop
 μ-loop pool records tills count versions blocks counts₀ m width t₀ counts t = count - t
@@ -57,7 +56,7 @@ add-width-2 c = omega (arith, till-small (c .before .before .before .before .arg
 
 -- src/lib.rt:149:5
 loop-holds : tie.Need-loop-holds Inv-loop μ-loop
-loop-holds c = (omega arith, below-none _, refl, none-tallied (tillWords (c .before .before .before .before .args .versions) (c .before .before .before .before .args .blocks)) (c .before .before .before .before .args .tills .now) _)
+loop-holds c = (omega arith, below-none _, refl, none-tallied (tillPointers (c .before .before .before .before .args .m .bytes) (c .before .before .before .before .args .blocks)) (tillWords (c .before .before .before .before .args .versions) (c .before .before .before .before .args .blocks)) (c .before .before .before .before .args .tills .now) _)
 
 -- src/lib.rt:150:18
 mul-at : tie.Need-mul-at Inv-loop μ-loop
@@ -90,7 +89,7 @@ till-says-requires c κs =
     let l = c .before .before .before .loop in
     let w = tillWords (a .versions) (a .blocks) in
     let n = part-long (a .tills .now) (l .t * w) w (here (c .before .before)) in
-    (search needs, search needs, search needs, n, λ k. rw n (room-left (l .t * w) w (a .tills .now) _ _ (l .inv .3) (λ j. omega (arith, here (c .before .before), c .before .before .before .before .before .before .before .before .pre .5 j)) k))
+    (search needs, search needs, search needs, n, λ k. rw n (room-left (tillPointers (a .m .bytes) (a .blocks)) w (till-short (a .m .bytes) (a .blocks)) (l .t) w (a .tills .now) _ _ (l .inv .3) (λ j. omega (arith, here (c .before .before), c .before .before .before .before .before .before .before .before .pre .5 j)) k))
 
 -- src/lib.rt:160:13
 same-length : tie.Need-same-length Inv-loop μ-loop
@@ -118,7 +117,7 @@ loop-again c =
       search needs,
       below-more _ _ (l .inv .1) (proves (row _ _ (a .versions) (a .blocks) (l .t) (a .tills .now) (e .0)) (c .if1 .left)),
       omega (arith, c .before .before .before .till-says .kept, l .inv .2),
-      next-tallied (l .t) w (a .tills .now) _ _ _ (l .inv .3) (rw (part-is (a .tills .now) (l .t * w) w) at (e .1 (not-false _ (c .if1 .left)))),
+      next-tallied (tillPointers (a .m .bytes) (a .blocks)) w (l .t) (a .tills .now) _ _ _ (l .inv .3) (rw (part-is (a .tills .now) (l .t * w) w) at (e .1 (not-false _ (c .if1 .left)))),
     )
 
 -- src/lib.rt:135:1
@@ -131,7 +130,7 @@ returns-2 c =
     let l = c .before .loop in
     let a = c .before .before .before .before .before .before .args in
     let n : l .t ≡ a .count = omega arith in
-    (is-so (λ k h. l .inv .1 k (omega arith)), λ e. l .inv .3 ∙ ap (λ (ws : List ℕ). tallied ws (now (a .counts))) (ap (λ (m : ℕ). take (m * tillWords (a .versions) (a .blocks)) (a .tills .now)) n ∙ take-all (a .count * tillWords (a .versions) (a .blocks)) (a .tills .now) (omega (arith, c .before .before .before .before .before .before .pre .4))))
+    (is-so (λ k h. l .inv .1 k (omega arith)), λ e. rw n at (l .inv .3))
 
 pub tills-say-spec : {M : Type 1} → statement M
 tills-say-spec =

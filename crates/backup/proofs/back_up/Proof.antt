@@ -1,54 +1,37 @@
-use mathlib.Core.Path.{sym}
-use native.Mathlib.Omega.{arith}
+use denote.Ref.{now}
+use Rattle.backup.proofs.Answers.{undated}
 use borrow.Author.Needs.{needs}
 use Rattle.backup.proofs.back_up.Statement.{statement}
 use Rattle.backup.proofs.back_up.Tie as tie
 use Rattle.backup.proofs.back_up.Reads as reads
 use Rattle.backup.proofs.back_up.Lts as lts
-use Rattle.accept.proofs.backup_refusal.Reads as backup-refusal-reads
-use Rattle.backup.proofs.back_up_accepted.Reads as back-up-accepted-reads
+use Rattle.backup.proofs.back_up_dated.Reads as back-up-dated-reads
+use Rattle.tills.proofs.newest_day.Reads as newest-day-reads
 
--- src/lib.rt:127:9
-backup-refusal-requires : tie.Need-backup-refusal-requires
-backup-refusal-requires c κs = search needs
+-- src/lib.rt:203:9
+newest-day-requires : tie.Need-newest-day-requires
+newest-day-requires c κs = search needs
 
--- src/lib.rt:129:9
+-- src/lib.rt:204:5
+back-up-dated-requires : tie.Need-back-up-dated-requires
+back-up-dated-requires c κs = search needs
+
+-- src/lib.rt:199:1
 same-length : tie.Need-same-length
 same-length c = search needs
 
--- src/lib.rt:129:9
+-- src/lib.rt:199:1
 same-length-2 : tie.Need-same-length-2
 same-length-2 c = search needs
 
--- src/lib.rt:129:9
+-- src/lib.rt:199:1
 returns : tie.Need-returns
-returns c = sym (c .before .backup-refusal .ensures .refusal (c .if1 .taken))
-
--- src/lib.rt:134:5
-back-up-accepted-requires : tie.Need-back-up-accepted-requires
-back-up-accepted-requires c κs = (c .before .before .before .before .before .before .before .before .before .pre, c .before .before .before .backup-refusal .ensures .accepted (c .before .before .if1 .left))
-
--- src/lib.rt:123:1
-same-length-3 : tie.Need-same-length-3
-same-length-3 c = search needs
-
--- src/lib.rt:123:1
-same-length-4 : tie.Need-same-length-4
-same-length-4 c = search needs
-
--- src/lib.rt:123:1
-returns-2 : tie.Need-returns-2
-returns-2 c = search needs
+returns c =
+    let a = c .before .before .before .before .before .before .before .before .before .before .before .before .before in
+    let n = c .before .before .before .before .before .before .before .newest-day in
+    undated (a .pre) (a .args .till) (now (a .args .image)) (n .result) (n .ensures) _ (c .before .before .before .before .back-up-dated .ensures)
 
 pub back-up-spec : {M : Type 1} → statement M
 back-up-spec =
     tie.close
-    (tie.spec
-    backup-refusal-requires
-    same-length
-    same-length-2
-    returns
-    back-up-accepted-requires
-    same-length-3
-    same-length-4
-    returns-2)
+    (tie.spec newest-day-requires back-up-dated-requires same-length same-length-2 returns)

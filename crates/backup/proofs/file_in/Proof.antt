@@ -33,7 +33,7 @@ same-length c = search needs
 
 -- src/lib.rt:28:1
 returns : tie.Need-returns
-returns c = filed-on (c .before .before .before .before .before .before .before .args .at) (c .before .before .before .before .before .before .before .args .end) (c .before .before .before .before .before .before .before .args .b) (now (c .before .before .before .before .before .before .before .args .turned)) (c .before .before .before .before .before .before .before .args .bytes) (now (c .before .before .before .before .before .before .before .args .pointers)) (now (c .before .before .before .before .before .before .before .args .table)) _ (c .before .before .file-version .ensures)
+returns c = filed-on (c .before .before .before .before .before .before .before .args .at) (c .before .before .before .before .before .before .before .args .end) (c .before .before .before .before .before .before .before .args .b) (now (c .before .before .before .before .before .before .before .args .turned)) (c .before .before .before .before .before .before .before .args .bytes) (c .before .before .before .before .before .before .before .args .day) (now (c .before .before .before .before .before .before .before .args .pointers)) (now (c .before .before .before .before .before .before .before .args .table)) _ (c .before .before .file-version .ensures)
 
 pub file-in-spec : {M : Type 1} → statement M
 file-in-spec =

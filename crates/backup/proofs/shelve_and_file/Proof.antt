@@ -80,8 +80,8 @@ file-in-requires : tie.Need-file-in-requires
 file-in-requires c κs = file-ready (c .before .before .before .before .before .before .before .before .before .before .before .before .before .before .before .before .before .before .before .before .before .before .before .before .before .before .before .before .before .pre) (c .before .before .before .before .before .before .before .before .before .before .before .before .before .shelve-in .result) (c .before .before .before .before .before .before .before .before .before .before .before .before .before .shelve-in .last .1 .0) (c .before .before .before .before .before .before .before .before .before .before .before .before .before .shelve-in .last .1 .1 .0) (c .before .before .before .before .before .before .before .before .before .before .before .before .before .shelve-in .last .1 .1 .1 .1 .0) (c .before .before .before .before .before .before .before .before .before .before .before .before .before .shelve-in .last .1 .1 .1 .1 .1 .0) (c .before .before .before .before .before .before .before .before .before .before .before .before .before .shelve-in .ensures) (c .before .before .before .before .if1 .left) _ _ (c .before .before .before .before .before .before .before .before .before .before .before .before .before .before .before .before .before .before .before .till-words .ensures) (c .before .before .before .parts-for .ensures) (c .before .before .before .before .before .before .before .before .before .before .before .before .before .shelve-in .kept .1 .1 .0) (c .before .before .before .before .before .before .before .before .before .before .before .before .before .shelve-in .kept .1 .1 .1 .1 .1 .0)
 
 -- src/lib.rt:92:18
-add-t18 : tie.Need-add-t18
-add-t18 c = omega (arith, last-fits (c .before .before .before .before .before .before .before .before .before .before .before .before .before .before .before .before .before .before .before .before .before .before .before .before .before .before .before .before .before .before .before .before .before .pre))
+add-t19 : tie.Need-add-t19
+add-t19 c = omega (arith, last-fits (c .before .before .before .before .before .before .before .before .before .before .before .before .before .before .before .before .before .before .before .before .before .before .before .before .before .before .before .before .before .before .before .before .before .pre))
 
 -- src/lib.rt:65:1
 same-length-5 : tie.Need-same-length-5
@@ -123,7 +123,7 @@ shelve-and-file-spec =
     slice-reshare-prefix-file-in
     slice-aggregate-file-in
     file-in-requires
-    add-t18
+    add-t19
     same-length-5
     same-length-6
     same-length-7

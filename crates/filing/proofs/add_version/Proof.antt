@@ -82,7 +82,7 @@ same-length c = search needs
 
 -- src/lib.rt:67:1
 returns : tie.Need-returns
-returns c = version-added _ _ _ _ _ _ (c .before .before .before .before .before .before .before .before .before .before .before .before .pre .2) (c .before .before .before .before .before .before .put-slot .ensures) (c .before .before .set-two .ensures)
+returns c = version-added _ _ _ _ _ _ _ (c .before .before .before .before .before .before .before .before .before .before .before .before .pre .2) (c .before .before .before .before .before .before .put-slot .ensures) (c .before .before .set-two .ensures)
 
 pub add-version-spec : {M : Type 1} → statement M
 add-version-spec =

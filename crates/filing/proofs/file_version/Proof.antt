@@ -21,7 +21,7 @@ same-length c = search needs
 
 -- src/lib.rt:80:1
 returns : tie.Need-returns
-returns c = version-filed (c .before .before .before .before .before .before .before .before .before .before .before .args .b) (c .before .before .before .before .before .before .before .before .before .before .before .args .till .now) (c .before .before .before .before .before .before .turn-newest .last .0) _ (c .before .before .before .before .before .before .before .before .before .before .before .args .bytes) (c .before .before .before .before .before .before .before .before .before .before .before .args .turned .now) (c .before .before .before .before .before .before .before .before .before .before .before .args .pointers .now) (c .before .before .before .before .before .before .turn-newest .ensures .0) (c .before .before .add-version .ensures)
+returns c = version-filed (c .before .before .before .before .before .before .before .before .before .before .before .args .b) (c .before .before .before .before .before .before .before .before .before .before .before .args .till .now) (c .before .before .before .before .before .before .turn-newest .last .0) _ (c .before .before .before .before .before .before .before .before .before .before .before .args .bytes) (c .before .before .before .before .before .before .before .before .before .before .before .args .day) (c .before .before .before .before .before .before .before .before .before .before .before .args .turned .now) (c .before .before .before .before .before .before .before .before .before .before .before .args .pointers .now) (c .before .before .before .before .before .before .turn-newest .ensures .0) (c .before .before .add-version .ensures)
 
 pub file-version-spec : {M : Type 1} → statement M
 file-version-spec =

@@ -5,12 +5,12 @@ use Rattle.filing.proofs.put_slot.Statement.{statement}
 use Rattle.filing.proofs.put_slot.Tie as tie
 use Rattle.filing.proofs.put_slot.Reads as reads
 use Rattle.filing.proofs.put_slot.Lts as lts
-use Rattle.filing.proofs.set_two.Reads as set-two-reads
+use Rattle.filing.proofs.set_three.Reads as set-three-reads
 use Rattle.words.proofs.copy_in.Reads as copy-in-reads
 
 -- src/lib.rt:62:5
-set-two-requires : tie.Need-set-two-requires
-set-two-requires c κs = search needs
+set-three-requires : tie.Need-set-three-requires
+set-three-requires c κs = search needs
 
 -- src/lib.rt:63:30
 sub-copy-in : tie.Need-sub-copy-in
@@ -34,13 +34,13 @@ same-length c = search needs
 
 -- src/lib.rt:58:1
 returns : tie.Need-returns
-returns c = slot-put (c .before .before .before .before .before .before .before .before .before .before .args .slot .now) _ _ (c .before .before .before .before .before .before .before .before .before .before .args .pointers .now) (c .before .before .before .before .before .before .before .before .before .before .args .number) (c .before .before .before .before .before .before .before .before .before .before .args .bytes) (omega (arith, c .before .before .before .before .before .before .before .before .before .before .pre)) (c .before .before .before .before .before .before .set-two .ensures) (c .before .before .copy-in .ensures)
+returns c = slot-put (c .before .before .before .before .before .before .before .before .before .before .args .slot .now) _ _ (c .before .before .before .before .before .before .before .before .before .before .args .pointers .now) (c .before .before .before .before .before .before .before .before .before .before .args .number) (c .before .before .before .before .before .before .before .before .before .before .args .bytes) (c .before .before .before .before .before .before .before .before .before .before .args .day) (omega (arith, c .before .before .before .before .before .before .before .before .before .before .pre)) (c .before .before .before .before .before .before .set-three .ensures) (c .before .before .copy-in .ensures)
 
 pub put-slot-spec : {M : Type 1} → statement M
 put-slot-spec =
     tie.close
     (tie.spec
-    set-two-requires
+    set-three-requires
     sub-copy-in
     part-copy-in-start
     part-copy-in-end

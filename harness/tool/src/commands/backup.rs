@@ -7,10 +7,10 @@ use crate::json::Json;
 use crate::patience::Patience;
 use crate::reply::Reply;
 use crate::storefile::Change;
-use crate::syntax::{Argument, Command, Opt, Takes, DRY_RUN, FILE, TILL, WAIT};
+use crate::syntax::{Argument, Command, Opt, Takes, DAY, DRY_RUN, FILE, TILL, WAIT};
 use crate::target::Target;
 use crate::words::bytes;
-use crate::{image, Failure};
+use crate::{calendar, image, table, Failure};
 use lurdempos::{Refusal, Store, LONGEST_IMAGE};
 use std::path::Path;
 
@@ -22,12 +22,17 @@ pub static COMMAND: Command = Command {
     help: "
 TILL is the till's number, from 0. IMAGE is a file with the till's memory, or - for standard input.
 The reply tells the number of the new version.
+
+A version has a day, by which `restore --day` finds it. D is a number up to 4294967295, or a date as
+2026-03-31: the days since 1970-01-01. It must not be before the day of the till's newest version. Without
+--day the version takes that one's day, or 0, which is no day, if the till holds none.
 ",
     run,
 };
 
 /// The options of commands that keep an image.
-pub(super) static OPTIONS: [Opt; 5] = [
+pub(super) static OPTIONS: [Opt; 6] = [
+    Opt::with(DAY.name, DAY.value, "the version's day, a number or a date; else that of the till's newest version"),
     Opt::flag("--rotate", "retire the till's oldest version first if the till is full, in the same write"),
     Opt::flag("--unless-same", "keep no new version if the till's newest has the same bytes"),
     Opt::with("--bytes", "N", "keep the image only if it has exactly N bytes"),
@@ -39,6 +44,7 @@ pub(super) static OPTIONS: [Opt; 5] = [
 struct Outcome {
     /// Its version, or the newest if that has the same bytes.
     version: u32,
+    day: u32,
     kept: bool,
     /// The version that made room, with its bytes.
     retired: Option<(u32, u32)>,
@@ -48,6 +54,7 @@ struct Outcome {
 struct Asked<'a> {
     file: &'a Path,
     till: u32,
+    day: Option<u32>,
     image: &'a [u8],
     rotate: bool,
     unless_same: bool,
@@ -62,14 +69,14 @@ pub(super) fn keep(
     arguments: &Arguments,
     read: impl FnOnce(&Path) -> Result<Vec<u8>, Failure>,
 ) -> Result<Reply, Failure> {
-    let (file, till) = (arguments.store()?, arguments.number(1)?);
+    let (file, till, day) = (arguments.store()?, arguments.number(1)?, arguments.day()?);
     let patience = Patience::asked(arguments)?;
     let target = Target::existing(file)?;
     // Before the lock is taken: standard input may come slowly.
     let image = read(arguments.path(2)?)?;
     refuse_length(arguments, &image)?;
     let (rotate, unless_same) = (arguments.has("--rotate"), arguments.has("--unless-same"));
-    let asked = Asked { file, till, image: &image, rotate, unless_same };
+    let asked = Asked { file, till, day, image: &image, rotate, unless_same };
     if arguments.has("--dry-run") {
         let (outcome, cells) = tried(file, |store| asked.keep(store))?;
         return Ok(asked.reply(&outcome, Some(&cells)));
@@ -85,20 +92,31 @@ pub(super) fn keep(
 impl Asked<'_> {
     fn keep(&self, store: &mut Store) -> Result<Outcome, Failure> {
         if let Some(version) = self.same_version(store) {
-            return Ok(Outcome { version, kept: false, retired: None });
+            return Ok(self.outcome(store, version, false, None));
         }
-        match store.backup(self.till, self.image) {
-            Ok(version) => Ok(Outcome { version, kept: true, retired: None }),
+        match self.file(store) {
+            Ok(version) => Ok(self.outcome(store, version, true, None)),
             Err(Refusal::TillFull) if self.rotate => self.rotate(store),
             Err(refusal) => Err(self.refused(store, refusal)),
         }
     }
 
+    fn file(&self, store: &mut Store) -> Result<u32, Refusal> {
+        match self.day {
+            Some(day) => store.backup_dated(self.till, day, self.image),
+            None => store.backup(self.till, self.image),
+        }
+    }
+
+    fn outcome(&self, store: &Store, version: u32, kept: bool, retired: Option<(u32, u32)>) -> Outcome {
+        Outcome { version, day: table::day(store, self.till, version), kept, retired }
+    }
+
     fn rotate(&self, store: &mut Store) -> Result<Outcome, Failure> {
         let oldest = store.listing(self.till).map_err(|refusal| self.refused(store, refusal))?.oldest;
         let length = store.retire(self.till, oldest).map_err(|refusal| self.refused(store, refusal))?;
-        let version = store.backup(self.till, self.image).map_err(|refusal| self.refused(store, refusal))?;
-        Ok(Outcome { version, kept: true, retired: Some((oldest, length)) })
+        let version = self.file(store).map_err(|refusal| self.refused(store, refusal))?;
+        Ok(self.outcome(store, version, true, Some((oldest, length))))
     }
 
     /// The till's newest version, if it has the same bytes and that matters.
@@ -108,12 +126,13 @@ impl Asked<'_> {
     }
 
     fn refused(&self, store: &Store, refusal: Refusal) -> Failure {
-        Call { file: self.file, store, till: self.till, version: 0, image: self.image }.refused(refusal)
+        let day = self.day.unwrap_or(0);
+        Call { day, image: self.image, ..Call::of_till(self.file, store, self.till) }.refused(refusal)
     }
 
     /// In words and for programs; with cells if it was only tried.
     fn reply(&self, outcome: &Outcome, cells: Option<&Cells>) -> Reply {
-        let (till, version) = (self.till, outcome.version);
+        let (till, version, day) = (self.till, outcome.version, calendar::beside(outcome.day));
         let would = if cells.is_some() { "would be " } else { "" };
         let room = cells.map_or(String::new(), |cells| format!("; {cells}"));
         let mut text = String::new();
@@ -121,14 +140,16 @@ impl Asked<'_> {
             text.push_str(&format!("till {till}: version {version} {would}retired, {}\n", bytes(length as usize)));
         }
         text.push_str(&match outcome.kept {
-            true => format!("till {till}: version {version} {would}kept, {}{room}\n", bytes(self.image.len())),
-            false => format!("till {till}: the same as version {version}, nothing {would}kept{room}\n"),
+            true => format!("till {till}: version {version}{day} {would}kept, {}{room}\n", bytes(self.image.len())),
+            false => format!("till {till}: the same as version {version}{day}, nothing {would}kept{room}\n"),
         });
         let retired = outcome.retired.map(|(version, length)| image::fields(version, length as usize));
         let fields = Json::object([
             ("file", self.file.into()),
             ("till", till.into()),
             ("version", version.into()),
+            ("day", outcome.day.into()),
+            ("date", calendar::field(outcome.day)),
             ("bytes", self.image.len().into()),
             ("kept", outcome.kept.into()),
             ("retired", retired.unwrap_or(Json::Null)),

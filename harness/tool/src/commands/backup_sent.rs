@@ -23,7 +23,7 @@ pub static COMMAND: Command = Command {
 MESSAGE is a file with a till's second message, or - for standard input: the image's length in four bytes,
 lowest first; the fingerprints of all its segments; a byte for each segment, 1 if it follows, else 0; and the
 segments that follow, each in full. The others are taken from what the store has, and the image is kept as
-`backup` keeps one.
+`backup` keeps one without --day.
 
 There is no --rotate: with a version that goes, segments may go that `offer` has marked. Make room with
 `lurdempos retire` before the fingerprints are offered.

@@ -34,6 +34,9 @@ of a misspelt name.
 An image that is refused does not stop the others: these are kept. The reply tells what became of each, and
 the exit status is 1 if one was refused. Send that one again by itself.
 
+No day can be given: each version takes that of its till's newest one, or 0, which is no day, if the till
+holds none.
+
 There is no --rotate: a version that made room would be gone even if the image is then refused for another
 reason. Make room with `lurdempos retire FILE TILL --keep N` first.
 ",

@@ -15,8 +15,8 @@ pub static COMMAND: Command = Command {
     options: &[],
     about: "show in which bytes two versions differ",
     help: "
-VERSION and OTHER are numbers, or the word newest. Bytes are counted from 0. Exit status 0 means that both
-have the same bytes, 5 that they have not.
+VERSION and OTHER are numbers, or the word newest; `list` shows which day each has. Bytes are counted from 0.
+Exit status 0 means that both have the same bytes, 5 that they have not.
 ",
     run,
 };

@@ -7,23 +7,25 @@ use crate::names::shown;
 use crate::outlet::Outlet;
 use crate::reply::Reply;
 use crate::storefile::{self, Opened};
-use crate::syntax::{Argument, Command, Takes, FILE, FORCE, TILL, VERSION, WAIT};
+use crate::syntax::{Argument, Command, Takes, DAY, FILE, FORCE, TILL, VERSION, WAIT};
 use crate::words::bytes;
-use crate::Failure;
+use crate::{calendar, table, Failure};
 
 pub static COMMAND: Command = Command {
     name: "export",
     arguments: &[FILE, TILL, VERSION, Argument::needed("OUT", Takes::File)],
-    options: &[FORCE, WAIT],
+    options: &[DAY, FORCE, WAIT],
     about: "write a version as a stream, to move it to another box",
     help: "
-VERSION is a number, or the word newest. OUT is a file, or - for standard output. A file that exists is
-replaced as a whole; nobody ever sees half of it. The stream has the image's length and its blocks that
-are not all zero; `lurdempos import` reads it into any store, whatever that store's measures:
+VERSION is a number, or the word newest; --day stands in its place, as for `restore`. OUT is a file, or - for
+standard output. A file that exists is replaced as a whole; nobody ever sees half of it. The stream has the
+image's length and its blocks that are not all zero; `lurdempos import` reads it into any store, whatever that
+store's measures:
 
   lurdempos export a.lur 0 3 - | lurdempos import b.lur 5 -
 
-The bare image is what `restore` writes, and those of all versions `export-all`.
+The stream has no day; `import --day` gives the version one. The bare image is what `restore` writes, and those
+of all versions `export-all`.
 ",
     run,
 };
@@ -38,11 +40,15 @@ fn run(arguments: &Arguments) -> Result<Reply, Failure> {
     // It begins with the image's length.
     let length = written.first_chunk().map_or(0, |&first| u32::from_le_bytes(first));
     let (to, of, as_stream) = (shown(outlet.path), bytes(length as usize), bytes(written.len()));
-    let text = format!("till {till}: version {version} of {of} written to {to}, a stream of {as_stream}\n");
+    let day = table::day(&store, till, version);
+    let of_day = calendar::beside(day);
+    let text = format!("till {till}: version {version}{of_day} of {of} written to {to}, a stream of {as_stream}\n");
     let fields = Json::object([
         ("file", file.into()),
         ("till", till.into()),
         ("version", version.into()),
+        ("day", day.into()),
+        ("date", calendar::field(day)),
         ("output", outlet.path.into()),
         ("bytes", length.into()),
         ("stream_bytes", written.len().into()),

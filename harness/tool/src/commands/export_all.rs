@@ -8,8 +8,9 @@ use crate::names::shown;
 use crate::reply::Reply;
 use crate::storefile::{self, Opened};
 use crate::syntax::{Argument, Command, Takes, FILE};
+use crate::table::Version;
 use crate::words::{bytes, counted};
-use crate::{image, table, Failure};
+use crate::{calendar, image, table, Failure};
 use std::os::unix::fs::MetadataExt;
 
 pub static COMMAND: Command = Command {
@@ -34,17 +35,19 @@ fn run(arguments: &Arguments) -> Result<Reply, Failure> {
             let (number, image) = call.image_of(Named::Number(version.number))?;
             let name = image::file_name(till, number);
             folder.put(&name, &image)?;
-            written.push((till, number, name, image.len()));
+            written.push((till, version, name, image.len()));
         }
     }
     folder.finish()?;
     let sum = written.iter().map(|(.., length)| length).sum();
     let versions = counted(written.len() as u64, "version");
     let text = format!("{}: {versions} written to {}, {}\n", shown(file), shown(path), bytes(sum));
-    let one = |(till, version, name, length): &(u32, u32, String, usize)| {
+    let one = |(till, version, name, length): &(u32, Version, String, usize)| {
         Json::object([
             ("till", (*till).into()),
-            ("version", (*version).into()),
+            ("version", version.number.into()),
+            ("day", version.day.into()),
+            ("date", calendar::field(version.day)),
             ("bytes", (*length).into()),
             ("image", name.as_str().into()),
         ])

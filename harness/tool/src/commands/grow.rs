@@ -20,10 +20,10 @@ pub static COMMAND: Command = Command {
     options: &OPTIONS,
     about: "carry a store into a new, larger one",
     help: "
-Every version of OLD is backed up into NEW under its own number, the oldest first, and compared at the end.
-OLD is not altered; NEW must not exist yet, and gets the group and permissions of OLD. A capacity or setting
-that no option gives is OLD's; without any option the records and the cells are doubled, as far as a store
-can have them.
+Every version of OLD is backed up into NEW under its own number, the oldest first, with its day, and compared
+at the end. OLD is not altered; NEW must not exist yet, and gets the group and permissions of OLD. A capacity
+or setting that no option gives is OLD's; without any option the records and the cells are doubled, as far as a
+store can have them.
 ",
     run,
 };
@@ -41,10 +41,10 @@ fn run(arguments: &Arguments) -> Result<Reply, Failure> {
         new = numbered(new_path, new, till, version)?;
         let (_, image) = Call::of_till(old_path, old, till).image_of(Named::Number(version))?;
         if let Err(refusal) = new.backup(till, &image) {
-            return Err(Call { file: old_path, store: &new, till, version, image: &image }.refused(refusal));
+            return Err(Call { version, image: &image, ..Call::of_till(old_path, &new, till) }.refused(refusal));
         }
     }
-    new = last_numbers(new_path, old, new)?;
+    new = dated(new_path, old, last_numbers(new_path, old, new)?)?;
     compared(old, &new, &order)?;
     storefile::create(new_path, new, &patience, Some(opened.attributes()))?;
     let versions = counted(order.len() as u64, "version");
@@ -122,11 +122,26 @@ fn with_last(path: &Path, store: Store, till: u32, last: u32) -> Result<Store, F
     Store::from_parts(pool, table).map_err(|refusal| advice::unsound(refusal, path))
 }
 
-/// Both have the same numbers, and under each the same bytes.
+/// The store with the old one's days, of the same versions. They are set as they are: those of a sound store may fall
+/// from an older version to a newer one, and those of backups may not. The store itself judges the result.
+fn dated(path: &Path, old: &Store, new: Store) -> Result<Store, Failure> {
+    let (before, now) = (Layout { capacities: old.capacities() }, Layout { capacities: new.capacities() });
+    let (pool, mut table) = new.into_parts();
+    for till in 0..old.capacities().tills {
+        for slot in 0..table::held(old, till) as usize {
+            table[now.day(till as usize, slot)] = old.table()[before.day(till as usize, slot)];
+        }
+    }
+    Store::from_parts(pool, table).map_err(|refusal| advice::unsound(refusal, path))
+}
+
+/// Both have the same numbers, and under each the same bytes and day.
 fn compared(old: &Store, new: &Store, order: &[(u32, u32)]) -> Result<(), Failure> {
     let tills = 0..old.capacities().tills;
+    let day = |store: &Store, till, version| table::day(store, till, version);
     let same = tills.into_iter().all(|till| old.listing(till) == new.listing(till))
-        && order.iter().all(|&(till, version)| old.image(till, version) == new.image(till, version));
+        && order.iter().all(|&(till, version)| old.image(till, version) == new.image(till, version))
+        && order.iter().all(|&(till, version)| day(old, till, version) == day(new, till, version));
     if same {
         return Ok(());
     }

@@ -16,7 +16,7 @@ pub static COMMAND: Command = Command {
     help: "
 IN is a file with a stream that `lurdempos export` wrote, or - for standard input. The stream is read whole
 before anything is kept: one that is cut short or altered is refused. Its image is then kept as `backup`
-keeps one, under the till's next number.
+keeps one, under the till's next number. A stream has no day: --day gives the version one, as for `backup`.
 ",
     run,
 };

@@ -7,7 +7,7 @@ use crate::json::Json;
 use crate::reply::Reply;
 use crate::syntax::{Argument, Command, Takes, FILE};
 use crate::table::{self, Version};
-use crate::{numbers, storefile, Failure};
+use crate::{calendar, numbers, storefile, Failure};
 use lurdempos::{Listing, Store};
 use std::path::Path;
 
@@ -21,6 +21,9 @@ Of all tills, or of one. For each version, the oldest first: its number and byte
 which is the most versions that a restore goes through for a block; and how many of its blocks lie in
 the pool for it (direct), are borrowed from the next newer version held (indirect), are all zero (null),
 or all 255 (blank). Numbers of versions that were retired are left out; they are not given again.
+
+If a version of the till has a day, the last column shows it, with its date if that is in the years 2000 to
+2099, and - for versions without one.
 ",
     run,
 };
@@ -69,20 +72,31 @@ fn text(tills: &[Till]) -> String {
             _ if newest == last => text.push_str(&format!("till {number}: {held}\n")),
             _ => text.push_str(&format!("till {number}: {held}; the last was {last}\n")),
         }
+        let has_days = versions.iter().any(|version| version.day != 0);
         if !versions.is_empty() {
-            text.push_str("  version   bytes  longest chain  direct  indirect  null  blank\n");
+            let day = if has_days { "  day" } else { "" };
+            text.push_str(&format!("  version   bytes  longest chain  direct  indirect  null  blank{day}\n"));
         }
         for version in versions {
-            text.push_str(&line(version));
+            text.push_str(&line(version, has_days));
         }
     }
     text
 }
 
-fn line(version: &Version) -> String {
+fn line(version: &Version, has_days: bool) -> String {
     let Version { number, bytes, direct, indirect, null, blank, .. } = version;
-    let chain = version.chain();
-    format!("  {number:>7}  {bytes:>6}  {chain:>13}  {direct:>6}  {indirect:>8}  {null:>4}  {blank:>5}\n")
+    let (chain, day) = (version.chain(), if has_days { format!("  {}", day(version.day)) } else { String::new() });
+    format!("  {number:>7}  {bytes:>6}  {chain:>13}  {direct:>6}  {indirect:>8}  {null:>4}  {blank:>5}{day}\n")
+}
+
+/// A day in its column. Day 0 is that of versions without one.
+fn day(day: u32) -> String {
+    match (day, calendar::date(day)) {
+        (0, _) => "-".into(),
+        (day, Some(date)) => format!("{day} ({date})"),
+        (day, None) => day.to_string(),
+    }
 }
 
 fn fields(till: &Till) -> Json {
@@ -99,6 +113,8 @@ fn fields(till: &Till) -> Json {
 fn version_fields(version: &Version) -> Json {
     Json::object([
         ("version", version.number.into()),
+        ("day", version.day.into()),
+        ("date", calendar::field(version.day)),
         ("bytes", version.bytes.into()),
         ("chain", version.chain().into()),
         ("direct", version.direct.into()),

@@ -7,19 +7,24 @@ use crate::names::shown;
 use crate::outlet::Outlet;
 use crate::reply::Reply;
 use crate::storefile::{self, Opened};
-use crate::syntax::{Argument, Command, Takes, FILE, FORCE, TILL, VERSION, WAIT};
+use crate::syntax::{Argument, Command, Takes, DAY, FILE, FORCE, TILL, VERSION, WAIT};
 use crate::words::bytes;
-use crate::Failure;
+use crate::{calendar, table, Failure};
 
 pub static COMMAND: Command = Command {
     name: "restore",
     arguments: &[FILE, TILL, VERSION, Argument::needed("OUTPUT", Takes::File)],
-    options: &[FORCE, WAIT],
+    options: &[DAY, FORCE, WAIT],
     about: "write a version's image to a file",
     help: "
 VERSION is a number, or the word newest. OUTPUT is a file, or - for standard output. A file that exists is
 replaced as a whole; nobody ever sees half of it. The reply tells the image's bytes and the longest
 chain: the most versions that had to be gone through for a block.
+
+  lurdempos restore a.lur 0 --day 2026-03-31 evening.img
+
+writes what the till had on that day: the newest version that is not after it. D is a number up to
+4294967295, or a date: the days since 1970-01-01.
 ",
     run,
 };
@@ -35,11 +40,15 @@ fn run(arguments: &Arguments) -> Result<Reply, Failure> {
     let restored = restored.map_err(|refusal| Call { version, ..call }.refused(refusal))?;
     image.truncate(restored.length as usize);
     let (to, length, chain) = (shown(outlet.path), bytes(image.len()), restored.hops);
-    let text = format!("till {till}: version {version} restored to {to}, {length}, longest chain {chain}\n");
+    let day = table::day(&store, till, version);
+    let of_day = calendar::beside(day);
+    let text = format!("till {till}: version {version}{of_day} restored to {to}, {length}, longest chain {chain}\n");
     let fields = Json::object([
         ("file", file.into()),
         ("till", till.into()),
         ("version", version.into()),
+        ("day", day.into()),
+        ("date", calendar::field(day)),
         ("output", outlet.path.into()),
         ("bytes", restored.length.into()),
         ("chain", chain.into()),

@@ -9,7 +9,7 @@ use crate::reply::Reply;
 use crate::salvage::{Found, Verdict, Wreck};
 use crate::syntax::{Argument, Command, Takes, FILE};
 use crate::words::{bytes, counted};
-use crate::{image, ranges, storefile, Failure};
+use crate::{calendar, image, ranges, storefile, Failure};
 use std::collections::HashSet;
 use std::os::unix::fs::MetadataExt;
 use std::path::Path;
@@ -102,7 +102,8 @@ fn report(file: &Path, wreck: &Wreck, named: &[(String, &Found)]) -> String {
 }
 
 fn in_words(found: &Found) -> String {
-    let mut words = format!("{}, {}", bytes(found.image.len()), found.verdict.word());
+    let day = found.day.map(calendar::beside).unwrap_or_default();
+    let mut words = format!("{}{day}, {}", bytes(found.image.len()), found.verdict.word());
     if !found.named {
         words.push_str("; its number or length may be another");
     }
@@ -118,6 +119,8 @@ fn fields((name, found): &(String, &Found)) -> Json {
     Json::object([
         ("till", found.till.into()),
         ("version", found.number.map_or(Json::Null, Json::from)),
+        ("day", found.day.map_or(Json::Null, Json::from)),
+        ("date", found.day.map_or(Json::Null, calendar::field)),
         ("bytes", found.image.len().into()),
         ("verdict", found.verdict.word().into()),
         ("image", name.as_str().into()),

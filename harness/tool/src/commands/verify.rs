@@ -4,18 +4,19 @@ use crate::advice::Call;
 use crate::arguments::Arguments;
 use crate::json::Json;
 use crate::reply::Reply;
-use crate::syntax::{Argument, Command, Takes, FILE, TILL, VERSION};
+use crate::syntax::{Argument, Command, Takes, DAY, FILE, TILL, VERSION};
 use crate::words::bytes;
-use crate::{image, storefile, Failure};
+use crate::{calendar, image, storefile, table, Failure};
 
 pub static COMMAND: Command = Command {
     name: "verify",
     arguments: &[FILE, TILL, VERSION, Argument::needed("IMAGE", Takes::File)],
-    options: &[],
+    options: &[DAY],
     about: "compare a version with an image",
     help: "
-VERSION is a number, or the word newest. IMAGE is a file, or - for standard input. Exit status 0 means that
-both have the same bytes, 5 that they have not; the reply tells the first byte that differs.
+VERSION is a number, or the word newest; --day stands in its place, as for `restore`. IMAGE is a file, or -
+for standard input. Exit status 0 means that both have the same bytes, 5 that they have not; the reply tells
+the first byte that differs.
 ",
     run,
 };
@@ -28,11 +29,12 @@ fn run(arguments: &Arguments) -> Result<Reply, Failure> {
     let (version, kept) = Call::of_till(file, &store, till).image_of(version)?;
     let first = kept.iter().zip(&given).position(|(one, other)| one != other);
     let first = first.or((kept.len() != given.len()).then_some(kept.len().min(given.len())));
-    let path = image::name(path);
+    let (path, day) = (image::name(path), table::day(&store, till, version));
+    let of_day = calendar::beside(day);
     let text = match first {
-        None => format!("till {till}: version {version} and {path} are the same, {}\n", bytes(kept.len())),
+        None => format!("till {till}: version {version}{of_day} and {path} are the same, {}\n", bytes(kept.len())),
         Some(at) => format!(
-            "till {till}: version {version} with {} and {path} with {} differ, first at byte {at}\n",
+            "till {till}: version {version}{of_day} with {} and {path} with {} differ, first at byte {at}\n",
             bytes(kept.len()),
             image::length(&given)
         ),
@@ -41,6 +43,8 @@ fn run(arguments: &Arguments) -> Result<Reply, Failure> {
         ("file", file.into()),
         ("till", till.into()),
         ("version", version.into()),
+        ("day", day.into()),
+        ("date", calendar::field(day)),
         ("bytes", kept.len().into()),
         ("image_bytes", image::whole_length(&given).map_or(Json::Null, Json::from)),
         ("same", first.is_none().into()),

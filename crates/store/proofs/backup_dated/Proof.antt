@@ -1,0 +1,45 @@
+use Rattle.store.proofs.Refusals.{is-sound, dated-10}
+use borrow.Author.Needs.{needs}
+use Rattle.store.proofs.backup_dated.Statement.{statement}
+use Rattle.store.proofs.backup_dated.Tie as tie
+use Rattle.store.proofs.backup_dated.Reads as reads
+use Rattle.store.proofs.backup_dated.Lts as lts
+use Rattle.audit.proofs.sound.Reads as sound-reads
+use Rattle.backup.proofs.back_up_dated.Reads as back-up-dated-reads
+
+sound-requires : tie.Need-sound-requires
+sound-requires c κs = search needs
+
+same-length : tie.Need-same-length
+same-length c = search needs
+
+same-length-2 : tie.Need-same-length-2
+same-length-2 c = search needs
+
+returns : tie.Need-returns
+returns c = dated-10 _ _ _ (c .before .sound .ensures) (c .if1 .taken) _ _ _
+
+back-up-dated-requires : tie.Need-back-up-dated-requires
+back-up-dated-requires c κs = is-sound _ _ _ (c .before .before .before .sound .ensures) (c .before .before .if1 .left)
+
+same-length-3 : tie.Need-same-length-3
+same-length-3 c = search needs
+
+same-length-4 : tie.Need-same-length-4
+same-length-4 c = search needs
+
+returns-2 : tie.Need-returns-2
+returns-2 c = search needs
+
+pub backup-dated-spec : {M : Type 1} → statement M
+backup-dated-spec =
+    tie.close
+    (tie.spec
+    sound-requires
+    same-length
+    same-length-2
+    returns
+    back-up-dated-requires
+    same-length-3
+    same-length-4
+    returns-2)
