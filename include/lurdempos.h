@@ -9,6 +9,11 @@
  * is not null. The buffers of one call must not overlap. A call needs less than 512 KiB
  * of stack.
  *
+ * Every call on a store but lay out names its user, right after the table: 0,
+ * the owner, who may do everything, or 1 to 7, who may do with a till what the
+ * owner has given them (lurdempos_set_rights). A number says who calls; that it
+ * is so is for the caller to see to.
+ *
  * Every answer begins with a refusal. 0 is an accepted call. A refused call
  * answers 0 in every other field and alters no buffer; a refused turn record
  * comes back as it was.
@@ -32,6 +37,9 @@
  *   19  a segment that was sent and has another fingerprint, or a last one, sent
  *       or had, with a byte other than zero after the image's length
  *   20  a segment that was not sent and that the box does not have
+ *   22  an unknown user: above 7; in setting rights also the user whose rights
+ *       they are, if it is 0 or above 7
+ *   23  a user without the right: after 10, 3 and 22, before all others
  *   24  a stream too short or too long
  *   25  a stream with a length of 0 or above 65,536
  *   26  a stream with a bit on a null or missing block, or a byte other than
@@ -73,6 +81,8 @@ extern "C" {
 #define LURDEMPOS_NO_LONGER_HELD 18
 #define LURDEMPOS_OTHER_SEGMENT 19
 #define LURDEMPOS_NO_SEGMENT 20
+#define LURDEMPOS_UNKNOWN_USER 22
+#define LURDEMPOS_NO_RIGHT 23
 #define LURDEMPOS_STREAM_SIZE 24
 #define LURDEMPOS_STREAM_LENGTH 25
 #define LURDEMPOS_STREAM_BITS 26
@@ -168,6 +178,10 @@ struct lurdempos_offer_answer {
     uint32_t refusal;
 };
 
+struct lurdempos_set_rights_answer {
+    uint32_t refusal;
+};
+
 /* A SHA-1. Its 20 bytes are those of the five words, the highest byte of each
  * first. */
 struct lurdempos_digest {
@@ -231,20 +245,22 @@ struct lurdempos_lay_out_answer lurdempos_lay_out(
 /* Keeps the image as the till's newest version. Its day is that of the till's
  * newest held version until then, or 0 if none is held; so it is with every call
  * that keeps an image, but for lurdempos_backup_dated.
- * Refusals: 10, 3, 4, 11, 12, then, at the first segment that cannot be
- * placed, 14 before 16. */
+ * Refusals: 10, 3, 22, 23 without the right to back up, 4, 11, 12, then, at the
+ * first segment that cannot be placed, 14 before 16. */
 struct lurdempos_backup_answer lurdempos_backup(
     uint8_t *pool, size_t pool_bytes, uint32_t *table, size_t table_words,
-    uint32_t till, const uint8_t *image, size_t image_bytes);
+    uint32_t user, uint32_t till, const uint8_t *image, size_t image_bytes);
 
 /* The same with a day, any number of 32 bits: what it counts, and from when, is
  * for the caller to say. It must not be before the day of the till's newest held
  * version, so that the days of a till's versions never fall from an older one to
  * a newer one. Versions from before there were days have day 0.
- * Refusals: 10, 3, 4, 11, 12, 28, then 14 and 16 as in a backup. */
+ * Refusals: 10, 3, 22, 23 without the right to back up, 4, 11, 12, 28, then 14
+ * and 16 as in a backup. */
 struct lurdempos_backup_answer lurdempos_backup_dated(
     uint8_t *pool, size_t pool_bytes, uint32_t *table, size_t table_words,
-    uint32_t till, uint32_t day, const uint8_t *image, size_t image_bytes);
+    uint32_t user, uint32_t till, uint32_t day, const uint8_t *image,
+    size_t image_bytes);
 
 /* A closing of several tills: keeps up to LURDEMPOS_MOST_IMAGES images, each as
  * lurdempos_backup keeps one, in their order. Image i is the next lengths[i] of
@@ -253,43 +269,45 @@ struct lurdempos_backup_answer lurdempos_backup_dated(
  * those of single backups made in this order, but the store is checked once.
  * None at all is accepted.
  * Refusals of the whole: 10, then 4 for too many images, lists of unequal count,
- * or lengths that do not add up to images_bytes. Each image's own: 3, 4, 11, 12,
- * 14, 16, as in a backup. */
+ * or lengths that do not add up to images_bytes. Each image's own: 3, 22, 23, 4,
+ * 11, 12, 14, 16, as in a backup; so the user's right is asked for each till. */
 struct lurdempos_backup_all_answer lurdempos_backup_all(
     uint8_t *pool, size_t pool_bytes, uint32_t *table, size_t table_words,
-    const uint32_t *tills, size_t tills_count, const uint32_t *lengths,
-    size_t lengths_count, const uint8_t *images, size_t images_bytes);
+    uint32_t user, const uint32_t *tills, size_t tills_count,
+    const uint32_t *lengths, size_t lengths_count, const uint8_t *images,
+    size_t images_bytes);
 
 /* Writes the version to the front of the output; later bytes stay.
- * Refusals: 10, 3, 17 or 18, 5. */
+ * Refusals: 10, 3, 22, 23 without the right to restore, 17 or 18, 5. */
 struct lurdempos_restore_answer lurdempos_restore(
     const uint8_t *pool, size_t pool_bytes, const uint32_t *table,
-    size_t table_words, uint32_t till, uint32_t version, uint8_t *output,
-    size_t output_bytes);
+    size_t table_words, uint32_t user, uint32_t till, uint32_t version,
+    uint8_t *output, size_t output_bytes);
 
 /* Takes a held version away, whichever it is. The others keep their numbers,
  * so that those held may have gaps; numbers go on.
- * Refusals: 10, 3, 17 or 18. */
+ * Refusals: 10, 3, 22, 23 without the right to retire, 17 or 18. */
 struct lurdempos_retire_answer lurdempos_retire(
     uint8_t *pool, size_t pool_bytes, uint32_t *table, size_t table_words,
-    uint32_t till, uint32_t version);
+    uint32_t user, uint32_t till, uint32_t version);
 
-/* Refusals: 10, 3. */
+/* Refusals: 10, 3, 22, 23 without the right to list. */
 struct lurdempos_listing_answer lurdempos_listing(
     const uint8_t *pool, size_t pool_bytes, const uint32_t *table,
-    size_t table_words, uint32_t till);
+    size_t table_words, uint32_t user, uint32_t till);
 
 /* The version that a till had on a day: of its held versions whose day is that
  * one or an earlier one, the newest, which is the one with the highest number.
- * Refusals: 10, 3, 29. */
+ * Refusals: 10, 3, 22, 23 without the right to list, 29. */
 struct lurdempos_version_on_answer lurdempos_version_on(
     const uint8_t *pool, size_t pool_bytes, const uint32_t *table,
-    size_t table_words, uint32_t till, uint32_t day);
+    size_t table_words, uint32_t user, uint32_t till, uint32_t day);
 
-/* Refusals: 10. */
+/* The owner's only.
+ * Refusals: 10, 22, 23. */
 struct lurdempos_tally_answer lurdempos_tally(
     const uint8_t *pool, size_t pool_bytes, const uint32_t *table,
-    size_t table_words);
+    size_t table_words, uint32_t user);
 
 /* Writes the version to the front of the output as a stream, for another box;
  * later bytes stay. A stream is the image's length in four bytes, lowest first,
@@ -297,11 +315,11 @@ struct lurdempos_tally_answer lurdempos_tally(
  * them, and only the blocks whose bit stands. Blocks of zeros have no bit,
  * missing blocks of the last eight neither. It does not depend on the store's
  * block_bytes and segment_blocks. It has at most LURDEMPOS_LONGEST_STREAM bytes.
- * Refusals: 10, 3, 17 or 18, 5. */
+ * Refusals: 10, 3, 22, 23 without the right to restore, 17 or 18, 5. */
 struct lurdempos_write_stream_answer lurdempos_write_stream(
     const uint8_t *pool, size_t pool_bytes, const uint32_t *table,
-    size_t table_words, uint32_t till, uint32_t version, uint8_t *output,
-    size_t output_bytes);
+    size_t table_words, uint32_t user, uint32_t till, uint32_t version,
+    uint8_t *output, size_t output_bytes);
 
 /* Reads a stream, whole and nothing else; its image goes to the front of the
  * output, later bytes stay. It needs no store.
@@ -318,11 +336,12 @@ struct lurdempos_read_stream_answer lurdempos_read_stream(
  * record has that no position was removed from and that has no cell of 255s.
  * There are as many marks as fingerprints, at least one, and no more than the
  * longest image has segments. It changes nothing but the marks.
- * Refusals: 10, 3, 4. */
+ * Refusals: 10, 3, 22, 23 without the right to back up, 4. */
 struct lurdempos_offer_answer lurdempos_offer(
     const uint8_t *pool, size_t pool_bytes, const uint32_t *table,
-    size_t table_words, uint32_t till, const uint8_t *fingerprints,
-    size_t fingerprints_bytes, uint8_t *marks, size_t marks_bytes);
+    size_t table_words, uint32_t user, uint32_t till,
+    const uint8_t *fingerprints, size_t fingerprints_bytes, uint8_t *marks,
+    size_t marks_bytes);
 
 /* The second message: the image's length, all fingerprints, a mark for each
  * segment, 1 if it follows and else 0, and those segments one after the other,
@@ -330,13 +349,24 @@ struct lurdempos_offer_answer lurdempos_offer(
  * zeros, from the lowest that was sent before it in this call or from the lowest
  * record, in this order. The image so put together is kept as lurdempos_backup
  * keeps one.
- * Refusals: 10, 3, 4, 11, 12, then, at the first segment that has either, 19
- * before 20, then 14 and 16 as in a backup. */
+ * Refusals: 10, 3, 22, 23 without the right to back up, 4, 11, 12, then, at the
+ * first segment that has either, 19 before 20, then 14 and 16 as in a backup. */
 struct lurdempos_backup_answer lurdempos_backup_sent(
     uint8_t *pool, size_t pool_bytes, uint32_t *table, size_t table_words,
-    uint32_t till, uint32_t length, const uint8_t *fingerprints,
+    uint32_t user, uint32_t till, uint32_t length, const uint8_t *fingerprints,
     size_t fingerprints_bytes, const uint8_t *marks, size_t marks_bytes,
     const uint8_t *segments, size_t segments_bytes);
+
+/* Sets what a user, the subject, 1 to 7, may do with a till: list it and look its
+ * versions up by day, back up, by any call that keeps an image or offers one,
+ * restore, or write a stream, and retire. It changes nothing else. A laid-out
+ * store gives no such rights, and neither does one from before there were users.
+ * The owner's only.
+ * Refusals: 10, 3, 22 for either user, 23. */
+struct lurdempos_set_rights_answer lurdempos_set_rights(
+    const uint8_t *pool, size_t pool_bytes, uint32_t *table,
+    size_t table_words, uint32_t user, uint32_t subject, uint32_t till,
+    bool list, bool back_up, bool restore, bool retire);
 
 /* The SHA-1 (RFC 3174) of a message, for a till's fingerprints. It needs no
  * store and refuses nothing. */

@@ -1,7 +1,9 @@
 /*
  * A first image kept and restored, moved as a stream, the next sent without
- * what the box has, a closing of both tills, versions by their day, and two turns on the line, from C (and, since it compiles as both, from C++). Prints what the calls answer; ends with status 1 at the first
- * answer that is not as expected.
+ * what the box has, a closing of both tills, versions by their day, a clerk
+ * with rights on one till, and two turns on the line, from C (and, since it
+ * compiles as both, from C++). Prints what the calls answer; ends with status 1
+ * at the first answer that is not as expected.
  */
 #include "lurdempos.h"
 
@@ -17,6 +19,8 @@
 #define SEGMENT_BLOCKS 4
 #define REBUILD_PERCENT 50
 #define TABLE_WORDS 512
+#define OWNER 0
+#define CLERK 3
 
 static uint8_t pool[CELLS * BLOCK_BYTES];
 static uint32_t table[TABLE_WORDS];
@@ -30,8 +34,7 @@ static int expect(const char *call, uint32_t refusal, uint32_t expected)
 static struct lurdempos_table_length_answer length_with(uint32_t block_bytes)
 {
     return lurdempos_table_length(TILLS, VERSIONS, BLOCKS, RECORDS, CELLS,
-                                  block_bytes, SEGMENT_BLOCKS,
-                                  REBUILD_PERCENT);
+                                  block_bytes, SEGMENT_BLOCKS, REBUILD_PERCENT);
 }
 
 /* Tills 0 and 2 of three wait, and 0 was served last: 2 comes first. A mark of
@@ -62,7 +65,7 @@ static int moved(size_t words, const uint8_t *image, uint32_t length)
 {
     static uint8_t stream[LURDEMPOS_LONGEST_STREAM], output[512];
     struct lurdempos_write_stream_answer wrote = lurdempos_write_stream(
-        pool, sizeof pool, table, words, 1, 1, stream, sizeof stream);
+        pool, sizeof pool, table, words, OWNER, 1, 1, stream, sizeof stream);
     struct lurdempos_read_stream_answer read;
 
     if (!expect("write stream", wrote.refusal, LURDEMPOS_ACCEPTED)
@@ -102,41 +105,44 @@ static int sent(size_t words)
 
     memset(image, 'b', 512);
     image[512] = 'z';
-    backup = lurdempos_backup(pool, sizeof pool, table, words, 0, image, 512);
+    backup = lurdempos_backup(pool, sizeof pool, table, words, OWNER, 0, image,
+                              512);
     if (!expect("backup", backup.refusal, LURDEMPOS_ACCEPTED))
         return 0;
     print_of(image, 512, prints);
     print_of(image + 512, 512, prints + LURDEMPOS_FINGERPRINT);
-    offered = lurdempos_offer(pool, sizeof pool, table, words, 0, prints, 39,
-                              marks, 2);
+    offered = lurdempos_offer(pool, sizeof pool, table, words, OWNER, 0,
+                              prints, 39, marks, 2);
     if (!expect("offer, part of a fingerprint", offered.refusal,
                 LURDEMPOS_IMAGE_LENGTH)
         || marks[0] != 7 || marks[1] != 7)
         return 0;
-    offered = lurdempos_offer(pool, sizeof pool, table, words, 0, prints,
+    offered = lurdempos_offer(pool, sizeof pool, table, words, OWNER, 0, prints,
                               sizeof prints, marks, 2);
     if (!expect("offer", offered.refusal, LURDEMPOS_ACCEPTED) || marks[0] != 1
         || marks[1] != 0)
         return 0;
-    backup = lurdempos_backup_sent(pool, sizeof pool, table, words, 0, 513,
+    backup = lurdempos_backup_sent(pool, sizeof pool, table, words, OWNER, 0,
+                                   513,
                                    prints, sizeof prints, none, 2, image, 0);
     if (!expect("backup of what is sent, one lacking", backup.refusal,
                 LURDEMPOS_NO_SEGMENT))
         return 0;
-    backup = lurdempos_backup_sent(pool, sizeof pool, table, words, 0, 513,
+    backup = lurdempos_backup_sent(pool, sizeof pool, table, words, OWNER, 0,
+                                   513,
                                    prints, sizeof prints, second, 2, image, 512);
     if (!expect("backup of what is sent, another segment", backup.refusal,
                 LURDEMPOS_OTHER_SEGMENT)
         || backup.version != 0)
         return 0;
-    backup = lurdempos_backup_sent(pool, sizeof pool, table, words, 0, 513,
-                                   prints, sizeof prints, second, 2,
+    backup = lurdempos_backup_sent(pool, sizeof pool, table, words, OWNER, 0,
+                                   513, prints, sizeof prints, second, 2,
                                    image + 512, 512);
     if (!expect("backup of what is sent", backup.refusal, LURDEMPOS_ACCEPTED)
         || backup.version != 2)
         return 0;
-    restored = lurdempos_restore(pool, sizeof pool, table, words, 0, 2, output,
-                                 sizeof output);
+    restored = lurdempos_restore(pool, sizeof pool, table, words, OWNER, 0, 2,
+                                 output, sizeof output);
     return expect("restore", restored.refusal, LURDEMPOS_ACCEPTED)
         && restored.length == 513 && memcmp(image, output, 513) == 0;
 }
@@ -152,7 +158,7 @@ static int closed(size_t words)
     struct lurdempos_restore_answer restored;
 
     memset(images, 'c', sizeof images);
-    all = lurdempos_backup_all(pool, sizeof pool, table, words, tills, 4,
+    all = lurdempos_backup_all(pool, sizeof pool, table, words, OWNER, tills, 4,
                                lengths, 4, images, sizeof images);
     if (!expect("closing", all.refusal, LURDEMPOS_ACCEPTED)
         || !expect("closing, till 2", all.refusals[1], LURDEMPOS_NO_SUCH_TILL)
@@ -161,14 +167,14 @@ static int closed(size_t words)
         || all.versions[2] != 3 || all.versions[3] != 4
         || all.refusals[4] != 0 || all.versions[15] != 0)
         return 0;
-    restored = lurdempos_restore(pool, sizeof pool, table, words, 1, 3, output,
-                                 sizeof output);
+    restored = lurdempos_restore(pool, sizeof pool, table, words, OWNER, 1, 3,
+                                 output, sizeof output);
     if (!expect("restore", restored.refusal, LURDEMPOS_ACCEPTED)
         || restored.length != 500 || memcmp(images, output, 500) != 0)
         return 0;
     lengths[1] = UINT32_MAX;
     lengths[2] = 601;
-    all = lurdempos_backup_all(pool, sizeof pool, table, words, tills, 4,
+    all = lurdempos_backup_all(pool, sizeof pool, table, words, OWNER, tills, 4,
                                lengths, 4, images, sizeof images);
     return expect("closing, lengths that do not add up", all.refusal,
                   LURDEMPOS_IMAGE_LENGTH)
@@ -178,7 +184,7 @@ static int closed(size_t words)
 static int gone(size_t words, uint32_t version)
 {
     struct lurdempos_retire_answer answer =
-        lurdempos_retire(pool, sizeof pool, table, words, 0, version);
+        lurdempos_retire(pool, sizeof pool, table, words, OWNER, 0, version);
 
     return expect("retire", answer.refusal, LURDEMPOS_ACCEPTED);
 }
@@ -195,35 +201,87 @@ static int dated(size_t words)
     memset(image, 'd', sizeof image);
     if (!gone(words, 1) || !gone(words, 2))
         return 0;
-    backup = lurdempos_backup_dated(pool, sizeof pool, table, words, 0, 20,
-                                    image, sizeof image);
+    backup = lurdempos_backup_dated(pool, sizeof pool, table, words, OWNER, 0,
+                                    20, image, sizeof image);
     if (!expect("backup with a day", backup.refusal, LURDEMPOS_ACCEPTED)
         || backup.version != 5)
         return 0;
-    backup = lurdempos_backup_dated(pool, sizeof pool, table, words, 0, 19,
-                                    image, sizeof image);
+    backup = lurdempos_backup_dated(pool, sizeof pool, table, words, OWNER, 0,
+                                    19, image, sizeof image);
     if (!expect("backup with an earlier day", backup.refusal,
                 LURDEMPOS_EARLIER_DAY)
         || backup.version != 0)
         return 0;
-    backup = lurdempos_backup(pool, sizeof pool, table, words, 0, image, 100);
+    backup = lurdempos_backup(pool, sizeof pool, table, words, OWNER, 0, image,
+                              100);
     if (!expect("backup", backup.refusal, LURDEMPOS_ACCEPTED)
         || backup.version != 6)
         return 0;
-    found = lurdempos_version_on(pool, sizeof pool, table, words, 0, 19);
+    found = lurdempos_version_on(pool, sizeof pool, table, words, OWNER, 0, 19);
     if (!expect("version on day 19", found.refusal, LURDEMPOS_ACCEPTED)
         || found.version != 4)
         return 0;
-    found = lurdempos_version_on(pool, sizeof pool, table, words, 0, UINT32_MAX);
+    found = lurdempos_version_on(pool, sizeof pool, table, words, OWNER, 0,
+                                 UINT32_MAX);
     if (!expect("version on the last day", found.refusal, LURDEMPOS_ACCEPTED)
         || found.version != 6)
         return 0;
     if (!gone(words, 3) || !gone(words, 4))
         return 0;
-    found = lurdempos_version_on(pool, sizeof pool, table, words, 0, 19);
+    found = lurdempos_version_on(pool, sizeof pool, table, words, OWNER, 0, 19);
     return expect("version on day 19, none so early", found.refusal,
                   LURDEMPOS_NONE_SO_EARLY)
         && found.version == 0;
+}
+
+static int listed(const char *call, size_t words, uint32_t user, uint32_t till,
+                  uint32_t expected)
+{
+    struct lurdempos_listing_answer answer =
+        lurdempos_listing(pool, sizeof pool, table, words, user, till);
+
+    return expect(call, answer.refusal, expected);
+}
+
+/* The clerk may list and restore till 1 once the owner says so, and nothing
+ * else; a user 8 is not known, and nobody changes what the owner may do. */
+static int entitled(size_t words)
+{
+    static uint8_t image[64], output[1024];
+    struct lurdempos_set_rights_answer set;
+    struct lurdempos_restore_answer restored;
+    struct lurdempos_backup_answer backup;
+    struct lurdempos_tally_answer tally;
+
+    if (!listed("listing, no right", words, CLERK, 1, LURDEMPOS_NO_RIGHT)
+        || !listed("listing, unknown user", words, 8, 1, LURDEMPOS_UNKNOWN_USER)
+        || !listed("listing, no till", words, 8, 2, LURDEMPOS_NO_SUCH_TILL))
+        return 0;
+    set = lurdempos_set_rights(pool, sizeof pool, table, words, CLERK, CLERK, 1,
+                               true, false, true, false);
+    if (!expect("set rights, not the owner", set.refusal, LURDEMPOS_NO_RIGHT))
+        return 0;
+    set = lurdempos_set_rights(pool, sizeof pool, table, words, OWNER, OWNER, 1,
+                               true, false, true, false);
+    if (!expect("set rights of the owner", set.refusal, LURDEMPOS_UNKNOWN_USER))
+        return 0;
+    set = lurdempos_set_rights(pool, sizeof pool, table, words, OWNER, CLERK, 1,
+                               true, false, true, false);
+    if (!expect("set rights", set.refusal, LURDEMPOS_ACCEPTED)
+        || !listed("listing", words, CLERK, 1, LURDEMPOS_ACCEPTED)
+        || !listed("listing of another till", words, CLERK, 0,
+                   LURDEMPOS_NO_RIGHT))
+        return 0;
+    restored = lurdempos_restore(pool, sizeof pool, table, words, CLERK, 1, 1,
+                                 output, sizeof output);
+    backup = lurdempos_backup(pool, sizeof pool, table, words, CLERK, 1, image,
+                              sizeof image);
+    tally = lurdempos_tally(pool, sizeof pool, table, words, CLERK);
+    return expect("restore", restored.refusal, LURDEMPOS_ACCEPTED)
+        && restored.length == 500
+        && expect("backup, no right", backup.refusal, LURDEMPOS_NO_RIGHT)
+        && expect("tally, not the owner", tally.refusal, LURDEMPOS_NO_RIGHT)
+        && tally.cells == 0;
 }
 
 int main(void)
@@ -254,53 +312,54 @@ int main(void)
                                  BLOCK_BYTES, SEGMENT_BLOCKS, REBUILD_PERCENT);
     if (!expect("lay out", laid_out.refusal, LURDEMPOS_ACCEPTED))
         return 1;
-    backup = lurdempos_backup(pool, sizeof pool, table, words, 1, image,
+    backup = lurdempos_backup(pool, sizeof pool, table, words, OWNER, 1, image,
                               sizeof image);
     if (!expect("backup", backup.refusal, LURDEMPOS_ACCEPTED) || backup.version != 1)
         return 1;
-    restored = lurdempos_restore(pool, sizeof pool, table, words, 1, 1, output,
-                                 sizeof output);
+    restored = lurdempos_restore(pool, sizeof pool, table, words, OWNER, 1, 1,
+                                 output, sizeof output);
     if (!expect("restore", restored.refusal, LURDEMPOS_ACCEPTED)
         || restored.length != sizeof image || restored.hops != 0
         || memcmp(image, output, sizeof image) != 0 || output[500] != 0xee)
         return 1;
     if (!moved(words, image, sizeof image))
         return 1;
-    listing = lurdempos_listing(pool, sizeof pool, table, words, 1);
+    listing = lurdempos_listing(pool, sizeof pool, table, words, OWNER, 1);
     if (!expect("listing", listing.refusal, LURDEMPOS_ACCEPTED)
         || listing.oldest != 1 || listing.newest != 1 || listing.last != 1)
         return 1;
     /* Three equal blocks and one that is short: two cells would do, but only
      * whole segments are shared. */
-    tally = lurdempos_tally(pool, sizeof pool, table, words);
+    tally = lurdempos_tally(pool, sizeof pool, table, words, OWNER);
     if (!expect("tally", tally.refusal, LURDEMPOS_ACCEPTED) || tally.cells != 4
         || tally.records != 1 || tally.counts != 4)
         return 1;
-    retired = lurdempos_retire(pool, sizeof pool, table, words, 1, 2);
+    retired = lurdempos_retire(pool, sizeof pool, table, words, OWNER, 1, 2);
     if (!expect("retire of 2, never given", retired.refusal,
                 LURDEMPOS_NEVER_GIVEN))
         return 1;
-    backup = lurdempos_backup(pool, sizeof pool, table, words, 1, image, 400);
+    backup = lurdempos_backup(pool, sizeof pool, table, words, OWNER, 1, image,
+                              400);
     if (!expect("backup", backup.refusal, LURDEMPOS_ACCEPTED) || backup.version != 2)
         return 1;
-    retired = lurdempos_retire(pool, sizeof pool, table, words, 1, 2);
+    retired = lurdempos_retire(pool, sizeof pool, table, words, OWNER, 1, 2);
     if (!expect("retire of 2, the newest", retired.refusal, LURDEMPOS_ACCEPTED)
         || retired.length != 400)
         return 1;
-    restored = lurdempos_restore(pool, sizeof pool, table, words, 1, 2, output,
-                                 sizeof output);
+    restored = lurdempos_restore(pool, sizeof pool, table, words, OWNER, 1, 2,
+                                 output, sizeof output);
     if (!expect("restore of 2, no longer held", restored.refusal,
                 LURDEMPOS_NO_LONGER_HELD)
         || restored.length != 0)
         return 1;
-    listing = lurdempos_listing(pool, sizeof pool, table, words, 1);
+    listing = lurdempos_listing(pool, sizeof pool, table, words, OWNER, 1);
     if (!expect("listing", listing.refusal, LURDEMPOS_ACCEPTED)
         || listing.oldest != 1 || listing.newest != 1 || listing.last != 2)
         return 1;
-    if (!sent(words) || !closed(words) || !dated(words))
+    if (!sent(words) || !closed(words) || !dated(words) || !entitled(words))
         return 1;
     pool[0] ^= 1;
     table[0] = 17;
-    tally = lurdempos_tally(pool, sizeof pool, table, words);
+    tally = lurdempos_tally(pool, sizeof pool, table, words, OWNER);
     return expect("tally of a damaged store", tally.refusal, LURDEMPOS_NOT_SOUND) ? 0 : 1;
 }

@@ -1,26 +1,26 @@
 -- A till's words say what the checks ask if and only if they are those of the till that they are read as, and it is sound.
-use mathlib.Core.Path.{_≡_, refl, sym, ap, _∙_}
+use mathlib.Core.Path.{_≡_, refl, sym, ap, ap₂, _∙_}
 use mathlib.Core.Bool.{true}
-use mathlib.Core.List.{List, [], _∷_, map, map-map}
+use mathlib.Core.List.{List, _∷_, map, map-map}
 use Prim.Native.Nat.{ℕ, zero, suc, _+_, _-_, _*_, _≤_, _<_, min}
 use native.Mathlib.Nat.{not-suc-le-zero, le-of-suc-le-suc, zero-mul, suc-mul, sub-zero, suc-sub-suc, mul-le-mul-right, min-eq-left, min-le-right}
 use native.Mathlib.Omega.{arith}
-use borrow.Author.Tests.{leb-true, le-leb}
+use borrow.Author.Tests.{leb-true, le-leb, eq-eqb}
 use lib.ListN.{length, getD, take, drop, length-drop, length-map}
 use lib.Seq.{drop-drop, length-take-le}
-use Rattle.lists.specs.Lists.{every, count, rises, allZero}
+use Rattle.lists.specs.Lists.{count, rises, allZero}
 use Rattle.lists.specs.Rows.{joined, rows, parts, fill}
 use Rattle.lists.specs.Each.{Each}
 use Rattle.lists.proofs.Tests.{clause, all-true}
 use Rattle.lists.proofs.Each.{each-all}
-use Rattle.lists.proofs.Same.{zeros-eq}
 use Rattle.lists.proofs.Rows.{length-rows, wide-all}
 use Rattle.lists.proofs.Cuts.{length-parts, each-part, rows-parts}
 use Rattle.lists.proofs.Slices.{drop-next}
 use Rattle.model.specs.Measures.{Shape, tillWords}
-use Rattle.model.specs.State.{Pointer, Shelf, Version, Till}
-use Rattle.model.specs.Table.{kindUnit, versionIn, versionsIn, tillIn, versionToWords, tillToWords}
+use Rattle.model.specs.State.{Pointer, Shelf, Version, Rights, staff, Till}
+use Rattle.model.specs.Table.{kindUnit, versionIn, versionsIn, tillIn, versionToWords, rightsWord, rightsIn, tillToWords}
 use Rattle.model.specs.Sound.{leadsTo, isNumbered, areTraceable, isTill}
+use Rattle.laws.proofs.Rights.{length-rights, rights-lt, word-back}
 use Rattle.laws.proofs.RoundTrip.{length-version}
 use Rattle.audit_words.specs.Words.{PointerSays}
 use Rattle.audit_counts.specs.Counters.{pointersTo}
@@ -125,7 +125,11 @@ module _ (s : Shape) (some : 0 < s .measures .blockBytes) (shelf : Shelf) (row :
   abbrev vs : List Version
   vs = versionsIn bytes b held (drop 4 row)
 
-  till-is : held ≤ v → tillIn bytes v b row ≡ record { last = last; versions = vs }
+  -- the rights of users 1 to 7
+  abbrev rights : List Rights
+  rights = rightsIn staff (getD row 2 0)
+
+  till-is : held ≤ v → tillIn bytes v b row ≡ record { last = last; rights = rights; versions = vs }
   unfolding tillIn
   till-is h = rw (min-eq-left h)
 
@@ -140,9 +144,6 @@ module _ (s : Shape) (some : 0 < s .measures .blockBytes) (shelf : Shelf) (row :
       drop-next row 0 0 (omega (arith, l)) ∙ ap (λ (r : List ℕ). last ∷ r) (drop-next row 1 0 (omega (arith, l))
       ∙ ap (λ (r : List ℕ). held ∷ r) (drop-next row 2 0 (omega (arith, l)) ∙ ap (λ (r : List ℕ). getD row 2 0 ∷ r) (drop-next row 3 0 (omega (arith, l)))))
 
-  middle : take 2 (drop 2 row) ≡ getD row 2 0 ∷ getD row 3 0 ∷ []
-  middle = ap (take 2) (drop-next row 2 0 (omega (arith, l)) ∙ ap (λ (r : List ℕ). getD row 2 0 ∷ r) (drop-next row 3 0 (omega (arith, l))))
-
   -- the slots in use, and the others
   module _ (t : TillSays bytes shelf v b row) where
     trace : Traced bytes some shelf b held (drop 4 row)
@@ -150,9 +151,6 @@ module _ (s : Shape) (some : 0 < s .measures .blockBytes) (shelf : Shelf) (row :
 
     rest-zero : allZero (drop (held * (3 + b)) (drop 4 row)) ≡ true
     rest-zero = ap allZero (drop-drop (held * (3 + b)) 4 row) ∙ t .rest
-
-    two-zeros : getD row 2 0 ∷ getD row 3 0 ∷ [] ≡ 0 ∷ 0 ∷ []
-    two-zeros = sym (zeros-eq (getD row 2 0 ∷ getD row 3 0 ∷ []) 2 (ap allZero (sym middle) ∙ t .zeros) refl)
 
     filled : fill (v * (3 + b)) (rows (versionToWords b) vs) ≡ drop 4 row
     unfolding versionsIn
@@ -164,9 +162,9 @@ module _ (s : Shape) (some : 0 < s .measures .blockBytes) (shelf : Shelf) (row :
     unfolding tillToWords
     same =
         ap (tillToWords v b) (till-is (t .few))
-        ∙ ap (λ (n : ℕ). last ∷ n ∷ 0 ∷ 0 ∷ fill (v * (3 + b)) (rows (versionToWords b) vs)) (versions-long bytes b held (drop 4 row))
-        ∙ ap (λ (r : List ℕ). last ∷ held ∷ 0 ∷ 0 ∷ r) filled
-        ∙ ap (λ (r : List ℕ). last ∷ held ∷ getD r 0 0 ∷ getD r 1 0 ∷ drop 4 row) (sym two-zeros)
+        ∙ ap (λ (n : ℕ). last ∷ n ∷ rightsWord rights ∷ 0 ∷ fill (v * (3 + b)) (rows (versionToWords b) vs)) (versions-long bytes b held (drop 4 row))
+        ∙ ap (λ (r : List ℕ). last ∷ held ∷ rightsWord rights ∷ 0 ∷ r) filled
+        ∙ ap₂ (λ (w z : ℕ). last ∷ held ∷ w ∷ z ∷ drop 4 row) (word-back staff (getD row 2 0) (t .rights)) (sym (t .zero))
         ∙ sym apart
 
     fine : isTill s shelf (tillIn bytes v b row) ≡ true
@@ -179,7 +177,7 @@ module _ (s : Shape) (some : 0 < s .measures .blockBytes) (shelf : Shelf) (row :
             le-leb (length vs) v (rw n (t .few)),
             (le-leb last 65535 (t .most), (ap (rises 0 last) (numbers-are bytes b held (drop 4 row)) ∙ t .rising, tt)),
           ),
-          (trace .traceable, tt),
+          (trace .traceable, (eq-eqb (length rights) staff (length-rights staff (getD row 2 0)), tt)),
         )
 
   pub till-fine : TillSays bytes shelf v b row → TillFine s shelf row
@@ -194,16 +192,22 @@ module _ (s : Shape) (some : 0 < s .measures .blockBytes) (shelf : Shelf) (row :
     few : held ≤ v
     few = rw count-is at (min-le-right held v)
 
-    words-are : tillToWords v b (record { last = last; versions = vs }) ≡ row
+    words-are : tillToWords v b (record { last = last; rights = rights; versions = vs }) ≡ row
     words-are = ap (tillToWords v b) (sym (till-is few)) ∙ f .words
 
     filled-at : fill (v * (3 + b)) (rows (versionToWords b) vs) ≡ drop 4 row
     unfolding tillToWords
     filled-at = ap (drop 4) words-are
 
-    zeros-at : allZero (take 2 (drop 2 row)) ≡ true
-    unfolding tillToWords allZero every
-    zeros-at = ap (λ (r : List ℕ). allZero (take 2 (drop 2 r))) (sym words-are)
+    zero-at : getD row 3 0 ≡ 0
+    unfolding tillToWords
+    zero-at = ap (λ (r : List ℕ). getD r 3 0) (sym words-are)
+
+    rights-at : getD row 2 0 < 268435456
+    unfolding tillToWords
+    rights-at =
+        let e : getD row 2 0 ≡ rightsWord rights = ap (λ (r : List ℕ). getD r 2 0) (sym words-are) in
+        omega (arith, e, rights-lt rights (length-rights staff (getD row 2 0)))
 
     rows-long : length (rows (versionToWords b) vs) ≡ held * (3 + b)
     rows-long =
@@ -214,10 +218,10 @@ module _ (s : Shape) (some : 0 < s .measures .blockBytes) (shelf : Shelf) (row :
         sym (fill-front (v * (3 + b)) (rows (versionToWords b) vs) (drop 4 row) (omega (arith, rows-long, slots-fit few, slots-long)) filled-at)
         ∙ ap (λ (m : ℕ). take m (drop 4 row)) rows-long
 
-    sound-is : isTill s shelf (record { last = last; versions = vs }) ≡ true
+    sound-is : isTill s shelf (record { last = last; rights = rights; versions = vs }) ≡ true
     sound-is = ap (isTill s shelf) (sym (till-is few)) ∙ f .sound
 
-    numbered : isNumbered v (record { last = last; versions = vs }) ≡ true
+    numbered : isNumbered v (record { last = last; rights = rights; versions = vs }) ≡ true
     unfolding isTill
     numbered = clause _ 0 sound-is
 
@@ -241,7 +245,8 @@ module _ (s : Shape) (some : 0 < s .measures .blockBytes) (shelf : Shelf) (row :
       few = few;
       most = most;
       rising = rising;
-      zeros = zeros-at;
+      rights = rights-at;
+      zero = zero-at;
       slots = untraced bytes some shelf b held (drop 4 row) (slots-fit few) trace-at;
       rest =
           ap allZero (sym (drop-drop (held * (3 + b)) 4 row))

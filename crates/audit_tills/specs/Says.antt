@@ -47,6 +47,7 @@ pub record TillSays (bytes : ℕ) (shelf : Shelf) (v b : ℕ) (row : List ℕ) :
   pub few : getD row 1 0 ≤ v
   pub most : getD row 0 0 ≤ 65535
   pub rising : rises 0 (getD row 0 0) (numbersIn b (getD row 1 0) (drop 4 row)) ≡ true
-  pub zeros : allZero (take 2 (drop 2 row)) ≡ true
+  pub rights : getD row 2 0 < 268435456
+  pub zero : getD row 3 0 ≡ 0
   pub slots : (i : ℕ) → i < getD row 1 0 → SlotSays bytes shelf b (getD row 1 0 - i) (drop (i * (3 + b)) (drop 4 row))
   pub rest : allZero (drop (4 + getD row 1 0 * (3 + b)) row) ≡ true

@@ -138,7 +138,11 @@ fn till_says(
     if 65535 < last {
         return false;
     }
-    if !audit_words::zeros(&till[2..4]) {
+    // Seven users have four rights each.
+    if 1u32 << 28 <= till[2] {
+        return false;
+    }
+    if till[3] != 0 {
         return false;
     }
     if !numbers_rise(&till[4..], blocks, count, last) {

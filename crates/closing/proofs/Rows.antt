@@ -1,9 +1,9 @@
 -- Rows of the closing of §7, computed from the definitions on real blocks. One theorem, `rows-hold`.
-use Prim.Native.Nat.{ℕ, _*_}
+use Prim.Native.Nat.{ℕ}
 use mathlib.Core.Path.{_≡_, refl}
 use mathlib.Core.Bool.{Bool, true, _&&_}
 use mathlib.Core.List.{List, [], _∷_, _++_}
-use lib.ListN.{length, set, take, drop, replicate}
+use lib.ListN.{length, set, replicate}
 use lib.Dec.{eqb}
 use Rattle.lists.specs.Lists.{counted, every, keep, count, total, firstFrom, allOf, sameNumbers, rises, isIn, distinct, allZero, largest}
 use Rattle.lists.specs.Rows.{joined, parts, chunks, fill}
@@ -16,17 +16,23 @@ use Rattle.model.specs.Place.{barePointer, barePosition, pointersTo, newPositio
 use Rattle.model.specs.Turn.{turnsTo, target, turn, turning}
 use Rattle.model.specs.Sweep.{changeAt, changeAll, release, moved, clearCells, freeRecord, strikeOnly, compact, removeFrom, sweepRecord, sweepFrom, sweep}
 use Rattle.model.specs.Trace.{hopsVia, endVia, hops, endOf, blockAt, tracedBlock, tracedBlocks, imageOf, longestChain}
-use Rattle.model.specs.Table.{pointerWord, recordToWords, versionToWords, tillToWords, measureWord, headerToWords, stateToWords, stateToBytes, measuresIn, shapeOf, pointerOf, wordToPointer, positionOf, positionsIn, segmentIn, recordsIn, cellsIn, shelfIn, versionIn, versionsIn, tillIn, tillsIn, stateIn}
+use Rattle.model.specs.Table.{pointerWord, recordToWords, versionToWords, rightsBits, rightsWord, tillToWords, measureWord, headerToWords, stateToWords, stateToBytes, measuresIn, shapeOf, pointerOf, wordToPointer, positionOf, positionsIn, segmentIn, recordsIn, cellsIn, shelfIn, versionIn, versionsIn, isOdd, rightsOf, rightsIn, tillIn, tillsIn, stateIn}
 use Rattle.model.specs.Sound.{isShaped, hasLength, isNumbered, isUsed, hasCells, nextPointers, endsZero, areTraceable, isTill, allPointers, areCounted, allCounted, areFilled, isSound, ifSound, hasLengths, storeAs, storeOf}
-use Rattle.model.specs.Calls.{emptyTill, emptyState, layoutIf, layoutOf, tillOf, heldFrom, withTill, newestPointers, withNewestPointers, newestDay, dayFor, tillWith, fileIn, placeAndFile, backupAnswer, backupIn, backupBy, backupOf, restoreRefusal, restoreFrom, restoreIn, restoreOf, oldestNumber, newestNumber, listingRefusal, listTill, listingIn, listingOf, tallyIn, tallyOf, heldBefore, firstOf, notHeld, lookUp, stateOr, outcomeRefusal, outcomeNumber, LayoutAnswer, RestoreAnswer, TallyAnswer}
+use Rattle.model.specs.Calls.{noRights, emptyTill, emptyState, layoutIf, layoutOf, tillOf, heldFrom, withTill, newestPointers, withNewestPointers, newestDay, dayFor, tillWith, fileIn, placeAndFile, backupAnswer, backupIn, backupBy, backupOf, restoreRefusal, restoreFrom, restoreIn, restoreOf, oldestNumber, newestNumber, listingRefusal, listTill, listingIn, listingOf, tallyIn, tallyOf, heldBefore, firstOf, notHeld, lookUp, stateOr, outcomeRefusal, outcomeNumber, LayoutAnswer, RestoreAnswer, TallyAnswer}
 use Rattle.model.specs.State.{Segment, nullPosition, held}
 use Rattle.model.specs.Calls as Calls
+use Rattle.model.specs.Rights.{withRights, setRights, RightsAnswer, rightsAnswer, setRightsIn, setRightsOf}
+use Rattle.model.proofs.Keys.{onlyBackUp}
 use Rattle.model.proofs.Steps.{recordAt, isAt, blocks, zeros}
-use Rattle.closing.specs.Closing.{imagesIn, closingFits, backupEach, backupAll, allRefused, allAnswer, BackupAllAnswer, backupAllAnswer, backupAllIn, backupAllOf}
+use Rattle.closing.specs.Closing.{imagesIn, closingFits, backupOne, backupEach, backupAll, allRefused, allAnswer, BackupAllAnswer, backupAllAnswer, backupAllIn, backupAllAs}
 
 -- a closing with what it answers, of the images alone; what a till then holds; a record's and the pool's contents
 data Step : Type 0 where
   closing : (tills lengths images : List ℕ) (refusal : ℕ) (refusals versions : List ℕ) → Step
+  -- the closings after it are this user's; those at first are the owner's
+  user : (number : ℕ) → Step
+  -- the owner lets the user back up the till, and nothing else
+  lets : (subject till : ℕ) → Step
   shows : (till version : ℕ) (image : List ℕ) → Step
   recordIs : (k : ℕ) (positions : Segment) → Step
   tally : (cells records counts : ℕ) → Step
@@ -36,25 +42,29 @@ record Row : Type 0 where
   shape : Shape
   steps : List Step
 
-unfoldable holdsFrom : Shape → List Step → List ℕ → List ℕ → Bool
-holdsFrom s [] pool table = true
-holdsFrom s (closing ts ns is n rs vs ∷ steps) pool table =
-    let a : BackupAllAnswer = backupAllOf pool table ts ns is in
-    eqb (a .answer .refusal) n && sameNumbers (a .answer .refusals) (fill 16 rs) && sameNumbers (a .answer .versions) (fill 16 vs) && holdsFrom s steps (a .pool) (a .table)
-holdsFrom s (shows t v image ∷ steps) pool table =
+unfoldable holdsFrom : Shape → ℕ → List Step → List ℕ → List ℕ → Bool
+holdsFrom s u [] pool table = true
+holdsFrom s u (closing ts ns is n rs vs ∷ steps) pool table =
+    let a : BackupAllAnswer = backupAllAs pool table u ts ns is in
+    eqb (a .answer .refusal) n && sameNumbers (a .answer .refusals) (fill 16 rs) && sameNumbers (a .answer .versions) (fill 16 vs) && holdsFrom s u steps (a .pool) (a .table)
+holdsFrom s u (user v ∷ steps) pool table = holdsFrom s v steps pool table
+holdsFrom s u (lets subject t ∷ steps) pool table =
+    let a : RightsAnswer = setRightsOf pool table 0 subject t onlyBackUp in
+    eqb (a .refusal) 0 && holdsFrom s u steps pool (a .table)
+holdsFrom s u (shows t v image ∷ steps) pool table =
     let a : RestoreAnswer = restoreOf pool table t v (zeros (length image)) in
-    eqb (a .refusal) 0 && sameNumbers (a .output) image && holdsFrom s steps pool table
-holdsFrom s (recordIs k seg ∷ steps) pool table =
-    isAt table (recordAt s k) (recordWords (s .measures .segmentBlocks)) (recordToWords seg) && holdsFrom s steps pool table
-holdsFrom s (tally c r n ∷ steps) pool table =
+    eqb (a .refusal) 0 && sameNumbers (a .output) image && holdsFrom s u steps pool table
+holdsFrom s u (recordIs k seg ∷ steps) pool table =
+    isAt table (recordAt s k) (recordWords (s .measures .segmentBlocks)) (recordToWords seg) && holdsFrom s u steps pool table
+holdsFrom s u (tally c r n ∷ steps) pool table =
     let a : TallyAnswer = tallyOf pool table in
-    eqb (a .cells) c && eqb (a .records) r && eqb (a .counts) n && holdsFrom s steps pool table
-holdsFrom s (overwrite at word ∷ steps) pool table = holdsFrom s steps pool (set table at word)
+    eqb (a .cells) c && eqb (a .records) r && eqb (a .counts) n && holdsFrom s u steps pool table
+holdsFrom s u (overwrite at word ∷ steps) pool table = holdsFrom s u steps pool (set table at word)
 
 unfoldable holds : Row → Bool
 holds row =
     let a : LayoutAnswer = layoutOf (row .shape) (replicate (poolBytes (row .shape)) 1) (replicate (tableWords (row .shape)) 1) in
-    eqb (a .refusal) 0 && holdsFrom (row .shape) (row .steps) (a .pool) (a .table)
+    eqb (a .refusal) 0 && holdsFrom (row .shape) 0 (row .steps) (a .pool) (a .table)
 
 -- 2 tills with 2 versions of 4 blocks; 4 blocks per segment
 shop : ℕ → ℕ → Shape
@@ -125,19 +135,35 @@ rows =
       shape = shop 1 12;
       steps = closing (0 ∷ 1 ∷ 1 ∷ []) (256 ∷ 256 ∷ 256 ∷ []) (ABCD ++ (EFGH ++ ABCD)) 0 (0 ∷ 14 ∷ 0 ∷ []) (1 ∷ 0 ∷ 1 ∷ []) ∷ shows 1 1 ABCD ∷ tally 4 1 8 ∷ [];
     }
+    -- the rights are asked for each image, after 3 and before 4; what refuses the whole call comes before them
+    ∷ record {
+      shape = shop 3 12;
+      steps =
+          lets 1 1
+          ∷ user 1
+          ∷ closing (0 ∷ 1 ∷ 2 ∷ 0 ∷ 1 ∷ []) (256 ∷ 256 ∷ 0 ∷ 0 ∷ 0 ∷ []) (ABCD ++ ABCE) 0 (23 ∷ 0 ∷ 3 ∷ 23 ∷ 4 ∷ []) (0 ∷ 1 ∷ 0 ∷ 0 ∷ 0 ∷ [])
+          ∷ shows 1 1 ABCE
+          ∷ tally 4 1 4
+          ∷ user 8
+          ∷ closing (0 ∷ 1 ∷ 2 ∷ []) (256 ∷ 256 ∷ 0 ∷ []) (ABCD ++ ABCE) 0 (22 ∷ 22 ∷ 3 ∷ []) []
+          ∷ closing (0 ∷ []) (255 ∷ []) ABCD 4 [] []
+          ∷ overwrite 0 17
+          ∷ closing (0 ∷ []) (255 ∷ []) ABCD 10 [] []
+          ∷ [];
+    }
     ∷ []
 
 rows-hold : every holds rows ≡ true
-unfolding rows shop ABCD ABCE EFGH zeros blocks holds holdsFrom isAt recordAt imagesIn closingFits backupEach backupAll allRefused allAnswer backupAllAnswer backupAllIn backupAllOf
-    stateOr outcomeRefusal outcomeNumber
+unfolding rows shop ABCD ABCE EFGH zeros blocks holds holdsFrom isAt recordAt imagesIn closingFits backupOne backupEach backupAll allRefused allAnswer backupAllAnswer backupAllIn backupAllAs
+    stateOr outcomeRefusal outcomeNumber onlyBackUp withRights setRights rightsAnswer setRightsIn setRightsOf
     counted every keep count total firstFrom allOf sameNumbers rises isIn distinct allZero largest joined parts chunks fill maskOf isWithin areMeasures inRange partsFor
     tableWords poolBytes zeroBlock blankBlock isBlank isBare blockFrom blocksFrom imageBlocks segmentsFrom imageSegments freeSegment isFree cellsOf namedCells cellAt positionAt
     equals freeCells better scan findRun barePointer barePosition pointersTo newPositions stored share write writeRun writeRecord shareOrWrite placeSegment afterSome
     placeNext placeAll turnsTo target turn turning changeAt changeAll release moved clearCells freeRecord strikeOnly compact removeFrom sweepRecord sweepFrom
-    sweep hopsVia endVia hops endOf blockAt tracedBlock tracedBlocks imageOf longestChain pointerWord recordToWords versionToWords tillToWords
+    sweep hopsVia endVia hops endOf blockAt tracedBlock tracedBlocks imageOf longestChain pointerWord recordToWords versionToWords rightsBits rightsWord tillToWords
     isBase measureWord headerToWords stateToWords stateToBytes measuresIn shapeOf pointerOf wordToPointer positionOf positionsIn segmentIn recordsIn cellsIn shelfIn versionIn
-    versionsIn tillIn tillsIn stateIn isShaped hasLength isNumbered isUsed hasCells nextPointers endsZero areTraceable isTill allPointers areCounted
-    allCounted areFilled isSound ifSound hasLengths storeAs storeOf emptyTill emptyState layoutIf layoutOf tillOf heldFrom withTill
+    versionsIn isOdd rightsOf rightsIn tillIn tillsIn stateIn isShaped hasLength isNumbered isUsed hasCells nextPointers endsZero areTraceable isTill allPointers areCounted
+    allCounted areFilled isSound ifSound hasLengths storeAs storeOf noRights emptyTill emptyState layoutIf layoutOf tillOf heldFrom withTill
     newestPointers withNewestPointers newestDay dayFor tillWith fileIn placeAndFile Calls.backup backupAnswer backupIn backupBy backupOf restoreRefusal heldBefore firstOf notHeld lookUp restoreFrom
     Calls.restore restoreIn restoreOf oldestNumber newestNumber listingRefusal listTill listingIn listingOf tallyIn tallyOf
 rows-hold = refl

@@ -13,6 +13,7 @@ use Rattle.model.specs.Image.{withBlanks}
 use Rattle.model.specs.Table.{stateToWords, stateToBytes}
 use Rattle.model.specs.Sound.{Store, storeOf}
 use Rattle.model.specs.Calls.{After, stateOr, outcomeRefusal, outcomeNumber, backup}
+use Rattle.model.specs.Rights.{toBackUp, refusalAt, unless}
 
 -- an image and its till
 pub record TillImage : Type 0 where
@@ -36,18 +37,22 @@ pub record Closed : Type 0 where
   pub refusals : List ℕ
   pub versions : List ℕ
 
+-- one of them, for a user: 3, 22, 23, then as ever
+unfoldable pub backupOne : Shape → State → ℕ → TillImage → Outcome After
+backupOne s st user x = unless (refusalAt s st user (x .till) toBackUp) refused (backup withBlanks s st (x .till) none (x .image))
+
 -- "Answers and store are those of backups made singly in that order; a refused image does not stop the later ones."
-unfoldable pub backupEach : Shape → State → List TillImage → Closed
-backupEach s st [] = record { state = st; refusals = []; versions = [] }
-backupEach s st (x ∷ xs) =
-    let o : Outcome After = backup withBlanks s st (x .till) none (x .image) in
-    let later : Closed = backupEach s (stateOr st o) xs in
+unfoldable pub backupEach : Shape → State → ℕ → List TillImage → Closed
+backupEach s st user [] = record { state = st; refusals = []; versions = [] }
+backupEach s st user (x ∷ xs) =
+    let o : Outcome After = backupOne s st user x in
+    let later : Closed = backupEach s (stateOr st o) user xs in
     record { state = later .state; refusals = outcomeRefusal o ∷ later .refusals; versions = outcomeNumber o ∷ later .versions }
 
-unfoldable pub backupAll : Shape → State → List ℕ → List ℕ → List ℕ → Outcome Closed
-backupAll s st tills lengths bytes = cond (closingFits tills lengths bytes) (done (backupEach s st (imagesIn tills lengths bytes))) (refused 4)
+unfoldable pub backupAll : Shape → State → ℕ → List ℕ → List ℕ → List ℕ → Outcome Closed
+backupAll s st user tills lengths bytes = cond (closingFits tills lengths bytes) (done (backupEach s st user (imagesIn tills lengths bytes))) (refused 4)
 
--- ---- the call: 10, 4
+-- ---- the call: 10, 4; the rights are asked for each image
 
 -- the whole call's refusal, and the refusals and versions of 16 images, 0 past the last one
 pub record AllAnswer : Type 0 where
@@ -76,10 +81,10 @@ unfoldable pub backupAllAnswer : List ℕ → List ℕ → Shape → Outcome Clo
 backupAllAnswer pool table s (refused n) = record { answer = allRefused n; pool = pool; table = table }
 backupAllAnswer pool table s (done c) = record { answer = allAnswer (done c); pool = stateToBytes (c .state); table = stateToWords s (c .state) }
 
-unfoldable pub backupAllIn : Option Store → List ℕ → List ℕ → List ℕ → List ℕ → List ℕ → BackupAllAnswer
-backupAllIn none pool table tills lengths bytes = record { answer = allRefused 10; pool = pool; table = table }
-backupAllIn (some store) pool table tills lengths bytes =
-    backupAllAnswer pool table (store .shape) (backupAll (store .shape) (store .state) tills lengths bytes)
+unfoldable pub backupAllIn : Option Store → List ℕ → List ℕ → ℕ → List ℕ → List ℕ → List ℕ → BackupAllAnswer
+backupAllIn none pool table user tills lengths bytes = record { answer = allRefused 10; pool = pool; table = table }
+backupAllIn (some store) pool table user tills lengths bytes =
+    backupAllAnswer pool table (store .shape) (backupAll (store .shape) (store .state) user tills lengths bytes)
 
-unfoldable pub backupAllOf : List ℕ → List ℕ → List ℕ → List ℕ → List ℕ → BackupAllAnswer
-backupAllOf pool table tills lengths bytes = backupAllIn (storeOf pool table) pool table tills lengths bytes
+unfoldable pub backupAllAs : List ℕ → List ℕ → ℕ → List ℕ → List ℕ → List ℕ → BackupAllAnswer
+backupAllAs pool table user tills lengths bytes = backupAllIn (storeOf pool table) pool table user tills lengths bytes

@@ -1,10 +1,13 @@
--- The same on the buffers, as calls of `backupOf` one after the other; and the claim that a closing is these.
+-- The same on the buffers, as calls of `backupAs` one after the other; and the claim that a closing is these.
 use Prim.Native.Nat.{ℕ}
 use mathlib.Core.Path.{_≡_}
 use mathlib.Core.List.{List, [], _∷_}
+use mathlib.Core.Option.{none}
 use Rattle.lists.specs.Rows.{fill}
-use Rattle.model.specs.Calls.{BackupAnswer, backupOf}
-use Rattle.closing.specs.Closing.{TillImage, imagesIn, BackupAllAnswer, backupAllOf}
+use Rattle.model.specs.Image.{withBlanks}
+use Rattle.model.specs.Calls.{BackupAnswer}
+use Rattle.model.specs.Rights.{backupAs}
+use Rattle.closing.specs.Closing.{TillImage, imagesIn, BackupAllAnswer, backupAllAs}
 
 -- the buffers in the end, and what each call answered
 pub record Made : Type 0 where
@@ -13,11 +16,11 @@ pub record Made : Type 0 where
   pub pool : List ℕ
   pub table : List ℕ
 
-unfoldable pub madeSingly : List ℕ → List ℕ → List TillImage → Made
-madeSingly pool table [] = record { refusals = []; versions = []; pool = pool; table = table }
-madeSingly pool table (x ∷ xs) =
-    let a : BackupAnswer = backupOf pool table (x .till) (x .image) in
-    let later : Made = madeSingly (a .pool) (a .table) xs in
+unfoldable pub madeSingly : List ℕ → List ℕ → ℕ → List TillImage → Made
+madeSingly pool table user [] = record { refusals = []; versions = []; pool = pool; table = table }
+madeSingly pool table user (x ∷ xs) =
+    let a : BackupAnswer = backupAs withBlanks pool table user (x .till) none (x .image) in
+    let later : Made = madeSingly (a .pool) (a .table) user xs in
     record { refusals = a .refusal ∷ later .refusals; versions = a .version ∷ later .versions; pool = later .pool; table = later .table }
 
 -- the answer of a call that is not refused whole
@@ -31,5 +34,5 @@ answerTo m = record {
 -- For all buffers and lists: a closing that is not refused whole is the calls made singly, to the last byte and word.
 abbrev pub ClosingIsSingly : Type 0
 ClosingIsSingly =
-    (pool table tills lengths bytes : List ℕ) → backupAllOf pool table tills lengths bytes .answer .refusal ≡ 0
-    → backupAllOf pool table tills lengths bytes ≡ answerTo (madeSingly pool table (imagesIn tills lengths bytes))
+    (pool table : List ℕ) (user : ℕ) (tills lengths bytes : List ℕ) → backupAllAs pool table user tills lengths bytes .answer .refusal ≡ 0
+    → backupAllAs pool table user tills lengths bytes ≡ answerTo (madeSingly pool table user (imagesIn tills lengths bytes))

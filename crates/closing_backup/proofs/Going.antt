@@ -16,20 +16,21 @@ use Rattle.lists.proofs.Rows.{length-fill, fill-zeros}
 use Rattle.lists.proofs.Sets.{take-put}
 use Rattle.lists.proofs.Slices.{drop-next, drop-end}
 use Rattle.model.specs.Image.{withBlanks}
-use Rattle.model.specs.Calls.{BackupAnswer, backupOf}
+use Rattle.model.specs.Calls.{BackupAnswer}
+use Rattle.model.specs.Rights.{backupAs}
 use Rattle.laws.specs.Stores.{Sound, storeRead}
 use Rattle.laws.proofs.Stores.{sound-if}
-use Rattle.laws.proofs.Calls.{backup-store}
+use Rattle.laws.proofs.Calls.{backup-as-store}
 use Rattle.closing.specs.Closing.{TillImage, imagesIn, BackupAllAnswer}
 use Rattle.closing.specs.Singly.{Made, madeSingly, answerTo}
 use Rattle.closing_backup.specs.Answers.{allAnswered}
 use Rattle.closing_backup.proofs.Fits.{Fit}
 
--- a backup leaves a sound store
-sound-after : (pool table : List ℕ) → Sound pool table → (t : ℕ) (image : List ℕ)
-    → Sound (backupOf pool table t image .pool) (backupOf pool table t image .table)
-unfolding backupOf isSome
-sound-after pool table h t image = sound-if _ _ (sym (ap isSome (backup-store pool table (storeRead pool table) (h .is) withBlanks t none image)))
+-- a backup leaves a sound store, whoever the user is
+sound-after : (pool table : List ℕ) → Sound pool table → (user t : ℕ) (image : List ℕ)
+    → Sound (backupAs withBlanks pool table user t none image .pool) (backupAs withBlanks pool table user t none image .table)
+unfolding isSome
+sound-after pool table h user t image = sound-if _ _ (sym (ap isSome (backup-as-store pool table (storeRead pool table) (h .is) withBlanks user t none image)))
 
 -- the first i answers as the lists have them, and the later ones
 unfoldable pub answerSoFar : List ℕ → List ℕ → ℕ → Made → BackupAllAnswer
@@ -40,20 +41,20 @@ answerSoFar refusals versions i m = record {
 }
 
 -- i images are done, and the next begins at `from`
-pub record Going (pool₀ table₀ tills lengths images pool table refusals versions : List ℕ) (from i : ℕ) : Type 0 where
+pub record Going (pool₀ table₀ : List ℕ) (user : ℕ) (tills lengths images pool table refusals versions : List ℕ) (from i : ℕ) : Type 0 where
   pub sound : Sound pool table
   pub fit : Fit tills lengths images
   pub within : i ≤ length tills
   pub sum : from + total (λ (n : ℕ). n) (drop i lengths) ≡ total (λ (n : ℕ). n) lengths
   pub refused : fill 16 (take i refusals) ≡ refusals
   pub filed : fill 16 (take i versions) ≡ versions
-  pub answer : answerSoFar refusals versions i (madeSingly pool table (imagesIn (drop i tills) (drop i lengths) (drop from images)))
-      ≡ answerTo (madeSingly pool₀ table₀ (imagesIn tills lengths images))
+  pub answer : answerSoFar refusals versions i (madeSingly pool table user (imagesIn (drop i tills) (drop i lengths) (drop from images)))
+      ≡ answerTo (madeSingly pool₀ table₀ user (imagesIn tills lengths images))
 
-pub going-start : (pool table tills lengths images refusals versions : List ℕ) → Sound pool table → Fit tills lengths images → refusals ≡ replicate 16 0 → versions ≡ replicate 16 0
-    → Going pool table tills lengths images pool table refusals versions 0 0
+pub going-start : (pool table : List ℕ) (user : ℕ) (tills lengths images refusals versions : List ℕ) → Sound pool table → Fit tills lengths images → refusals ≡ replicate 16 0 → versions ≡ replicate 16 0
+    → Going pool table user tills lengths images pool table refusals versions 0 0
 unfolding answerSoFar answerTo
-going-start pool table tills lengths images refusals versions h f er ev = record {
+going-start pool table user tills lengths images refusals versions h f er ev = record {
   sound = h;
   fit = f;
   within = omega arith;
@@ -63,19 +64,19 @@ going-start pool table tills lengths images refusals versions h f er ev = record
   answer = refl;
 }
 
-module _ {pool₀ table₀ tills lengths images pool table refusals versions : List ℕ} {from i : ℕ}
-    (g : Going pool₀ table₀ tills lengths images pool table refusals versions from i) where
+module _ {pool₀ table₀ : List ℕ} {user : ℕ} {tills lengths images pool table refusals versions : List ℕ} {from i : ℕ}
+    (g : Going pool₀ table₀ user tills lengths images pool table refusals versions from i) where
   pub refusals-long : length refusals ≡ 16
   refusals-long = sym (ap length (g .refused)) ∙ length-fill 16 _
 
   pub versions-long : length versions ≡ 16
   versions-long = sym (ap length (g .filed)) ∙ length-fill 16 _
 
-  pub going-end : length tills ≤ i → allAnswered refusals versions pool table ≡ answerTo (madeSingly pool₀ table₀ (imagesIn tills lengths images))
+  pub going-end : length tills ≤ i → allAnswered refusals versions pool table ≡ answerTo (madeSingly pool₀ table₀ user (imagesIn tills lengths images))
   unfolding answerSoFar madeSingly imagesIn
   going-end h = sym last ∙ g .answer
     where
-      last : answerSoFar refusals versions i (madeSingly pool table (imagesIn (drop i tills) (drop i lengths) (drop from images))) ≡ allAnswered refusals versions pool table
+      last : answerSoFar refusals versions i (madeSingly pool table user (imagesIn (drop i tills) (drop i lengths) (drop from images))) ≡ allAnswered refusals versions pool table
       last = rw (drop-end tills i h, append-nil (take i refusals), append-nil (take i versions), g .refused, g .filed)
 
   module _ (h : i < length tills) where
@@ -101,23 +102,23 @@ module _ {pool₀ table₀ tills lengths images pool table refusals versions : L
     split = rw (drop-next tills i 0 h, drop-next lengths i 0 in-lengths, drop-drop)
 
     Next : BackupAnswer → Type 0
-    Next a = Going pool₀ table₀ tills lengths images (a .pool) (a .table) (set refusals i (a .refusal)) (set versions i (a .version)) (from + bytes) (i + 1)
+    Next a = Going pool₀ table₀ user tills lengths images (a .pool) (a .table) (set refusals i (a .refusal)) (set versions i (a .version)) (from + bytes) (i + 1)
 
-    one-more : Next (backupOf pool table till (take bytes (drop from images)))
+    one-more : Next (backupAs withBlanks pool table user till none (take bytes (drop from images)))
     unfolding answerSoFar madeSingly Next
     one-more = record {
-      sound = sound-after pool table (g .sound) till (take bytes (drop from images));
+      sound = sound-after pool table (g .sound) user till (take bytes (drop from images));
       fit = g .fit;
       within = omega (arith, h);
       sum = next;
       refused = fill-put 16 refusals i _ (omega (arith, h, g .fit .few)) (g .refused);
       filed = fill-put 16 versions i _ (omega (arith, h, g .fit .few)) (g .filed);
       answer = rw (take-put refusals _ i _ (omega (arith, h, g .fit .few, refusals-long)), take-put versions _ i _ (omega (arith, h, g .fit .few, versions-long)))
-          (ap (λ (xs : List TillImage). answerSoFar refusals versions i (madeSingly pool table xs)) (sym split) ∙ g .answer);
+          (ap (λ (xs : List TillImage). answerSoFar refusals versions i (madeSingly pool table user xs)) (sym split) ∙ g .answer);
     }
 
     pub going-more : (n v : ℕ) (pool′ table′ : List ℕ)
-        → record { refusal = n; version = v; pool = pool′; table = table′ } ≡ backupOf pool table till (take (from + bytes - from) (drop from images))
-        → Going pool₀ table₀ tills lengths images pool′ table′ (set refusals i n) (set versions i v) (from + bytes) (i + 1)
+        → record { refusal = n; version = v; pool = pool′; table = table′ } ≡ backupAs withBlanks pool table user till none (take (from + bytes - from) (drop from images))
+        → Going pool₀ table₀ user tills lengths images pool′ table′ (set refusals i n) (set versions i v) (from + bytes) (i + 1)
     unfolding Next
-    going-more n v pool′ table′ e = subst Next (sym (e ∙ ap (backupOf pool table till) (part-is images from bytes))) one-more
+    going-more n v pool′ table′ e = subst Next (sym (e ∙ ap (backupAs withBlanks pool table user till none) (part-is images from bytes))) one-more

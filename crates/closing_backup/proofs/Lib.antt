@@ -1,4 +1,5 @@
--- Lists that fit, the loop over the images, and the whole call.
+-- The answer to a user, lists that fit, the loop over the images, and the whole call.
+pub mod Users
 pub mod Fits
 pub mod Going
 pub mod Whole

@@ -1,13 +1,19 @@
-// §7's call, on a sound store: the images are backed up one after the other, with no second check between them.
+// §7's call, on a sound store: the images are backed up one after the other, with no second check between them. The user's right is asked for each.
 ghost use mathlib.Core.Path.{_≡_};
 ghost use mathlib.Core.Bool.{true};
+ghost use mathlib.Core.Option.{none};
 ghost use Prim.Native.Nat.{ℕ, _≤_};
 ghost use lib.ListN.{length, replicate};
 ghost use Rattle.lists.specs.Lists.{total};
+ghost use Rattle.model.specs.Image.{withBlanks};
+ghost use Rattle.model.specs.Rights.{backupAs};
 ghost use Rattle.laws.specs.Stores.{Sound};
-ghost use Rattle.closing.specs.Closing.{imagesIn, closingFits, backupAllOf};
+ghost use Rattle.backup.specs.Call.{backedUpAnswer};
+ghost use Rattle.closing.specs.Closing.{imagesIn, closingFits, backupAllAs};
 ghost use Rattle.closing.specs.Singly.{madeSingly, answerTo};
 ghost use Rattle.closing_backup.specs.Answers.{allAnswered, allBackedUp};
+use backup::BackedUp;
+use rights::Right;
 
 // Refusal 0 is a call that is not refused whole. The images' own refusals and versions stand in their order, 0 past the last image.
 #[repr(C)]
@@ -44,10 +50,26 @@ fn lists_fit(tills: &[u32], lengths: &[u32], images: &[u8]) -> bool
     sum_of(lengths) == images.len() as u64
 }
 
+// One image, for a user who may back up its till.
+fn back_up_one(pool: &mut [u8], table: &mut [u32], user: u32, till: u32, image: &[u8]) -> BackedUp
+    requires { ⌜ Sound (now pool) (now table) ⌝ }
+    ensures { λ r. ⌜ backedUpAnswer r (now (pool .exit)) (now (table .exit)) ≡ backupAs withBlanks (now (pool .entry)) (now (table .entry)) user till none (now (image .entry)) ⌝ }
+{
+    let refusal = rights::refusal(pool, table, user, till, Right::BackUp);
+    if refusal != 0 {
+        return BackedUp {
+            refusal: refusal,
+            version: 0,
+        };
+    }
+    backup::back_up(pool, table, till, image)
+}
+
 // Each image in turn; its answer goes to its place in the lists, which come with zeros.
 fn back_up_each(
     pool: &mut [u8],
     table: &mut [u32],
+    user: u32,
     tills: &[u32],
     lengths: &[u32],
     images: &[u8],
@@ -55,13 +77,13 @@ fn back_up_each(
     versions: &mut [u32],
 )
     requires { ⌜ Sound (now pool) (now table) × (closingFits (now tills) (now lengths) (now images) ≡ true) × (now refusals ≡ replicate 16 0) × (now versions ≡ replicate 16 0) ⌝ }
-    ensures { λ _. ⌜ allAnswered (now (refusals .exit)) (now (versions .exit)) (now (pool .exit)) (now (table .exit)) ≡ answerTo (madeSingly (now (pool .entry)) (now (table .entry)) (imagesIn (now (tills .entry)) (now (lengths .entry)) (now (images .entry)))) ⌝ }
+    ensures { λ _. ⌜ allAnswered (now (refusals .exit)) (now (versions .exit)) (now (pool .exit)) (now (table .exit)) ≡ answerTo (madeSingly (now (pool .entry)) (now (table .entry)) user (imagesIn (now (tills .entry)) (now (lengths .entry)) (now (images .entry)))) ⌝ }
 {
     let mut from: usize = 0;
     let mut i: usize = 0;
     while i < tills.len() {
         let end = from + lengths[i] as usize;
-        let r = backup::back_up(pool, table, tills[i], &images[from..end]);
+        let r = back_up_one(pool, table, user, tills[i], &images[from..end]);
         refusals[i] = r.refusal;
         versions[i] = r.version;
         from = end;
@@ -72,12 +94,13 @@ fn back_up_each(
 pub fn back_up_all(
     pool: &mut [u8],
     table: &mut [u32],
+    user: u32,
     tills: &[u32],
     lengths: &[u32],
     images: &[u8],
 ) -> AllBackedUp
     requires { ⌜ Sound (now pool) (now table) ⌝ }
-    ensures { λ r. ⌜ allBackedUp r (now (pool .exit)) (now (table .exit)) ≡ backupAllOf (now (pool .entry)) (now (table .entry)) (now (tills .entry)) (now (lengths .entry)) (now (images .entry)) ⌝ }
+    ensures { λ r. ⌜ allBackedUp r (now (pool .exit)) (now (table .exit)) ≡ backupAllAs (now (pool .entry)) (now (table .entry)) user (now (tills .entry)) (now (lengths .entry)) (now (images .entry)) ⌝ }
 {
     let mut refusals = [0u32; 16];
     let mut versions = [0u32; 16];
@@ -91,6 +114,7 @@ pub fn back_up_all(
     back_up_each(
         pool,
         table,
+        user,
         tills,
         lengths,
         images,

@@ -46,25 +46,25 @@ fn length_if_same(length: u32, output: &[u8], image: &[u8]) -> u32 {
 
 // A backup answers no length: the version is restored at once.
 fn back_up(pool: &mut [u8], table: &mut [u32], image: &[u8]) {
-    let given = store::backup(pool, table, 0, image);
+    let given = store::backup(pool, table, 0, 0, image);
     let mut output = [0u8; 512];
-    let back = store::restore(pool, table, 0, given.version, &mut output);
+    let back = store::restore(pool, table, 0, 0, given.version, &mut output);
     let length = length_if_same(back.length, &output, image);
-    let kept = store::tally(pool, table);
+    let kept = store::tally(pool, table, 0);
     print_call(b"backup", given.version, length, 0, kept.cells);
 }
 
 fn restore_first(pool: &[u8], table: &[u32], image: &[u8]) {
     let mut output = [0u8; 512];
-    let back = store::restore(pool, table, 0, 1, &mut output);
+    let back = store::restore(pool, table, 0, 0, 1, &mut output);
     let length = length_if_same(back.length, &output, image);
-    let kept = store::tally(pool, table);
+    let kept = store::tally(pool, table, 0);
     print_call(b"restore", 1, length, back.hops, kept.cells);
 }
 
 fn retire_first(pool: &mut [u8], table: &mut [u32]) {
-    let gone = store::retire(pool, table, 0, 1);
-    let kept = store::tally(pool, table);
+    let gone = store::retire(pool, table, 0, 0, 1);
+    let kept = store::tally(pool, table, 0);
     print_call(b"retire", 1, gone.length, 0, kept.cells);
 }
 

@@ -13,8 +13,8 @@ use Rattle.lists.proofs.Rows.{fill-split, fill-zeros, length-fill, fill-add, le
 use Rattle.lists.proofs.Slices.{mid-is, mid-put, drop-same, tail-is, tail-put, none-left}
 use Rattle.lists.proofs.Filled.{over-fill, over-zeros}
 use Rattle.model.specs.Measures.{partsFor}
-use Rattle.model.specs.State.{Pointer, Version, withPointers, Till}
-use Rattle.model.specs.Table.{pointerWord, versionToWords, tillToWords}
+use Rattle.model.specs.State.{Pointer, Version, withPointers, Rights, Till}
+use Rattle.model.specs.Table.{pointerWord, versionToWords, rightsWord, tillToWords}
 use Rattle.model.specs.Calls.{newestPointers, withNewestPointers, tillWith}
 use Rattle.laws.proofs.Newest.{newest-last, with-last}
 use Rattle.laws.proofs.RoundTrip.{length-version, length-till, held-word, last-word}
@@ -40,40 +40,40 @@ newest-each P (x ∷ us) u e = newest-each P us u (e .1)
 unfoldable pub left : ℕ → ℕ → ℕ → List ℕ
 left v b n = fill (v * (3 + b) - n * (3 + b)) []
 
-pub till-open : (v b last : ℕ) (us : List Version) → length us ≤ v
-    → tillToWords v b (record { last = last; versions = us }) ≡ front b last (length us) us ++ left v b (length us)
+pub till-open : (v b last : ℕ) (rights : List Rights) (us : List Version) → length us ≤ v
+    → tillToWords v b (record { last = last; rights = rights; versions = us }) ≡ front b last rights (length us) us ++ left v b (length us)
 unfolding tillToWords front left
-till-open v b last us h =
+till-open v b last rights us h =
     let m : length us * (3 + b) ≤ v * (3 + b) = mul-le-mul-right (3 + b) h in
     let e : fill (v * (3 + b)) (rows (versionToWords b) us) ≡ rows (versionToWords b) us ++ fill (v * (3 + b) - length (rows (versionToWords b) us)) [] =
     fill-split (v * (3 + b)) (rows (versionToWords b) us) (omega (arith, rows-length b us)) in
-    ap (λ (l : List ℕ). last ∷ length us ∷ 0 ∷ 0 ∷ l) (e ∙ ap (λ (n : ℕ). rows (versionToWords b) us ++ fill (v * (3 + b) - n) []) (rows-length b us))
+    ap (λ (l : List ℕ). last ∷ length us ∷ rightsWord rights ∷ 0 ∷ l) (e ∙ ap (λ (n : ℕ). rows (versionToWords b) us ++ fill (v * (3 + b) - n) []) (rows-length b us))
 
 one-row : (b : ℕ) (us : List Version) (u : Version) → rows (versionToWords b) (us ++ (u ∷ [])) ≡ rows (versionToWords b) us ++ versionToWords b u
 unfolding joined
 one-row b us u = rows-append (versionToWords b) us (u ∷ []) ∙ ap (λ (l : List ℕ). rows (versionToWords b) us ++ l) (append-nil (versionToWords b u))
 
-pub till-split : (v b last : ℕ) (us : List Version) (u : Version) → length us < v
-    → tillToWords v b (record { last = last; versions = us ++ (u ∷ []) }) ≡ front b last (suc (length us)) us ++ (versionToWords b u ++ left v b (suc (length us)))
-till-split v b last us u h =
-    till-open v b last (us ++ (u ∷ [])) (omega (arith, length-one us u))
-    ∙ ap (λ (n : ℕ). front b last n (us ++ (u ∷ [])) ++ left v b n) (length-one us u)
+pub till-split : (v b last : ℕ) (rights : List Rights) (us : List Version) (u : Version) → length us < v
+    → tillToWords v b (record { last = last; rights = rights; versions = us ++ (u ∷ []) }) ≡ front b last rights (suc (length us)) us ++ (versionToWords b u ++ left v b (suc (length us)))
+till-split v b last rights us u h =
+    till-open v b last rights (us ++ (u ∷ [])) (omega (arith, length-one us u))
+    ∙ ap (λ (n : ℕ). front b last rights n (us ++ (u ∷ [])) ++ left v b n) (length-one us u)
     ∙ ap (λ (l : List ℕ). l ++ left v b (suc (length us))) (longer (suc (length us)))
-    ∙ append-assoc (front b last (suc (length us)) us) (versionToWords b u) (left v b (suc (length us)))
+    ∙ append-assoc (front b last rights (suc (length us)) us) (versionToWords b u) (left v b (suc (length us)))
   where
-    longer : (n : ℕ) → front b last n (us ++ (u ∷ [])) ≡ front b last n us ++ versionToWords b u
-    longer n = unfold front in ap (λ (l : List ℕ). last ∷ n ∷ 0 ∷ 0 ∷ l) (one-row b us u)
+    longer : (n : ℕ) → front b last rights n (us ++ (u ∷ [])) ≡ front b last rights n us ++ versionToWords b u
+    longer n = unfold front in ap (λ (l : List ℕ). last ∷ n ∷ rightsWord rights ∷ 0 ∷ l) (one-row b us u)
 
 -- a slot that is left
-pub till-slot : (v b last : ℕ) (us : List Version) → length us < v
-    → tillToWords v b (record { last = last; versions = us }) ≡ front b last (length us) us ++ (fill (3 + b) [] ++ left v b (suc (length us)))
+pub till-slot : (v b last : ℕ) (rights : List Rights) (us : List Version) → length us < v
+    → tillToWords v b (record { last = last; rights = rights; versions = us }) ≡ front b last rights (length us) us ++ (fill (3 + b) [] ++ left v b (suc (length us)))
 unfolding left
-till-slot v b last us h =
+till-slot v b last rights us h =
     let m : suc (length us) * (3 + b) ≤ v * (3 + b) = mul-le-mul-right (3 + b) h in
     let n : v * (3 + b) - length us * (3 + b) ≡ (3 + b) + (v * (3 + b) - suc (length us) * (3 + b)) = omega (arith, m, suc-mul (length us) (3 + b)) in
-    till-open v b last us (omega arith)
-    ∙ ap (λ (k : ℕ). front b last (length us) us ++ fill k []) n
-    ∙ ap (λ (l : List ℕ). front b last (length us) us ++ l)
+    till-open v b last rights us (omega arith)
+    ∙ ap (λ (k : ℕ). front b last rights (length us) us ++ fill k []) n
+    ∙ ap (λ (l : List ℕ). front b last rights (length us) us ++ l)
     (fill-add (3 + b) (v * (3 + b) - suc (length us) * (3 + b)) []
     ∙ ap (λ (l : List ℕ). fill (3 + b) [] ++ fill (v * (3 + b) - suc (length us) * (3 + b)) l) (drop-nil (3 + b)))
 
@@ -88,8 +88,8 @@ next-slot k w n m = let e : k + 1 ≡ suc k = omega arith in omega (arith, subst
 
 -- ---- the newest version's pointers
 
-cong-till : (v b last : ℕ) (vs ws : List Version) → vs ≡ ws → tillToWords v b (record { last = last; versions = vs }) ≡ tillToWords v b (record { last = last; versions = ws })
-cong-till v b last vs ws e = ap (λ (us : List Version). tillToWords v b (record { last = last; versions = us })) e
+cong-till : (v b last : ℕ) (rights : List Rights) (vs ws : List Version) → vs ≡ ws → tillToWords v b (record { last = last; rights = rights; versions = vs }) ≡ tillToWords v b (record { last = last; rights = rights; versions = ws })
+cong-till v b last rights vs ws e = ap (λ (us : List Version). tillToWords v b (record { last = last; rights = rights; versions = us })) e
 
 pub none-held : (v b : ℕ) (t : Till) (till : List ℕ) → till ≡ tillToWords v b t → getD till 1 0 ≡ 0 → t .versions ≡ []
 none-held v b t till et z = none-left (t .versions) (sym (held-word v b t) ∙ ap (λ (l : List ℕ). getD l 1 0) (sym et) ∙ z)
@@ -102,7 +102,7 @@ pub no-turned : (v b : ℕ) (t : Till) (ps : List Pointer) (till : List ℕ) →
 unfolding withNewestPointers
 no-turned v b t ps till et z =
     let e : t .versions ≡ [] = none-held v b t till et z in
-    et ∙ cong-till v b (t .last) (t .versions) (withNewestPointers (t .versions) ps) (e ∙ ap (λ (vs : List Version). withNewestPointers vs ps) (sym e))
+    et ∙ cong-till v b (t .last) (t .rights) (t .versions) (withNewestPointers (t .versions) ps) (e ∙ ap (λ (vs : List Version). withNewestPointers vs ps) (sym e))
 
 -- where the newest one's pointers are
 module _ (v b : ℕ) (t : Till) (till : List ℕ) (most : length (t .versions) ≤ v) (et : till ≡ tillToWords v b t) (some : 0 < getD till 1 0) (us : List Version) (u : Version)
@@ -113,29 +113,29 @@ module _ (v b : ℕ) (t : Till) (till : List ℕ) (most : length (t .versions) �
   room : length us < v
   room = omega (arith, most, ap length is, length-one us u)
 
-  at-is : newestAt b till ≡ length (front b (t .last) (suc (length us)) us)
+  at-is : newestAt b till ≡ length (front b (t .last) (t .rights) (suc (length us)) us)
   at-is =
       let n : getD till 1 0 - 1 ≡ length us = omega (arith, held-is) in
-      ap (λ (k : ℕ). 4 + k * (3 + b)) n ∙ sym (front-length b (t .last) (suc (length us)) us)
+      ap (λ (k : ℕ). 4 + k * (3 + b)) n ∙ sym (front-length b (t .last) (t .rights) (suc (length us)) us)
 
-  parted : till ≡ front b (t .last) (suc (length us)) us ++ (versionToWords b u ++ left v b (suc (length us)))
-  parted = et ∙ cong-till v b (t .last) (t .versions) (us ++ (u ∷ [])) is ∙ till-split v b (t .last) us u room
+  parted : till ≡ front b (t .last) (t .rights) (suc (length us)) us ++ (versionToWords b u ++ left v b (suc (length us)))
+  parted = et ∙ cong-till v b (t .last) (t .rights) (t .versions) (us ++ (u ∷ [])) is ∙ till-split v b (t .last) (t .rights) us u room
 
   length-at : getD till (newestAt b till + 1) 0 ≡ u .length
   unfolding versionToWords
   length-at =
       ap (λ (k : ℕ). getD till (k + 1) 0) at-is
-      ∙ ap (λ (l : List ℕ). getD l (length (front b (t .last) (suc (length us)) us) + 1) 0) parted
-      ∙ getD-append-add (front b (t .last) (suc (length us)) us) (versionToWords b u ++ left v b (suc (length us))) 1 0
+      ∙ ap (λ (l : List ℕ). getD l (length (front b (t .last) (t .rights) (suc (length us)) us) + 1) 0) parted
+      ∙ getD-append-add (front b (t .last) (t .rights) (suc (length us)) us) (versionToWords b u ++ left v b (suc (length us))) 1 0
 
   abbrev head : List ℕ
-  head = front b (t .last) (suc (length us)) us ++ (u .number ∷ u .length ∷ u .day ∷ [])
+  head = front b (t .last) (t .rights) (suc (length us)) us ++ (u .number ∷ u .length ∷ u .day ∷ [])
 
   head-length : length head ≡ newestAt b till + 3
-  head-length = omega (arith, length-append (front b (t .last) (suc (length us)) us) (u .number ∷ u .length ∷ u .day ∷ []), at-is)
+  head-length = omega (arith, length-append (front b (t .last) (t .rights) (suc (length us)) us) (u .number ∷ u .length ∷ u .day ∷ []), at-is)
 
   pointed : till ≡ head ++ (fill b (map pointerWord (u .pointers)) ++ left v b (suc (length us)))
-  pointed = parted ∙ slot-head b (front b (t .last) (suc (length us)) us) u (left v b (suc (length us)))
+  pointed = parted ∙ slot-head b (front b (t .last) (t .rights) (suc (length us)) us) u (left v b (suc (length us)))
 
   read : (bytes : ℕ) → Each (Whole bytes b) (t .versions) → (n : ℕ) → n ≡ partsFor bytes (getD till (newestAt b till + 1) 0)
       → take n (drop (newestAt b till + 3) till) ≡ map pointerWord (newestPointers (t .versions))
@@ -162,9 +162,9 @@ module _ (v b : ℕ) (t : Till) (till : List ℕ) (most : length (t .versions) �
       let y : ys ≡ fill b pws = ey ∙ ap (λ (x : List ℕ). pws ++ drop (length pws) x) mid ∙ over-fill b ws pws same lp in
       ap (λ (x : List ℕ). take a till ++ (x ++ drop b (drop a till))) (y ∙ ap (fill b) ep)
       ∙ mid-put head (fill b ws) z till a b pointed head-length (length-fill b ws) (fill b (map pointerWord ps))
-      ∙ sym (slot-head b (front b (t .last) (suc (length us)) us) (withPointers u ps) z)
-      ∙ sym (till-split v b (t .last) us (withPointers u ps) room)
-      ∙ cong-till v b (t .last) (us ++ (withPointers u ps ∷ [])) (withNewestPointers (t .versions) ps) (sym (turned-is us u ps) ∙ ap (λ (vs : List Version). withNewestPointers vs ps) (sym is))
+      ∙ sym (slot-head b (front b (t .last) (t .rights) (suc (length us)) us) (withPointers u ps) z)
+      ∙ sym (till-split v b (t .last) (t .rights) us (withPointers u ps) room)
+      ∙ cong-till v b (t .last) (t .rights) (us ++ (withPointers u ps ∷ [])) (withNewestPointers (t .versions) ps) (sym (turned-is us u ps) ∙ ap (λ (vs : List Version). withNewestPointers vs ps) (sym is))
 
 some-versions : (v b : ℕ) (t : Till) (till : List ℕ) → till ≡ tillToWords v b t → 0 < getD till 1 0 → Ends (t .versions)
 some-versions v b t till et some = ends (t .versions) (omega (arith, some, ap (λ (l : List ℕ). getD l 1 0) et, held-word v b t))
@@ -207,9 +207,9 @@ slot-zeros b number bytes day ps pws e h =
     ap (λ (m : List ℕ). number ∷ bytes ∷ day ∷ (pws ++ drop (length pws) (drop 3 m))) (three b)
     ∙ ap (λ (l : List ℕ). number ∷ bytes ∷ day ∷ l) (over-zeros b pws h ∙ ap (fill b) e)
 
-new-head : (b last held last′ held′ : ℕ) (us : List Version) (rest : List ℕ) → last′ ∷ held′ ∷ drop 2 (front b last held us ++ rest) ≡ front b last′ held′ us ++ rest
+new-head : (b last held last′ held′ : ℕ) (rights : List Rights) (us : List Version) (rest : List ℕ) → last′ ∷ held′ ∷ drop 2 (front b last rights held us ++ rest) ≡ front b last′ rights held′ us ++ rest
 unfolding front
-new-head b last held last′ held′ us rest = refl
+new-head b last held last′ held′ rights us rest = refl
 
 pub version-added : (b : ℕ) (till : List ℕ) (bytes day : ℕ) (pws slot out : List ℕ) → length pws ≤ b
     → slot ≡ (getD till 0 0 + 1) ∷ bytes ∷ day ∷ (pws ++ drop (length pws) (drop 3 (midOf (4 + getD till 1 0 * (3 + b)) (4 + getD till 1 0 * (3 + b) + (3 + b) - (4 + getD till 1 0 * (3 + b))) till)))
@@ -221,15 +221,15 @@ version-added b till bytes day pws slot out lp es eo v t ps most et ep =
     let n : ℕ = length us in
     let new : Version = record { number = suc (t .last); length = bytes; day = day; pointers = ps } in
     let z : List ℕ = left v b (suc n) in
-    let f : List ℕ = front b (t .last) n us in
-    let lf : length f ≡ 4 + n * (3 + b) = front-length b (t .last) n us in
+    let f : List ℕ = front b (t .last) (t .rights) n us in
+    let lf : length f ≡ 4 + n * (3 + b) = front-length b (t .last) (t .rights) n us in
     let held : getD till 1 0 ≡ n = ap (λ (l : List ℕ). getD l 1 0) et ∙ held-word v b t in
     let last : getD till 0 0 + 1 ≡ suc (t .last) = omega (arith, ap (λ (l : List ℕ). getD l 0 0) et, last-word v b t) in
     let one : getD till 1 0 + 1 ≡ suc n = omega (arith, held) in
     let a : ℕ = 4 + getD till 1 0 * (3 + b) in
     let ea : length f ≡ a = lf ∙ ap (λ (k : ℕ). 4 + k * (3 + b)) (sym held) in
     let k : a + (3 + b) - a ≡ 3 + b = omega arith in
-    let opened : till ≡ f ++ (fill (3 + b) [] ++ z) = et ∙ till-slot v b (t .last) us most in
+    let opened : till ≡ f ++ (fill (3 + b) [] ++ z) = et ∙ till-slot v b (t .last) (t .rights) us most in
     let mid : midOf a (a + (3 + b) - a) till ≡ fill (3 + b) [] =
     ap (λ (j : ℕ). take j (drop a till)) k ∙ mid-is f (fill (3 + b) []) z till a (3 + b) opened ea (length-fill (3 + b) []) in
     let slot-is : slot ≡ versionToWords b new =
@@ -240,8 +240,8 @@ version-added b till bytes day pws slot out lp es eo v t ps most et ep =
     ∙ mid-put f (fill (3 + b) []) z till a (3 + b) opened ea (length-fill (3 + b) []) (versionToWords b new) in
     eo ∙ ap (λ (x : List ℕ). (getD till 0 0 + 1) ∷ (getD till 1 0 + 1) ∷ drop 2 x) put
     ∙ ap₂ (λ (x y : ℕ). x ∷ y ∷ drop 2 (f ++ (versionToWords b new ++ z))) last one
-    ∙ new-head b (t .last) n (suc (t .last)) (suc n) us (versionToWords b new ++ z)
-    ∙ sym (till-split v b (suc (t .last)) us new most)
+    ∙ new-head b (t .last) n (suc (t .last)) (suc n) (t .rights) us (versionToWords b new ++ z)
+    ∙ sym (till-split v b (suc (t .last)) (t .rights) us new most)
 
 -- ---- three words, and a slot's
 

@@ -34,10 +34,10 @@ pub record Held (bytes v b : ℕ) (t : Till) : Type 0 where
   pub versions : Each (Whole bytes b) (t .versions)
 
 abbrev pub turnedTill : Till → List Pointer → Till
-turnedTill t ps = record { last = t .last; versions = withNewestPointers (t .versions) ps }
+turnedTill t ps = record { last = t .last; rights = t .rights; versions = withNewestPointers (t .versions) ps }
 
 abbrev pub addedTill : Till → ℕ → ℕ → List Pointer → Till
-addedTill t bytes day ps = record { last = suc (t .last); versions = t .versions ++ (record { number = suc (t .last); length = bytes; day = day; pointers = ps } ∷ []) }
+addedTill t bytes day ps = record { last = suc (t .last); rights = t .rights; versions = t .versions ++ (record { number = suc (t .last); length = bytes; day = day; pointers = ps } ∷ []) }
 
 -- the two words of the head, and the length, are as they were
 pub record SameHead (old new : List ℕ) : Type 0 where

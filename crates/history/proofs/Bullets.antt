@@ -2,7 +2,7 @@
 use mathlib.Core.Path.{_≡_, refl, sym, ap, ap₂, _∙_, subst}
 use mathlib.Core.Bool.{Bool, true, false, cond, _||_}
 use mathlib.Core.List.{List, [], _∷_, _++_}
-use mathlib.Core.Option.{Option, none, some}
+use mathlib.Core.Option.{Option, none}
 use Prim.Native.Nat.{ℕ, suc, _*_, _≤_, _<_, zero-le}
 use native.Mathlib.Nat.{suc-ne-zero}
 use native.Mathlib.Omega.{arith}
@@ -18,10 +18,12 @@ use Rattle.model.specs.Trace.{longestChain}
 use Rattle.laws.proofs.Tills.{not-held-some}
 use Rattle.model.specs.Sound.{storeOf}
 use Rattle.model.specs.Calls.{tillOf, heldFrom, BackupAnswer, backupBy, restoreOf, restoreRefusal, retireOf, listingOf, listingRefusal, RestoreAnswer, ListingAnswer, retire, backup, notHeld}
-use Rattle.history.specs.Calls.{Call, callBackup, callBackupSent, callRestore, callRetire, callListing, Buffers, refusalOf, Answer, laidOut, backedUp, restored, retired, listed, foundOn, tallied, streamed, offered, backedUpAll, answerOf, refusalIn}
+use Rattle.model.specs.Rights.{toBackUp, toRestore, userRefusal, backupRefusal, restoreAs}
+use Rattle.history.specs.Calls.{Call, callBackup, callBackupSent, callRestore, callRetire, callListing, Buffers, Answer, laidOut, backedUp, restored, retired, listed, foundOn, tallied, streamed, offered, backedUpAll, rightsSet, answerOf, refusalIn}
+use Rattle.history.specs.Users.{answerBy, refusalBy}
 use Rattle.history.specs.Keeper.{Kept, KeptTill, Keeper, noTill, keptTill, filed, imageSent, fed, fedEach, comesTo, keptFrom, oldestKept, newestKept}
 use Rattle.history.specs.View.{VersionView, TillView, viewOf, viewAt, isOnTill, tillNamed, chainShown, newestDayShown, dayShown, shownFrom, oldestShown, newestShown, restoreShown, retireShown, answerShown}
-use Rattle.sent.specs.Sent.{backupSentBy, backupSentOf}
+use Rattle.sent.specs.Sent.{backupSentBy, backupSentOf, backupSentAs}
 use Rattle.history.specs.Demand.{Restores}
 use Rattle.history.proofs.Sent.{accepted-is}
 use Rattle.history.proofs.Local.{Roomy, HasRoom, answer-in}
@@ -29,6 +31,7 @@ use Rattle.history.proofs.Shown.{from-same, chain-is}
 use Rattle.history.proofs.Chains.{chain-most}
 use Rattle.history.proofs.Kept.{Agree, agree-from, agree-oldest, agree-newest, agree-length}
 use Rattle.history.proofs.Fed.{Stands}
+use Rattle.history.proofs.Keys.{may-same, may-missing, accepted-same}
 use Rattle.history.proofs.Steps.{Left, answer-same}
 
 unrestored : Answer → RestoreAnswer
@@ -42,6 +45,7 @@ unrestored (tallied a) = restoreRefusal 0 []
 unrestored (streamed a) = restoreRefusal 0 []
 unrestored (offered a) = restoreRefusal 0 []
 unrestored (backedUpAll a) = restoreRefusal 0 []
+unrestored (rightsSet n) = restoreRefusal 0 []
 
 unlisted : Answer → ListingAnswer
 unlisted (laidOut n) = listingRefusal n
@@ -54,9 +58,10 @@ unlisted (tallied a) = listingRefusal 0
 unlisted (streamed a) = listingRefusal 0
 unlisted (offered a) = listingRefusal 0
 unlisted (backedUpAll a) = listingRefusal 0
+unlisted (rightsSet n) = listingRefusal 0
 
 -- a version's number, or a length
-numberIn : Answer → ℕ
+unfoldable pub numberIn : Answer → ℕ
 numberIn (laidOut n) = 0
 numberIn (backedUp n v) = v
 numberIn (restored a) = 0
@@ -67,6 +72,7 @@ numberIn (tallied a) = 0
 numberIn (streamed a) = 0
 numberIn (offered a) = 0
 numberIn (backedUpAll a) = 0
+numberIn (rightsSet n) = 0
 
 -- The law: a call on a till answers what the till's view says, 14 and 16 apart.
 pub answer-shown : (s : Shape) (b : Buffers) (st : State) → Left s b st → (call : Call) → isOnTill call ≡ true → HasRoom call (answerOf b call)
@@ -148,6 +154,16 @@ module _ (s : Shape) (b : Buffers) (st : State) (k : Keeper) (l : Left s b st) (
       go [] q a = absurd a
       go (w ∷ ws) q a = f w ws a q
 
+  -- by a user who may
+  restore-by : (u t v : ℕ) (output : List ℕ) → userRefusal (leb (length k) t) (keptTill k t .rights) u toRestore ≡ 0 → restoreAs (b .pool) (b .table) u t v output ≡ restoreOf (b .pool) (b .table) t v output
+  unfolding restoreAs
+  restore-by u t v output m = may-same s b st k l z u t toRestore (λ n. restoreRefusal n output) (restoreOf (b .pool) (b .table) t v output) m
+
+  held-by : (u t v : ℕ) (x : Kept) (newer : List Kept) (output : List ℕ) (Q : RestoreAnswer → Type 0) → userRefusal (leb (length k) t) (keptTill k t .rights) u toRestore ≡ 0 → keptFrom v (keptTill k t .versions) ≡ x ∷ newer
+      → ((w : VersionView) (ws : List VersionView) → Agree (s .measures .blockBytes) (x ∷ newer) (w ∷ ws) → shownFrom v (shown t .versions) ≡ w ∷ ws → Q (restoreShown (notHeld (shown t .last) v) (w ∷ ws) output))
+      → Q (restoreAs (b .pool) (b .table) u t v output)
+  held-by u t v x newer output Q m e f = subst Q (sym (restore-by u t v output m)) (held-is t v x newer output Q e f)
+
   chain-of : (t v : ℕ) → chainShown (shownFrom v (shown t .versions)) ≡ longestChain (heldFrom v (tillOf st t .versions))
   unfolding shown viewOf
   chain-of t v =
@@ -157,28 +173,28 @@ module _ (s : Shape) (b : Buffers) (st : State) (k : Keeper) (l : Left s b st) (
   pub restores : Restores (s .measures .blockBytes) st k b
   unfolding restoreShown restoreRefusal
   restores = record {
-    given = λ t v x newer output e q.
-        held-is t v x newer output (λ (r : RestoreAnswer). (r .refusal ≡ 0) × (r .length ≡ length (x .image)) × (r .output ≡ x .image ++ drop (length (x .image)) output)
-        × (r .hops ≡ longestChain (heldFrom v (tillOf st t .versions)))) e (λ w ws a y.
+    given = λ u t v x newer output m e q.
+        held-by u t v x newer output (λ (r : RestoreAnswer). (r .refusal ≡ 0) × (r .length ≡ length (x .image)) × (r .output ≡ x .image ++ drop (length (x .image)) output)
+        × (r .hops ≡ longestChain (heldFrom v (tillOf st t .versions)))) m e (λ w ws a y.
         rw (le-ltb (length output) (w .length) (omega (arith, q, a .0 .size))) (
           refl,
           a .0 .size,
           ap₂ (λ (i : List ℕ) (n : ℕ). i ++ drop n output) (a .0 .image) (a .0 .size),
           ap chainShown (sym y) ∙ chain-of t v,
         ));
-    short = λ t v x newer output e q.
-        held-is t v x newer output (λ (r : RestoreAnswer). r .refusal ≡ 5) e (λ w ws a y. rw (lt-ltb (length output) (w .length) (omega (arith, q, a .0 .size))) refl);
-    notHeld = λ t v output e q.
-        ap (λ (r : RestoreAnswer). r .refusal) (restore-is t v output)
+    short = λ u t v x newer output m e q.
+        held-by u t v x newer output (λ (r : RestoreAnswer). r .refusal ≡ 5) m e (λ w ws a y. rw (lt-ltb (length output) (w .length) (omega (arith, q, a .0 .size))) refl);
+    notHeld = λ u t v output m e q.
+        ap (λ (r : RestoreAnswer). r .refusal) (restore-by u t v output m ∙ restore-is t v output)
         ∙ ap (λ (b : Bool). cond b (restoreRefusal 3 output) (restoreShown (notHeld (shown t .last) v) (shownFrom v (shown t .versions)) output) .refusal) (there t q)
         ∙ none (notHeld (shown t .last) v) output (shownFrom v (shown t .versions)) (none-shown t v e)
         ∙ ap (λ (n : ℕ). notHeld n v) (last-is t);
-    noTill = λ t v output q.
-        ap (λ (r : RestoreAnswer). r .refusal) (restore-is t v output)
+    noTill = λ u t v output q.
+        ap (λ (r : RestoreAnswer). r .refusal) (restore-by u t v output (may-missing k u t toRestore q) ∙ restore-is t v output)
         ∙ ap (λ (b : Bool). cond b (restoreRefusal 3 output) (restoreShown (notHeld (shown t .last) v) (shownFrom v (shown t .versions)) output) .refusal)
         (le-leb (s .capacities .tills) t (omega (arith, q, z .many)));
-    chain = λ t v x newer output e.
-        held-is t v x newer output (λ (r : RestoreAnswer). r .hops ≤ length newer) e (λ w ws a y.
+    chain = λ u t v x newer output m e.
+        held-by u t v x newer output (λ (r : RestoreAnswer). r .hops ≤ length newer) m e (λ w ws a y.
         by-test (λ (r : RestoreAnswer). r .hops ≤ length newer) (ltb (length output) (w .length)) (λ q. zero-le)
         (λ q. subst (λ (n : ℕ). chainShown (w ∷ ws) ≤ n) (agree-length (s .measures .blockBytes) newer ws (a .1)) (chain-most s (l .fit .proper) st (l .sound) t v w ws (unfold shown in y))));
   }
@@ -279,16 +295,27 @@ module _ (s : Shape) (b : Buffers) (st : State) (k : Keeper) (l : Left s b st) (
       let g = backup-given era t d image e in
       g .0 ∙ ap suc (last-is t) ∙ sym (fed-last era t d image (omega (arith, leb-false (s .capacities .tills) t (g .1), z .many)))
 
-  pub sent-last : (t n : ℕ) (fs ms ss : List ℕ) → backupSentOf (b .pool) (b .table) t n fs ms ss .refusal ≡ 0
-      → backupSentOf (b .pool) (b .table) t n fs ms ss .version ≡ keptTill (fedEach k (comesTo b (callBackupSent t n fs ms ss))) t .last
-  unfolding comesTo fedEach refusalOf
-  sent-last t n fs ms ss e =
+  sent-same : (t n : ℕ) (fs ms ss : List ℕ) → backupSentOf (b .pool) (b .table) t n fs ms ss .refusal ≡ 0
+      → backupSentOf (b .pool) (b .table) t n fs ms ss ≡ backupBy withBlanks (b .pool) (b .table) t none (imageSent (storeOf (b .pool) (b .table)) t n fs ms ss)
+  unfolding backupSentOf backupSentBy backupBy
+  sent-same t n fs ms ss ok = accepted-is (storeOf (b .pool) (b .table)) (b .pool) (b .table) t n fs ms ss ok
+
+  pub sent-last : (u t n : ℕ) (fs ms ss : List ℕ) → backupSentAs (b .pool) (b .table) u t n fs ms ss .refusal ≡ 0
+      → backupSentAs (b .pool) (b .table) u t n fs ms ss .version ≡ keptTill (fedEach k (comesTo b u (callBackupSent t n fs ms ss))) t .last
+  unfolding comesTo fedEach refusalBy answerBy refusalIn
+  sent-last u t n fs ms ss e =
       let image : List ℕ = imageSent (storeOf (b .pool) (b .table)) t n fs ms ss in
-      let same : backupSentOf (b .pool) (b .table) t n fs ms ss ≡ backupBy withBlanks (b .pool) (b .table) t none image =
-      unfold backupSentOf backupSentBy backupBy in accepted-is (storeOf (b .pool) (b .table)) (b .pool) (b .table) t n fs ms ss (unfold backupSentOf backupSentBy in e) in
-      ap (λ (a : BackupAnswer). a .version) same
-      ∙ backup-last withBlanks t none image (sym (ap (λ (a : BackupAnswer). a .refusal) same) ∙ e)
-      ∙ ap (λ (ok : Bool). keptTill (fed k (callBackup withBlanks t none image) ok) t .last) (sym (eq-eqb (backupSentOf (b .pool) (b .table) t n fs ms ss .refusal) 0 e))
+      let owners : backupSentAs (b .pool) (b .table) u t n fs ms ss ≡ backupSentOf (b .pool) (b .table) t n fs ms ss = sent-by u t n fs ms ss e in
+      let ok : backupSentOf (b .pool) (b .table) t n fs ms ss .refusal ≡ 0 = sym (ap (λ (a : BackupAnswer). a .refusal) owners) ∙ e in
+      let same : backupSentOf (b .pool) (b .table) t n fs ms ss ≡ backupBy withBlanks (b .pool) (b .table) t none image = sent-same t n fs ms ss ok in
+      ap (λ (a : BackupAnswer). a .version) (owners ∙ same)
+      ∙ backup-last withBlanks t none image (sym (ap (λ (a : BackupAnswer). a .refusal) same) ∙ ok)
+      ∙ ap (λ (ok : Bool). keptTill (fed k (callBackup withBlanks t none image) ok) t .last) (sym (eq-eqb (backupSentAs (b .pool) (b .table) u t n fs ms ss .refusal) 0 e))
+    where
+      sent-by : (u t n : ℕ) (fs ms ss : List ℕ) → backupSentAs (b .pool) (b .table) u t n fs ms ss .refusal ≡ 0 → backupSentAs (b .pool) (b .table) u t n fs ms ss ≡ backupSentOf (b .pool) (b .table) t n fs ms ss
+      sent-by u t n fs ms ss e =
+          unfold backupSentAs in
+          accepted-same s b st k l z (λ (a : BackupAnswer). a .refusal) (backupRefusal (b .pool) (b .table)) (λ n. unfold backupRefusal in refl) u t toBackUp (backupSentOf (b .pool) (b .table) t n fs ms ss) (unfold backupSentAs in e)
 
   pub listing-kept : (t : ℕ) → listingOf (b .pool) (b .table) t .refusal ≡ 0
       → (listingOf (b .pool) (b .table) t .oldest ≡ oldestKept (keptTill k t .versions))

@@ -1,37 +1,40 @@
 -- §13: the days of a till's versions never fall, and lookup by day goes by the keeper's.
 use mathlib.Core.Path.{_≡_, refl, sym, ap, ap₂, _∙_, subst}
-use mathlib.Core.Bool.{Bool, true, false, cond, false≢true}
+use mathlib.Core.Bool.{Bool, true, false, cond}
 use mathlib.Core.List.{List, [], _∷_, _++_, map, map-append}
-use mathlib.Core.Option.{Option, none, some}
+use mathlib.Core.Option.{Option, none}
 use Prim.Native.Nat.{ℕ, zero, suc, _≤_, _<_}
 use native.Mathlib.Nat.{suc-ne-zero}
 use native.Mathlib.Omega.{arith}
 use lib.ListN.{length, getD, replicate, List·getD-eq-default}
 use lib.Dec.{eqb, leb}
-use borrow.Author.Tests.{ne-eqb, eqb-true, eqb-false, leb-true, leb-false, le-leb, lt-leb}
+use borrow.Author.Tests.{ne-eqb, eqb-true, eqb-false, leb-true, le-leb, lt-leb}
 use Rattle.lists.specs.Lists.{keep}
 use Rattle.lists.specs.Each.{Each}
 use Rattle.lists.proofs.Each.{each-append}
 use Rattle.lists.proofs.Keep.{keep-same}
 use Rattle.model.specs.Measures.{Shape}
 use Rattle.model.specs.Image.{Era, imageBlocks}
-use Rattle.model.specs.State.{Block, Version, State, Outcome, refused, done}
+use Rattle.model.specs.State.{Block, Rights, State, Outcome, refused, done}
 use Rattle.model.specs.Sound.{isSound, Store}
 use Rattle.model.specs.Calls.{emptyTill, emptyState, tillOf, After, backup, retire, outcomeRefusal, newestDay, dayFor, VersionOnAnswer, versionOnIn, versionOnOf}
+use Rattle.model.specs.Rights.{toList, versionOnRefusal, versionOnAs, setRights}
 use Rattle.laws.proofs.Fits.{Proper}
 use Rattle.laws.proofs.Backup.{backup-day}
-use Rattle.history.specs.Calls.{Call, callLayout, callBackup, callRestore, callRetire, callListing, callVersionOn, callTally, callWriteStream, callOffer, callBackupSent, callBackupAll, Buffers, stateAfter, stateAfterAll, buffersAfter, refusedLayouts, answerIn, refusalIn, isAccepted}
+use Rattle.history.specs.Calls.{Call, callLayout, callBackup, callRestore, callRetire, callListing, callVersionOn, callTally, callWriteStream, callOffer, callBackupSent, callBackupAll, callSetRights, Buffers, stateAfter, answerIn, refusalIn, isAccepted}
+use Rattle.history.specs.Users.{UserCall, buffersBy, stateBy, refusedLayouts, stateAfterAll}
 use Rattle.history.specs.Keeper.{Kept, KeptTill, Keeper, noTill, keptTill, newestKept, keptNotAfter, CallMade, comesTo}
-use Rattle.history.specs.View.{VersionView, TillView, viewVersions, viewOf, viewAt, tillNamed, withKinds, turnNewest, newestDayShown, dayShown, shownWith, takeOverKind, dropVersion, shownWithout, changed, IsPlain, shownNotAfter}
+use Rattle.history.specs.View.{VersionView, TillView, viewVersions, viewOf, viewAt, tillNamed, withKinds, turnNewest, newestDayShown, dayShown, shownWith, takeOverKind, dropVersion, shownWithout, shownRights, changed, IsPlain, shownNotAfter}
 use Rattle.history.specs.Demand.{NeverFall, Days}
 use Rattle.history.proofs.Shown.{lastOf, newestOf, newest-day-is, day-is, views-days, newest-or-none, of-views}
 use Rattle.history.proofs.Numbered.{Numbered, backup-numbered}
-use Rattle.history.proofs.Reach.{sound-after}
 use Rattle.history.proofs.Frame.{frame-own, frame-other}
 use Rattle.history.proofs.Kept.{Agree, agree-numbers, agree-days}
-use Rattle.history.proofs.Steps.{Left, left-store, left-one}
-use Rattle.history.proofs.Carried.{Carries, carried}
+use Rattle.history.proofs.Steps.{Left, left-store}
+use Rattle.history.proofs.Users.{left-by}
+use Rattle.history.proofs.Carried.{madeOf, made-sound, Carries, carried}
 use Rattle.history.proofs.Fed.{Stands}
+use Rattle.history.proofs.Keys.{may-same, may-missing}
 
 -- ---- days that never fall
 
@@ -143,6 +146,12 @@ module _ (s : Shape) (pr : Proper (s .measures)) (st : State) (h : isSound s st 
   retire-days t v true = unfold daysOf in struck-days v (viewAt (s .measures .blockBytes) st t .versions) (unfold daysOf in z t)
   retire-days t v false = z t
 
+  rights-days : (subject t : ℕ) (r : Rights) (ok : Bool)
+      → NeverFall (map (λ (w : VersionView). w .day) (changed (s .measures .blockBytes) (callSetRights subject t r) ok (viewAt (s .measures .blockBytes) st t) .versions))
+  unfolding changed shownRights
+  rights-days subject t r true = z t
+  rights-days subject t r false = z t
+
   own-days : (call : Call) → IsPlain call
       → NeverFall (map (λ (w : VersionView). w .day) (changed (s .measures .blockBytes) call (isAccepted s st call) (viewAt (s .measures .blockBytes) st (tillNamed call)) .versions))
   unfolding isAccepted answerIn refusalIn tillNamed changed
@@ -157,6 +166,7 @@ module _ (s : Shape) (pr : Proper (s .measures)) (st : State) (h : isSound s st 
   own-days (callOffer t fs ms) p = z t
   own-days (callBackupSent t n fs ms ss) p = absurd p
   own-days (callBackupAll ts ns is) p = absurd p
+  own-days (callSetRights subject t r) p = unfold changed in rights-days subject t r (eqb (outcomeRefusal (setRights s st 0 subject t r)) 0)
 
   dated-plain : (call : Call) → IsPlain call → Dated s (stateAfter s st call)
   dated-plain call p t = go (eqb t (tillNamed call)) refl
@@ -173,15 +183,18 @@ module _ (s : Shape) (pr : Proper (s .measures)) (st : State) (h : isSound s st 
 
 dated-each : (s : Shape) → Proper (s .measures) → (ms : List CallMade) (st end : State) → isSound s st ≡ true → Carries s st ms end → Dated s st → Dated s end
 dated-each s pr [] st end h c z = subst (Dated s) c z
-dated-each s pr (m ∷ ms) st end h c z =
-    dated-each s pr ms (stateAfter s st (m .call)) end (sound-after s pr st h (m .call)) (c .2) (dated-plain s pr st h z (m .call) (c .0))
+dated-each s pr (m ∷ ms) st end h c z = dated-each s pr ms (madeOf s st m) end (made-sound s pr st h m) (c .2) (go (m .accepted))
+  where
+    go : (b : Bool) → Dated s (cond b (stateAfter s st (m .call)) st)
+    go true = dated-plain s pr st h z (m .call) (c .0)
+    go false = z
 
-pub dated-all : (s : Shape) (calls : List Call) (b : Buffers) (st : State) → Left s b st → Dated s st → refusedLayouts b calls → Dated s (stateAfterAll s st calls)
+pub dated-all : (s : Shape) (calls : List UserCall) (b : Buffers) (st : State) → Left s b st → Dated s st → refusedLayouts b calls → Dated s (stateAfterAll s st calls)
 unfolding stateAfterAll
 dated-all s [] b st l z r = z
-dated-all s (call ∷ calls) b st l z r =
-    dated-all s calls (buffersAfter b call) (stateAfter s st call) (left-one s b st call l (r .0))
-    (dated-each s (l .fit .proper) (comesTo b call) st (stateAfter s st call) (l .sound) (carried s b st l call) z) (r .1)
+dated-all s (c ∷ calls) b st l z r =
+    dated-all s calls (buffersBy b (c .user) (c .call)) (stateBy s st (c .user) (c .call)) (left-by s b st (c .user) (c .call) l (r .0))
+    (dated-each s (l .fit .proper) (comesTo b (c .user) (c .call)) st (stateBy s st (c .user) (c .call)) (l .sound) (carried s b st l (c .user) (c .call)) z) (r .1)
 
 -- ---- the keeper's days
 
@@ -252,11 +265,15 @@ module _ (s : Shape) (b : Buffers) (st : State) (k : Keeper) (l : Left s b st) (
   days = record {
     kept = λ t. sym (views-days (s .measures .blockBytes) (st .shelf) (tillOf st t .versions)) ∙ same-days t;
     ordered = λ t. subst NeverFall (same-days t) (days-shown t);
-    given = λ t day x xs e. (ap (λ (a : VersionOnAnswer). a .refusal) (given t day x xs e), ap (λ (a : VersionOnAnswer). a .version) (given t day x xs e));
-    none = too-early;
-    noTill = λ t day q.
-        ap (λ (a : VersionOnAnswer). a .refusal)
-        (found-is t day
+    given = λ u t day x xs m e.
+        let is = may-same s b st k l z u t toList versionOnRefusal (versionOnOf (b .pool) (b .table) t day) m in
+        unfold versionOnAs in (ap (λ (a : VersionOnAnswer). a .refusal) (is ∙ given t day x xs e), ap (λ (a : VersionOnAnswer). a .version) (is ∙ given t day x xs e));
+    none = λ u t day m e q.
+        unfold versionOnAs in (ap (λ (a : VersionOnAnswer). a .refusal) (may-same s b st k l z u t toList versionOnRefusal (versionOnOf (b .pool) (b .table) t day) m) ∙ too-early t day e q);
+    noTill = λ u t day q.
+        unfold versionOnAs in ap (λ (a : VersionOnAnswer). a .refusal)
+        (may-same s b st k l z u t toList versionOnRefusal (versionOnOf (b .pool) (b .table) t day) (may-missing k u t toList q)
+        ∙ found-is t day
         ∙ ap (λ (q : Bool). cond q (record { refusal = 3; version = 0 }) (newestOf (map (λ (y : Kept). y .number) (keptNotAfter day (keptTill k t .versions)))))
         (le-leb (s .capacities .tills) t (omega (arith, q, z .many))));
   }

@@ -12,11 +12,13 @@ use Rattle.model.specs.Measures.{Shape}
 use Rattle.model.specs.State.{Pointer, nullPointer, blankPointer, direct, indirect, Shelf, Version, State}
 use Rattle.model.specs.Image.{imageBlocks}
 use Rattle.model.specs.Table.{stateToBytes, cellsIn}
-use Rattle.model.specs.Sound.{Store, nextPointers}
-use Rattle.model.specs.Calls.{emptyState, tallyIn, tallyOf, tillOf, heldFrom}
+use Rattle.model.specs.Sound.{Store, storeOf, nextPointers}
+use Rattle.model.specs.Calls.{emptyState, TallyAnswer, tallyIn, tallyOf, tillOf, heldFrom}
+use Rattle.model.specs.Rights.{ownerRefusal, unless, tallyRefusal, tallyAs}
 use Rattle.laws.proofs.Serves.{sound-valid}
 use Rattle.laws.proofs.Named.{named-full, named-inside, named-count}
-use Rattle.history.specs.Calls.{Buffers, buffersAfterAll, stateAfterAll}
+use Rattle.history.specs.Calls.{Buffers}
+use Rattle.history.specs.Users.{buffersAfterAll, stateAfterAll}
 use Rattle.history.specs.Keeper.{Kept, Keeper, freshKeeper, fedAll, keptFrom, keptTill}
 use Rattle.history.specs.Kinds.{kindOf}
 use Rattle.history.specs.View.{viewVersions, viewOf, viewAt}
@@ -24,12 +26,14 @@ use Rattle.history.specs.Demand.{IsDirect, Shares, Cells, Holds, laidOut
 use Rattle.history.proofs.Shown.{from-same, shown-numbers}
 use Rattle.history.proofs.Kept.{isDirectKind, Agree, agree-from, agree-numbers}
 use Rattle.history.proofs.Fed.{Stands, stands-fresh, stands-all}
-use Rattle.history.proofs.Steps.{Left, left-all, left-laid, answers-same, left-store}
+use Rattle.history.proofs.Steps.{Left, left-laid, left-store}
+use Rattle.history.proofs.Users.{left-all, answers-same}
 use Rattle.history.proofs.Cells.{named-leads}
 use Rattle.history.proofs.Bullets.{restores}
 use Rattle.history.proofs.Answered.{answers}
 use Rattle.history.proofs.Days.{Dated, dated-empty, dated-all, days}
 use Rattle.history.proofs.Streams.{streams}
+use Rattle.history.proofs.Keys.{unless-none, accepted-none, keys}
 
 -- ---- a block that a version shares with one taken while it was the newest
 
@@ -80,14 +84,17 @@ module _ (s : Shape) (b : Buffers) (st : State) (k : Keeper) (l : Left s b st) (
       ∙ chunks-joined (s .measures .blockBytes) (st .shelf .cells) (sound-valid s st (l .sound) .fits .cells) (l .fit .proper .bytes)
 
   cells : Cells (s .measures .blockBytes) st k b s
-  unfolding tallyOf tallyIn
+  unfolding tallyAs tallyOf tallyIn
   cells = record {
     inPool = pool-cells;
     nonZero = named-full (st .shelf) (sound-valid s st (l .sound) .exact);
     led = named-leads s st (l .sound);
     inside = named-inside s st (l .sound);
-    counts = λ z. ap (λ (o : Option Store). tallyIn o .cells) (left-store s b st l) ∙ named-count s st (l .sound);
+    counts = λ u e. ap (λ (a : TallyAnswer). a .cells) (tally-accepted (ownerRefusal (storeOf (b .pool) (b .table)) u) e) ∙ ap (λ (o : Option Store). tallyIn o .cells) (left-store s b st l) ∙ named-count s st (l .sound);
   }
+    where
+      tally-accepted : (n : ℕ) → unless n tallyRefusal (tallyIn (storeOf (b .pool) (b .table))) .refusal ≡ 0 → unless n tallyRefusal (tallyIn (storeOf (b .pool) (b .table))) ≡ tallyIn (storeOf (b .pool) (b .table))
+      tally-accepted n e = unless-none n tallyRefusal (tallyIn (storeOf (b .pool) (b .table))) (accepted-none (λ (a : TallyAnswer). a .refusal) tallyRefusal (λ n. unfold tallyRefusal in refl) n (tallyIn (storeOf (b .pool) (b .table))) e)
 
   pub holds : Holds (s .measures .blockBytes) st k b s
   holds = record {
@@ -99,6 +106,7 @@ module _ (s : Shape) (b : Buffers) (st : State) (k : Keeper) (l : Left s b st) (
     streams = streams s b st k l z;
     answers = answers s b st k l z;
     days = days s b st k l z d;
+    keys = keys s b st k l z;
     shares = shares;
     cells = cells;
   }

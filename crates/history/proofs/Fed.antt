@@ -1,8 +1,8 @@
 -- The keeper, fed call by call, stands beside the store: each till shows what is kept of it.
 use mathlib.Core.Path.{_≡_, refl, sym, ap, _∙_, subst}
-use mathlib.Core.Bool.{Bool, true, false}
+use mathlib.Core.Bool.{Bool, true, false, cond}
 use mathlib.Core.List.{List, [], _∷_}
-use mathlib.Core.Option.{Option, none, some}
+use mathlib.Core.Option.{none}
 use Prim.Native.Nat.{ℕ, zero, suc, _-_, _≤_}
 use native.Mathlib.Omega.{arith}
 use lib.ListN.{length, getD, set, replicate, length-set, length-replicate}
@@ -13,16 +13,18 @@ use Rattle.model.specs.Measures.{Shape}
 use Rattle.model.specs.State.{State}
 use Rattle.model.specs.Sound.{isSound}
 use Rattle.model.specs.Calls.{emptyTill, tillOf, emptyState, backup, retire, outcomeRefusal}
+use Rattle.model.specs.Rights.{setRights}
 use Rattle.laws.proofs.Fits.{Proper}
-use Rattle.history.specs.Calls.{Call, callLayout, callBackup, callRestore, callRetire, callListing, callVersionOn, callTally, callWriteStream, callOffer, callBackupSent, callBackupAll, Buffers, buffersAfter, refusedLayouts, stateAfter, stateAfterAll, answerIn, refusalIn, isAccepted}
-use Rattle.history.specs.Keeper.{KeptTill, Keeper, noTill, freshKeeper, keptTill, filed, struckOut, fed, CallMade, fedEach, comesTo, fedAll}
+use Rattle.history.specs.Calls.{Call, callLayout, callBackup, callRestore, callRetire, callListing, callVersionOn, callTally, callWriteStream, callOffer, callBackupSent, callBackupAll, callSetRights, Buffers, stateAfter, answerIn, refusalIn, isAccepted}
+use Rattle.history.specs.Users.{UserCall, buffersBy, stateBy, refusedLayouts, stateAfterAll}
+use Rattle.history.specs.Keeper.{KeptTill, Keeper, noTill, freshKeeper, keptTill, filed, struckOut, rightsKept, fed, CallMade, fedEach, comesTo, fedAll}
 use Rattle.history.specs.View.{TillView, viewVersions, viewOf, viewAt, tillNamed, changed, IsPlain}
-use Rattle.history.proofs.Kept.{AgreeTill, till-filed, till-struck}
+use Rattle.history.proofs.Kept.{AgreeTill, till-filed, till-struck, till-rights}
 use Rattle.history.proofs.Shown.{shown-numbers}
 use Rattle.history.proofs.Frame.{frame-own, frame-other}
-use Rattle.history.proofs.Reach.{sound-after}
-use Rattle.history.proofs.Steps.{Left, left-one}
-use Rattle.history.proofs.Carried.{Carries, carried}
+use Rattle.history.proofs.Steps.{Left}
+use Rattle.history.proofs.Users.{left-by}
+use Rattle.history.proofs.Carried.{madeOf, made-sound, Carries, carried}
 
 -- ---- the keeper, till by till
 
@@ -41,6 +43,8 @@ change (callWriteStream t v output) ok y = y
 change (callOffer t fs ms) ok y = y
 change (callBackupSent t n fs ms ss) ok y = y
 change (callBackupAll ts ns is) ok y = y
+change (callSetRights subject t r) true y = rightsKept y subject r
+change (callSetRights subject t r) false y = y
 
 fed-is : (k : Keeper) (call : Call) (ok : Bool) → fed k call ok ≡ set k (tillNamed call) (change call ok (keptTill k (tillNamed call)))
 unfolding fed tillNamed change keptTill
@@ -57,6 +61,8 @@ fed-is k (callWriteStream t v output) ok = sym (set-getD k t noTill)
 fed-is k (callOffer t fs ms) ok = sym (set-getD k t noTill)
 fed-is k (callBackupSent t n fs ms ss) ok = sym (set-getD k t noTill)
 fed-is k (callBackupAll ts ns is) ok = sym (set-getD k 0 noTill)
+fed-is k (callSetRights subject t r) true = refl
+fed-is k (callSetRights subject t r) false = sym (set-getD k t noTill)
 
 -- ---- the keeper `k` beside the state `st`
 
@@ -69,7 +75,7 @@ unfolding freshKeeper emptyState tillOf keptTill
 stands-fresh s = record { many = length-replicate (s .capacities .tills) noTill; tills = λ t. go (s .capacities .tills) t }
   where
     none : AgreeTill (s .measures .blockBytes) noTill (viewOf (s .measures .blockBytes) (emptyState s .shelf) emptyTill)
-    none = unfold noTill emptyTill viewOf viewVersions in (refl, tt)
+    none = unfold noTill emptyTill viewOf viewVersions in (refl, tt, refl)
 
     go : (n t : ℕ) → AgreeTill (s .measures .blockBytes) (getD (replicate n noTill) t noTill) (viewOf (s .measures .blockBytes) (emptyState s .shelf) (getD (replicate n emptyTill) t emptyTill))
     go zero t = none
@@ -102,6 +108,12 @@ module _ (s : Shape) (pr : Proper (s .measures)) (st : State) (h : isSound s st 
   own-agrees (callOffer t fs ms) y a = a
   own-agrees (callBackupSent t n fs ms ss) y a = a
   own-agrees (callBackupAll ts ns is) y a = a
+  own-agrees (callSetRights subject t r) y a = go (eqb (outcomeRefusal (setRights s st 0 subject t r)) 0)
+    where
+      go : (ok : Bool) → AgreeTill (s .measures .blockBytes) (change (callSetRights subject t r) ok y)
+          (changed (s .measures .blockBytes) (callSetRights subject t r) ok (viewAt (s .measures .blockBytes) st t))
+      go true = unfold change changed in till-rights (s .measures .blockBytes) y (viewAt (s .measures .blockBytes) st t) subject r a
+      go false = unfold change changed in a
 
   -- a call on a till that is not there is refused, and changes nothing
   change-none : (call : Call) → leb (s .capacities .tills) (tillNamed call) ≡ true → (y : KeptTill) → change call (isAccepted s st call) y ≡ y
@@ -117,6 +129,7 @@ module _ (s : Shape) (pr : Proper (s .measures)) (st : State) (h : isSound s st 
   change-none (callOffer t fs ms) e y = refl
   change-none (callBackupSent t n fs ms ss) e y = refl
   change-none (callBackupAll ts ns is) e y = refl
+  change-none (callSetRights subject t r) e y = unfold setRights outcomeRefusal in rw e refl
 
   module _ (k : Keeper) (z : Stands s k st) where
     fed-own : (call : Call) → keptTill (fed k call (isAccepted s st call)) (tillNamed call) ≡ change call (isAccepted s st call) (keptTill k (tillNamed call))
@@ -157,19 +170,43 @@ module _ (s : Shape) (pr : Proper (s .measures)) (st : State) (h : isSound s st 
             subst (λ (w : TillView). AgreeTill (s .measures .blockBytes) (keptTill (fed k call (isAccepted s st call)) t) w) (sym (frame-other s pr st h call plain t ne))
             (subst (λ (y : KeptTill). AgreeTill (s .measures .blockBytes) y (viewAt (s .measures .blockBytes) st t)) (sym (fed-other call (isAccepted s st call) t ne)) (z .tills t))
 
+-- a refused call is nothing to the keeper
+fed-refused : (k : Keeper) (call : Call) → IsPlain call → fed k call false ≡ k
+unfolding fed
+fed-refused k (callLayout c) p = refl
+fed-refused k (callBackup era t d image) p = refl
+fed-refused k (callRestore t v output) p = refl
+fed-refused k (callRetire t v) p = refl
+fed-refused k (callListing t) p = refl
+fed-refused k (callVersionOn t day) p = refl
+fed-refused k callTally p = refl
+fed-refused k (callWriteStream t v output) p = refl
+fed-refused k (callOffer t fs ms) p = refl
+fed-refused k (callBackupSent t n fs ms ss) p = absurd p
+fed-refused k (callBackupAll ts ns is) p = absurd p
+fed-refused k (callSetRights subject t r) p = refl
+
+-- a plain call that was accepted or refused as it was made
+pub stands-made : (s : Shape) → Proper (s .measures) → (m : CallMade) (st : State) → isSound s st ≡ true → IsPlain (m .call) → (m .accepted ≡ true → isAccepted s st (m .call) ≡ true)
+    → (k : Keeper) → Stands s k st → Stands s (fed k (m .call) (m .accepted)) (madeOf s st m)
+stands-made s pr m st h p ok k z = go (m .accepted) ok
+  where
+    go : (b : Bool) → (b ≡ true → isAccepted s st (m .call) ≡ true) → Stands s (fed k (m .call) b) (cond b (stateAfter s st (m .call)) st)
+    go true q = subst (λ (b : Bool). Stands s (fed k (m .call) b) (stateAfter s st (m .call))) (q refl) (stands-plain s pr st h k z (m .call) p)
+    go false q = subst (λ (l : Keeper). Stands s l st) (sym (fed-refused k (m .call) p)) z
+
 -- any call, fed as what it comes to
 stands-each : (s : Shape) → Proper (s .measures) → (ms : List CallMade) (st end : State) → isSound s st ≡ true → Carries s st ms end → (k : Keeper) → Stands s k st → Stands s (fedEach k ms) end
 unfolding fedEach
 stands-each s pr [] st end h c k z = subst (Stands s k) c z
 stands-each s pr (m ∷ ms) st end h c k z =
-    stands-each s pr ms (stateAfter s st (m .call)) end (sound-after s pr st h (m .call)) (c .2) (fed k (m .call) (m .accepted))
-    (subst (λ (ok : Bool). Stands s (fed k (m .call) ok) (stateAfter s st (m .call))) (sym (c .1)) (stands-plain s pr st h k z (m .call) (c .0)))
+    stands-each s pr ms (madeOf s st m) end (made-sound s pr st h m) (c .2) (fed k (m .call) (m .accepted)) (stands-made s pr m st h (c .0) (c .1) k z)
 
 -- after every list of calls
-pub stands-all : (s : Shape) (calls : List Call) (b : Buffers) (st : State) (k : Keeper) → Left s b st → Stands s k st → refusedLayouts b calls
+pub stands-all : (s : Shape) (calls : List UserCall) (b : Buffers) (st : State) (k : Keeper) → Left s b st → Stands s k st → refusedLayouts b calls
     → Stands s (fedAll k b calls) (stateAfterAll s st calls)
 unfolding fedAll stateAfterAll
 stands-all s [] b st k l z r = z
-stands-all s (call ∷ calls) b st k l z r =
-    stands-all s calls (buffersAfter b call) (stateAfter s st call) (fedEach k (comesTo b call)) (left-one s b st call l (r .0))
-    (stands-each s (l .fit .proper) (comesTo b call) st (stateAfter s st call) (l .sound) (carried s b st l call) k z) (r .1)
+stands-all s (c ∷ calls) b st k l z r =
+    stands-all s calls (buffersBy b (c .user) (c .call)) (stateBy s st (c .user) (c .call)) (fedEach k (comesTo b (c .user) (c .call))) (left-by s b st (c .user) (c .call) l (r .0))
+    (stands-each s (l .fit .proper) (comesTo b (c .user) (c .call)) st (stateBy s st (c .user) (c .call)) (l .sound) (carried s b st l (c .user) (c .call)) k z) (r .1)

@@ -8,16 +8,18 @@ use lib.ListN.{length, getD, set}
 use lib.Seq.{getD-set-same, getD-set-other}
 use Rattle.lists.proofs.Tests.{clause}
 use Rattle.model.specs.Measures.{Shape}
-use Rattle.model.specs.State.{Shelf, Version, Till, State}
+use Rattle.model.specs.State.{Shelf, Version, Rights, Till, State}
 use Rattle.model.specs.Image.{Era, imageBlocks}
 use Rattle.model.specs.Sound.{isSound, isTill, allPointers}
-use Rattle.model.specs.Calls.{emptyTill, tillOf, heldBefore, closeUp, dayFor, After}
+use Rattle.model.specs.Calls.{emptyTill, tillOf, withTill, heldBefore, closeUp, dayFor, After}
+use Rattle.model.specs.Rights.{withRights}
 use Rattle.laws.proofs.Fits.{Proper}
 use Rattle.laws.proofs.Serves.{Serves, till-among}
 use Rattle.laws.proofs.Backup.{Filed}
 use Rattle.laws.proofs.Takeover.{Between, between}
 use Rattle.laws.proofs.Retire.{Retired}
-use Rattle.history.specs.View.{VersionView, viewVersions, viewOf, viewAt, newKind, turnNewest, dayShown, shownWith, dropVersion, shownWithout}
+use Rattle.laws.proofs.Keys.{RightsSet}
+use Rattle.history.specs.View.{VersionView, viewVersions, viewOf, viewAt, newKind, turnNewest, dayShown, shownWith, dropVersion, shownWithout, shownRights}
 use Rattle.history.proofs.Views.{view-path, view-again, views-again, views-extended, views-closed, new-image, new-kinds}
 use Rattle.history.proofs.Traced.{cuts, till-ok}
 use Rattle.history.proofs.Shown.{day-is}
@@ -72,7 +74,7 @@ module _ (era : Era) (s : Shape) (pr : Proper (s .measures)) (st : State) (h : i
   filed-own =
       serves-till s (f .placed) (a .state .shelf) (a .state) (f .swept) t
       ∙ ap (viewOf (s .measures .blockBytes) (f .placed)) till-is
-      ∙ (unfold viewOf shownWith in (λ j. record { last = f .last j; versions = all-views j }))
+      ∙ (unfold viewOf shownWith in (λ j. record { last = f .last j; rights = f .rights j; versions = all-views j }))
 
   pub filed-other : (u : ℕ) → (u ≡ t → ⊥) → viewAt (s .measures .blockBytes) (a .state) u ≡ viewAt (s .measures .blockBytes) st u
   filed-other u ne =
@@ -84,7 +86,7 @@ module _ (era : Era) (s : Shape) (pr : Proper (s .measures)) (st : State) (h : i
 
 module _ (s : Shape) (st : State) (t v : ℕ) (a : After) (f : Retired s st t v a) where
   after : Till
-  after = record { last = tillOf st t .last; versions = closeUp (heldBefore v (tillOf st t .versions)) (f .version) (f .newer) }
+  after = record { last = tillOf st t .last; rights = tillOf st t .rights; versions = closeUp (heldBefore v (tillOf st t .versions)) (f .version) (f .newer) }
 
   after-is : tillOf (a .state) t ≡ after
   unfolding tillOf after
@@ -94,7 +96,7 @@ module _ (s : Shape) (st : State) (t v : ℕ) (a : After) (f : Retired s st t v 
   retired-own =
       serves-till s (st .shelf) (a .state .shelf) (a .state) (f .swept) t
       ∙ ap (viewOf (s .measures .blockBytes) (st .shelf)) after-is
-      ∙ (unfold viewOf shownWithout after in (λ j. record { last = tillOf st t .last; versions = rest j }))
+      ∙ (unfold viewOf shownWithout after in (λ j. record { last = tillOf st t .last; rights = tillOf st t .rights; versions = rest j }))
     where
       b : Between v (tillOf st t .versions) (f .version) (f .newer)
       b = between v (tillOf st t .versions) (f .version) (f .newer) (f .from)
@@ -109,3 +111,25 @@ module _ (s : Shape) (st : State) (t v : ℕ) (a : After) (f : Retired s st t v 
   retired-other u ne =
       serves-till s (st .shelf) (a .state .shelf) (a .state) (f .swept) u
       ∙ ap (viewOf (s .measures .blockBytes) (st .shelf)) (till-other st a t _ (f .tills) u ne)
+
+-- ---- rights
+
+module _ (s : Shape) (st : State) (subject t : ℕ) (r : Rights) (a : After) (f : RightsSet s st subject t r a) where
+  tills-are : a .state .tills ≡ set (st .tills) t (withRights (tillOf st t) subject r)
+  unfolding withTill
+  tills-are = ap (λ (x : State). x .tills) (f .state)
+
+  shelf-is : a .state .shelf ≡ st .shelf
+  unfolding withTill
+  shelf-is = ap (λ (x : State). x .shelf) (f .state)
+
+  new-till : tillOf (a .state) t ≡ withRights (tillOf st t) subject r
+  unfolding tillOf
+  new-till = ap (λ (ts : List Till). getD ts t emptyTill) tills-are ∙ getD-set-same (st .tills) t (withRights (tillOf st t) subject r) emptyTill (f .there)
+
+  pub rights-own : viewAt (s .measures .blockBytes) (a .state) t ≡ shownRights (viewAt (s .measures .blockBytes) st t) subject r
+  unfolding viewOf shownRights withRights
+  rights-own = ap₂ (viewOf (s .measures .blockBytes)) shelf-is new-till
+
+  pub rights-other : (u : ℕ) → (u ≡ t → ⊥) → viewAt (s .measures .blockBytes) (a .state) u ≡ viewAt (s .measures .blockBytes) st u
+  rights-other u ne = ap₂ (viewOf (s .measures .blockBytes)) shelf-is (till-other st a t _ tills-are u ne)

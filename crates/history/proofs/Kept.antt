@@ -4,10 +4,10 @@ use mathlib.Core.Path.{_≡_, refl, sym, ap, ap₂, _∙_, subst}
 use mathlib.Core.Bool.{Bool, true, false, cond, not, false≢true}
 use mathlib.Core.List.{List, [], _∷_, _++_, map}
 use mathlib.Core.Option.{Option, none, some}
-use Prim.Native.Nat.{ℕ, zero, suc, _≤_, _<_}
+use Prim.Native.Nat.{ℕ, zero, suc, _-_, _≤_, _<_}
 use native.Mathlib.Nat.{le-refl}
 use native.Mathlib.Omega.{arith}
-use lib.ListN.{length, getD, length-map}
+use lib.ListN.{length, getD, set, length-map}
 use lib.Dec.{eqb}
 use borrow.Author.Tests.{eqb-true, ne-eqb}
 use Rattle.lists.specs.Lists.{keep, firstFrom, sameNumbers, rises}
@@ -16,12 +16,12 @@ use Rattle.lists.proofs.First.{first-none, isNone}
 use Rattle.lists.proofs.Rises.{rises-first}
 use Rattle.lists.proofs.Same.{same-refl}
 use Rattle.lists.proofs.Tests.{by-test}
-use Rattle.model.specs.State.{Block, Pointer}
+use Rattle.model.specs.State.{Block, Pointer, Rights}
 use Rattle.model.specs.Image.{Era, isBlank, imageBlocks}
 use Rattle.model.specs.Turn.{indirectAt, turnsTo}
-use Rattle.history.specs.Keeper.{Kept, KeptTill, keptFrom, oldestKept, newestKept, newestDayKept, dayKept, filed, keptNotAfter, struckOut}
+use Rattle.history.specs.Keeper.{Kept, KeptTill, keptFrom, oldestKept, newestKept, newestDayKept, dayKept, filed, struckOut, rightsKept}
 use Rattle.history.specs.Kinds.{Kind, zeroKind, blankKind, directKind, indirectKind, kindAt}
-use Rattle.history.specs.View.{VersionView, TillView, newKind, turnedKind, withKinds, turnNewest, newestDayShown, dayShown, shownWith, shownNotAfter, takeOverKind, dropVersion, shownWithout, shownFrom, oldestShown, newestShown}
+use Rattle.history.specs.View.{VersionView, TillView, newKind, turnedKind, withKinds, turnNewest, newestDayShown, dayShown, shownWith, takeOverKind, dropVersion, shownWithout, shownRights, shownFrom, oldestShown, newestShown}
 
 unfoldable pub isDirectKind : Kind → Bool
 isDirectKind zeroKind = false
@@ -53,7 +53,7 @@ Agree bytes (x ∷ xs) [] = ⊥
 Agree bytes (x ∷ xs) (w ∷ ws) = Shows bytes x xs w × Agree bytes xs ws
 
 abbrev pub AgreeTill : ℕ → KeptTill → TillView → Type 0
-AgreeTill bytes y w = (w .last ≡ y .last) × Agree bytes (y .versions) (w .versions)
+AgreeTill bytes y w = (w .last ≡ y .last) × Agree bytes (y .versions) (w .versions) × (w .rights ≡ y .rights)
 
 -- ---- a block that the new image has
 
@@ -137,6 +137,7 @@ module _ (bytes : ℕ) where
     ap suc (a .0),
     agree-filed era (suc (w .last)) (suc (y .last)) (dayShown d (w .versions)) (dayKept d (y .versions)) image (ap suc (a .0)) (agree-day d (y .versions) (w .versions) (a .1)) (y .versions)
         (w .versions) (a .1),
+    a .2,
   )
 
   -- ---- a version is struck
@@ -218,7 +219,11 @@ module _ (bytes : ℕ) where
       → AgreeTill bytes (struckOut y v) (shownWithout w v)
   unfolding struckOut shownWithout
   till-struck y w v a h =
-      (a .0, agree-struck v (w .last) (y .versions) (w .versions) (a .1) 0 (ap (rises 0 (w .last)) (sym (agree-numbers (y .versions) (w .versions) (a .1))) ∙ h))
+      (a .0, agree-struck v (w .last) (y .versions) (w .versions) (a .1) 0 (ap (rises 0 (w .last)) (sym (agree-numbers (y .versions) (w .versions) (a .1))) ∙ h), a .2)
+
+  pub till-rights : (y : KeptTill) (w : TillView) (subject : ℕ) (r : Rights) → AgreeTill bytes y w → AgreeTill bytes (rightsKept y subject r) (shownRights w subject r)
+  unfolding rightsKept shownRights
+  till-rights y w subject r a = (a .0, a .1, ap (λ (rs : List Rights). set rs (subject - 1) r) (a .2))
 
   -- ---- what follows
 

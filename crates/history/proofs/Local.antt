@@ -10,16 +10,18 @@ use lib.Dec.{eqb, leb, ltb}
 use Rattle.lists.specs.Lists.{every, firstFrom}
 use Rattle.lists.proofs.Tests.{by-test}
 use Rattle.model.specs.Measures.{Shape}
-use Rattle.model.specs.State.{Block, Shelf, Version, Till, State, Outcome, refused, done}
+use Rattle.model.specs.State.{Block, Shelf, Version, Rights, Till, State, Outcome, refused, done}
 use Rattle.model.specs.Image.{Era, isBare, imageBlocks, imageSegments}
 use Rattle.model.specs.Records.{isFree, equals}
 use Rattle.model.specs.Runs.{Run, findRun}
 use Rattle.model.specs.Place.{Placed, stored, writeRun, writeRecord, shareOrWrite, placeSegment, afterSome, placeNext, placeAll}
 use Rattle.model.specs.Trace.{imageOf}
 use Rattle.model.specs.Calls.{tillOf, heldFrom, restoreFrom, restoreRefusal, restore, heldBefore, retireFrom, retire, newestDay, dayFor, VersionOnAnswer, notAfter, versionOnIn, fileIn, placeAndFile, backup, listTill, listingRefusal, listingIn, RestoreAnswer, After, firstOf, notHeld, lookUp, outcomeRefusal, outcomeNumber}
+use Rattle.model.specs.Rights.{setRights}
 use Rattle.stream.specs.Version.{longestOutput, writeRestored, writeVersion}
-use Rattle.history.specs.Calls.{Call, callLayout, callBackup, callRestore, callRetire, callListing, callVersionOn, callTally, callWriteStream, callOffer, callBackupSent, callBackupAll, Answer, backedUp, restored, retired, listed, foundOn, streamed, answerIn}
+use Rattle.history.specs.Calls.{Call, callLayout, callBackup, callRestore, callRetire, callListing, callVersionOn, callTally, callWriteStream, callOffer, callBackupSent, callBackupAll, callSetRights, Answer, backedUp, restored, retired, listed, foundOn, streamed, rightsSet, answerIn}
 use Rattle.history.specs.View.{VersionView, viewVersions, viewOf, viewAt, isOnTill, tillNamed, shownFrom, shownNotAfter, restoreShown, retireShown, answerShown}
+use Rattle.history.proofs.Users.{set-refusal}
 use Rattle.history.proofs.Shown.{views-length, newest-day-is, day-is, newest-or-none, oldest-is, newest-is, from-same, chain-is}
 
 -- ---- step 1 refuses with 14 or 16
@@ -196,6 +198,11 @@ found-shown s st t day =
     ap (λ (a : VersionOnAnswer). foundOn (cond (leb (s .capacities .tills) t) (record { refusal = 3; version = 0 }) a))
     (newest-or-none (s .measures .blockBytes) (st .shelf) day (tillOf st t .versions))
 
+rights-shown : (s : Shape) (st : State) (subject t : ℕ) (r : Rights)
+    → rightsSet (outcomeRefusal (setRights s st 0 subject t r)) ≡ answerShown s (viewAt (s .measures .blockBytes) st t) (callSetRights subject t r)
+unfolding answerShown
+rights-shown s st subject t r = ap rightsSet (set-refusal s st 0 subject t r)
+
 -- a backup that is answered 14 or 16
 abbrev pub HasRoom : Call → Answer → Type 0
 HasRoom (callLayout c) a = Unit {0}
@@ -209,6 +216,7 @@ HasRoom (callWriteStream t v output) a = Unit {0}
 HasRoom (callOffer t fs ms) a = Unit {0}
 HasRoom (callBackupSent t n fs ms ss) a = Unit {0}
 HasRoom (callBackupAll ts ns is) a = Unit {0}
+HasRoom (callSetRights subject t r) a = Unit {0}
 
 -- The law: a call on a till answers what the till's view says.
 pub answer-in : (s : Shape) (st : State) (call : Call) → isOnTill call ≡ true → HasRoom call (answerIn s st call)
@@ -225,3 +233,4 @@ answer-in s st (callWriteStream t v output) on room = stream-shown s st t v outp
 answer-in s st (callOffer t fs ms) on room = absurd (false≢true on)
 answer-in s st (callBackupSent t n fs ms ss) on room = absurd (false≢true on)
 answer-in s st (callBackupAll ts ns is) on room = absurd (false≢true on)
+answer-in s st (callSetRights subject t r) on room = rights-shown s st subject t r

@@ -1,24 +1,35 @@
 -- No refusal carries number 0, and step 1 refuses with 14 or 16 only.
-use mathlib.Core.Bool.{_||_}
+use mathlib.Core.Path.{_≡_, refl}
+use mathlib.Core.Bool.{Bool, true, false, cond, _||_}
 use mathlib.Core.List.{List, [], _∷_}
 use mathlib.Core.Option.{Option, none, some}
 use Prim.Native.Nat.{ℕ, _*_, _<_}
+use native.Mathlib.Omega.{arith}
 use lib.ListN.{length}
 use lib.Dec.{eqb, leb, ltb, lit<}
+use borrow.Author.Tests.{eqb-false}
 use Rattle.lists.specs.Lists.{every, firstFrom}
 use Rattle.lists.proofs.Tests.{by-test}
 use Rattle.model.specs.Measures.{Shape}
-use Rattle.model.specs.State.{Block, Shelf, Version, State, Outcome, refused, done}
+use Rattle.model.specs.State.{Block, Shelf, Version, Rights, staff, State, Outcome, refused, done}
 use Rattle.model.specs.Image.{Era, isBare, imageBlocks, imageSegments}
 use Rattle.model.specs.Records.{isFree, equals}
 use Rattle.model.specs.Runs.{Run, findRun}
 use Rattle.model.specs.Place.{Placed, stored, writeRun, writeRecord, shareOrWrite, placeSegment, afterSome, placeNext, placeAll}
 use Rattle.laws.proofs.Tills.{not-held-some}
-use Rattle.model.specs.Calls.{tillOf, heldFrom, heldBefore, retireFrom, newestDay, dayFor, fileIn, placeAndFile, backup, retire, firstOf, notHeld, lookUp}
+use Rattle.model.specs.Calls.{tillOf, heldFrom, heldBefore, retireFrom, newestDay, dayFor, fileIn, placeAndFile, backup, retire, firstOf, notHeld, lookUp, After}
+use Rattle.model.specs.Rights.{unless, setRights}
 
 abbrev pub Numbered : {A : Type 0} → Outcome A → Type 0
 Numbered (refused n) = 0 < n
 Numbered (done a) = Unit {0}
+
+pub unless-numbered : (n : ℕ) (o : Outcome After) → Numbered o → Numbered (unless n refused o)
+unless-numbered n o h = go (eqb n 0) refl
+  where
+    go : (q : Bool) → eqb n 0 ≡ q → Numbered (cond q o (refused n))
+    go true q = h
+    go false q = let some : 0 < n = omega (arith, eqb-false n 0 q) in some
 
 run-numbered : (era : Era) (a : Shelf) (seg : List Block) (k : ℕ) (o : Option Run) → Numbered (writeRun era a seg k o)
 unfolding writeRun
@@ -75,3 +86,9 @@ retire-numbered s st t v = by-test Numbered (leb (s .capacities .tills) t) (λ e
     go : (hs : List Version) → Numbered (retireFrom s st t (tillOf st t) (firstOf (notHeld (tillOf st t .last) v) (heldBefore v (tillOf st t .versions)) hs))
     go [] = unfold retireFrom firstOf in not-held-some (tillOf st t .last) v
     go (w ∷ ws) = unfold retireFrom firstOf in tt
+
+pub rights-numbered : (s : Shape) (st : State) (u subject t : ℕ) (r : Rights) → Numbered (setRights s st u subject t r)
+unfolding setRights
+rights-numbered s st u subject t r =
+    by-test Numbered (leb (s .capacities .tills) t) (λ e. lit< tt)
+    (λ e. by-test Numbered (ltb staff u || (eqb subject 0 || ltb staff subject)) (λ e. lit< tt) (λ e. by-test Numbered (ltb 0 u) (λ e. lit< tt) (λ e. tt)))

@@ -16,9 +16,7 @@ use Rattle.model.specs.Calls.{backup, backupAnswer, backupIn, After, stateOr, o
 use Rattle.sha1.specs.Sha1.{sha1}
 use Rattle.sent.specs.Sent.{made, backupOn, backupSent, backupSentIn}
 use Rattle.sent_laws.proofs.Numbers.{NotZero, made-or-refused}
-use Rattle.history.specs.Calls.{Call, callLayout, callBackup, callRestore, callRetire, callListing, callVersionOn, callTally, callWriteStream, callOffer, callBackupSent, callBackupAll, stateAfter, answerIn, refusalIn, isAccepted}
-use Rattle.history.specs.Keeper.{imageOr, imageSent, comesTo}
-use Rattle.history.specs.View.{IsPlain}
+use Rattle.history.specs.Keeper.{imageOr, imageSent}
 
 module _ (s : Shape) (st : State) where
   -- the store of a state

@@ -1,23 +1,25 @@
 -- Call by call on the buffers: they are the words and bytes of a sound state, and each call leaves such.
 use mathlib.Core.Path.{_≡_, refl, sym, ap, ap₂, _∙_}
 use mathlib.Core.Bool.{true}
-use mathlib.Core.List.{List, [], _∷_}
+use mathlib.Core.List.{List}
 use mathlib.Core.Option.{Option, some}
 use Prim.Native.Nat.{ℕ}
 use lib.Dec.{eqb}
 use Rattle.model.specs.Measures.{Shape}
-use Rattle.model.specs.State.{State, Outcome, refused, done}
+use Rattle.model.specs.State.{Rights, State, Outcome, refused, done}
 use Rattle.model.specs.Table.{stateToWords, stateToBytes}
 use Rattle.model.specs.Sound.{isSound, Store, storeOf}
 use Rattle.model.specs.Calls.{emptyState, layoutOf, backup, backupIn, backupBy, backupAnswer, restoreIn, restoreOf, retire, retireIn, retireOf, retireAnswer, listingIn, listingOf, versionOnIn, versionOnOf, tallyIn, tallyOf, After, stateOr, outcomeRefusal, outcomeNumber}
+use Rattle.model.specs.Rights.{setRights, rightsAnswer, setRightsIn, setRightsOf}
+use Rattle.laws.proofs.Keys.{rights-set}
 use Rattle.laws.proofs.Fits.{Fit, range-fit}
 use Rattle.laws.proofs.RoundTrip.{round-trip}
 use Rattle.laws.proofs.Empty.{empty-sound, layout-refused, layout-accepted}
 use Rattle.sha1.specs.Sha1.{sha1}
 use Rattle.sent.specs.Sent.{offerIn, offerOf, backupSent, backupSentIn, backupSentBy, backupSentOf}
-use Rattle.closing.specs.Closing.{Closed, allAnswer, closedOr, backupAll, backupAllAnswer, backupAllIn, backupAllOf}
+use Rattle.closing.specs.Closing.{Closed, allAnswer, closedOr, backupAll, backupAllAnswer, backupAllIn, backupAllAs}
 use Rattle.stream.specs.Version.{longestOutput, writeRestored, writeVersion, writeStreamOf}
-use Rattle.history.specs.Calls.{Call, callLayout, callBackup, callRestore, callRetire, callListing, callVersionOn, callTally, callWriteStream, callOffer, callBackupSent, callBackupAll, Buffers, refusalOf, buffersAfter, buffersAfterAll, laidOut, backedUp, restored, retired, listed, foundOn, tallied, streamed, offered, backedUpAll, answerOf, answersOf, refusalIn, refusedLayout, refusedLayouts, stateAfter, stateAfterAll, answerIn, answersIn, isAccepted}
+use Rattle.history.specs.Calls.{Call, callLayout, callBackup, callRestore, callRetire, callListing, callVersionOn, callTally, callWriteStream, callOffer, callBackupSent, callBackupAll, callSetRights, Buffers, refusalOf, buffersAfter, laidOut, backedUp, restored, retired, listed, foundOn, tallied, streamed, offered, backedUpAll, rightsSet, answerOf, refusalIn, refusedLayout, stateAfter, answerIn, isAccepted}
 use Rattle.history.specs.Demand.{laidOutIn}
 use Rattle.history.proofs.Reach.{sound-after}
 
@@ -51,6 +53,21 @@ unfolding backupAllAnswer closedOr
 closing-words s b st (refused n) p q = (p, q)
 closing-words s b st (done c) p q = (refl, refl)
 
+-- what a user's closing and a user's change of rights leave
+pub closing-left : (s : Shape) (b : Buffers) (st : State) → Left s b st → (u : ℕ) (ts ns is : List ℕ)
+    → (backupAllAs (b .pool) (b .table) u ts ns is .pool ≡ stateToBytes (closedOr st (backupAll s st u ts ns is))) × (backupAllAs (b .pool) (b .table) u ts ns is .table ≡ stateToWords s (closedOr st (backupAll s st u ts ns is)))
+unfolding backupAllAs backupAllIn
+closing-left s b st e u ts ns is = rw (left-store s b st e) (closing-words s b st (backupAll s st u ts ns is) (e .pool) (e .table))
+
+pub rights-left : (s : Shape) (b : Buffers) (st : State) → Left s b st → (u subject t : ℕ) (r : Rights)
+    → (b .pool ≡ stateToBytes (stateOr st (setRights s st u subject t r))) × (setRightsOf (b .pool) (b .table) u subject t r .table ≡ stateToWords s (stateOr st (setRights s st u subject t r)))
+unfolding setRightsOf setRightsIn
+rights-left s b st e u subject t r = rw (left-store s b st e) (go (setRights s st u subject t r) refl)
+  where
+    go : (o : Outcome After) → setRights s st u subject t r ≡ o → (b .pool ≡ stateToBytes (stateOr st o)) × (rightsAnswer (b .table) s o .table ≡ stateToWords s (stateOr st o))
+    go (refused n) q = unfold rightsAnswer stateOr in (e .pool, e .table)
+    go (done a) q = unfold rightsAnswer stateOr in (e .pool ∙ rights-set s st u subject t r a (e .sound) q .bytes, refl)
+
 pub left-one : (s : Shape) (b : Buffers) (st : State) (call : Call) → Left s b st → refusedLayout b call → Left s (buffersAfter b call) (stateAfter s st call)
 left-one s b st call e r = record { fit = e .fit; pool = words call r .0; table = words call r .1; sound = sound-after s (e .fit .proper) st (e .sound) call }
   where
@@ -71,13 +88,8 @@ left-one s b st call e r = record { fit = e .fit; pool = words call r .0; table 
     words (callBackupSent t n fs ms ss) r =
         unfold buffersAfter stateAfter backupSentOf backupSentBy backupSentIn in
         rw (left-store s b st e) (backup-words s b st (backupSent sha1 s st t n fs ms ss) (e .pool) (e .table))
-    words (callBackupAll ts ns is) r =
-        unfold buffersAfter stateAfter backupAllOf backupAllIn in rw (left-store s b st e) (closing-words s b st (backupAll s st ts ns is) (e .pool) (e .table))
-
-pub left-all : (s : Shape) (calls : List Call) (b : Buffers) (st : State) → Left s b st → refusedLayouts b calls → Left s (buffersAfterAll b calls) (stateAfterAll s st calls)
-unfolding buffersAfterAll stateAfterAll
-left-all s [] b st l r = l
-left-all s (call ∷ calls) b st l r = left-all s calls (buffersAfter b call) (stateAfter s st call) (left-one s b st call l (r .0)) (r .1)
+    words (callBackupAll ts ns is) r = unfold buffersAfter stateAfter in closing-left s b st e 0 ts ns is
+    words (callSetRights subject t r) w = unfold buffersAfter stateAfter in rights-left s b st e 0 subject t r
 
 -- an accepted lay out leaves the empty state
 pub left-laid : (s : Shape) (pool table : List ℕ) → layoutOf s pool table .refusal ≡ 0 → Left s (laidOutIn s pool table) (emptyState s)
@@ -94,13 +106,22 @@ backup-answer s b (refused n) = refl
 backup-answer s b (done a) = refl
 
 -- a closing's answer
-pub closing-same : (s : Shape) (b : Buffers) (st : State) → Left s b st → (ts ns is : List ℕ) → backupAllOf (b .pool) (b .table) ts ns is .answer ≡ allAnswer (backupAll s st ts ns is)
-unfolding backupAllOf backupAllIn
-closing-same s b st e ts ns is = rw (left-store s b st e) (go (backupAll s st ts ns is))
+pub closing-same : (s : Shape) (b : Buffers) (st : State) → Left s b st → (u : ℕ) (ts ns is : List ℕ) → backupAllAs (b .pool) (b .table) u ts ns is .answer ≡ allAnswer (backupAll s st u ts ns is)
+unfolding backupAllAs backupAllIn
+closing-same s b st e u ts ns is = rw (left-store s b st e) (go (backupAll s st u ts ns is))
   where
     go : (o : Outcome Closed) → backupAllAnswer (b .pool) (b .table) s o .answer ≡ allAnswer o
     go (refused n) = unfold backupAllAnswer allAnswer in refl
     go (done c) = unfold backupAllAnswer in refl
+
+-- that of a change of rights
+pub rights-same : (s : Shape) (b : Buffers) (st : State) → Left s b st → (u subject t : ℕ) (r : Rights) → setRightsOf (b .pool) (b .table) u subject t r .refusal ≡ outcomeRefusal (setRights s st u subject t r)
+unfolding setRightsOf setRightsIn
+rights-same s b st e u subject t r = rw (left-store s b st e) (go (setRights s st u subject t r))
+  where
+    go : (o : Outcome After) → rightsAnswer (b .table) s o .refusal ≡ outcomeRefusal o
+    go (refused n) = unfold rightsAnswer outcomeRefusal in refl
+    go (done a) = unfold rightsAnswer outcomeRefusal in refl
 
 -- what a call answers on the buffers is what it answers on the state
 pub answer-same : (s : Shape) (b : Buffers) (st : State) (call : Call) → Left s b st → answerOf b call ≡ answerIn s st call
@@ -129,13 +150,8 @@ answer-same s b st (callBackupSent t n fs ms ss) e =
     unfold backupSentOf backupSentBy in
     (ap (λ (o : Option Store). backedUp (backupSentIn sha1 o (b .pool) (b .table) t n fs ms ss .refusal) (backupSentIn sha1 o (b .pool) (b .table) t n fs ms ss .version)) (left-store s b st e)
     ∙ (unfold backupSentIn in backup-answer s b (backupSent sha1 s st t n fs ms ss)))
-answer-same s b st (callBackupAll ts ns is) e = ap backedUpAll (closing-same s b st e ts ns is)
-
-pub answers-same : (s : Shape) (calls : List Call) (b : Buffers) (st : State) → Left s b st → refusedLayouts b calls → answersOf b calls ≡ answersIn s st calls
-unfolding answersOf answersIn
-answers-same s [] b st e r = refl
-answers-same s (call ∷ calls) b st e r =
-    ap₂ _∷_ (answer-same s b st call e) (answers-same s calls (buffersAfter b call) (stateAfter s st call) (left-one s b st call e (r .0)) (r .1))
+answer-same s b st (callBackupAll ts ns is) e = ap backedUpAll (closing-same s b st e 0 ts ns is)
+answer-same s b st (callSetRights subject t r) e = ap rightsSet (rights-same s b st e 0 subject t r)
 
 -- the refusal is the one that the answer carries
 pub refusal-in : (b : Buffers) (call : Call) → refusalIn (answerOf b call) ≡ refusalOf b call
@@ -151,6 +167,7 @@ refusal-in b (callWriteStream t v output) = refl
 refusal-in b (callOffer t fs ms) = refl
 refusal-in b (callBackupSent t n fs ms ss) = refl
 refusal-in b (callBackupAll ts ns is) = refl
+refusal-in b (callSetRights subject t r) = refl
 
 pub accepted-same : (s : Shape) (b : Buffers) (st : State) (call : Call) → Left s b st → eqb (refusalOf b call) 0 ≡ isAccepted s st call
 unfolding isAccepted

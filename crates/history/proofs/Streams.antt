@@ -1,5 +1,5 @@
 -- A held version's stream: what the writer answers, by what is kept.
-use mathlib.Core.Path.{_≡_, sym, ap, _∙_, subst}
+use mathlib.Core.Path.{_≡_, refl, sym, ap, _∙_, subst}
 use mathlib.Core.Bool.{true}
 use mathlib.Core.List.{List, [], _∷_, _++_}
 use Prim.Native.Nat.{ℕ, _*_, _≤_, _<_}
@@ -7,6 +7,7 @@ use native.Mathlib.Nat.{mul-comm}
 use native.Mathlib.Omega.{arith}
 use lib.ListN.{length, take, drop, length-replicate}
 use lib.Seq.{take-at}
+use lib.Dec.{leb}
 use borrow.Author.Tests.{eq-eqb, ne-eqb, le-leb, lt-leb, leb-true}
 use Rattle.lists.specs.Lists.{isSome}
 use Rattle.lists.proofs.Tests.{clause}
@@ -15,11 +16,12 @@ use Rattle.model.specs.State.{Version, State}
 use Rattle.model.specs.Table.{shapeOf}
 use Rattle.model.specs.Sound.{hasLength, areTraceable}
 use Rattle.laws.proofs.Tills.{not-held-some}
-use Rattle.model.specs.Calls.{tillOf, heldFrom, RestoreAnswer, restoreOf, notHeld}
+use Rattle.model.specs.Calls.{tillOf, heldFrom, RestoreAnswer, restoreOf, restoreRefusal, notHeld}
+use Rattle.model.specs.Rights.{toRestore, userRefusal, restoreAs}
 use Rattle.laws.specs.Stores.{Header}
 use Rattle.laws.proofs.Stores.{sound-if, header}
 use Rattle.stream.specs.Stream.{StreamAnswer, streamRefusal, streamOf, writeStream}
-use Rattle.stream.specs.Version.{longestOutput, writeRestored, writeStreamOf}
+use Rattle.stream.specs.Version.{longestOutput, writeRestored, writeStreamOf, writeStreamAs}
 use Rattle.stream_laws.proofs.Ranges.{has-yes}
 use Rattle.stream_laws.proofs.Theorems.{claims}
 use Rattle.history.specs.Calls.{Buffers}
@@ -32,6 +34,7 @@ use Rattle.history.proofs.Kept.{Agree, agree-from}
 use Rattle.history.proofs.Fed.{Stands}
 use Rattle.history.proofs.Steps.{Left, left-store}
 use Rattle.history.proofs.Bullets.{restores}
+use Rattle.history.proofs.Keys.{may-same, may-missing}
 
 -- ---- a restore's answer, written
 
@@ -97,23 +100,38 @@ module _ (s : Shape) (b : Buffers) (st : State) (k : Keeper) (l : Left s b st) (
   unfolding longestOutput
   long-enough = length-replicate {A = ℕ} 65536 0
 
+  owners : (t v : ℕ) → restoreAs (b .pool) (b .table) 0 t v longestOutput ≡ restoreOf (b .pool) (b .table) t v longestOutput
+  unfolding restoreAs
+  owners t v = may-same s b st k l z 0 t toRestore (λ n. restoreRefusal n longestOutput) (restoreOf (b .pool) (b .table) t v longestOutput) refl
+
+  -- by a user who may
+  written-by : (u t v : ℕ) (output : List ℕ) → userRefusal (leb (length k) t) (keptTill k t .rights) u toRestore ≡ 0 → writeStreamAs (b .pool) (b .table) u t v output ≡ writeStreamOf (b .pool) (b .table) t v output
+  unfolding writeStreamAs
+  written-by u t v output m = may-same s b st k l z u t toRestore (λ n. streamRefusal n output) (writeStreamOf (b .pool) (b .table) t v output) m
+
   written-is : (t v : ℕ) (x : Kept) (newer : List Kept) (output : List ℕ) → keptFrom v (keptTill k t .versions) ≡ x ∷ newer
       → writeStreamOf (b .pool) (b .table) t v output ≡ writeStream (x .image) output
   unfolding writeStreamOf
   written-is t v x newer output e =
-      let g = restores s b st k l z .given t v x newer longestOutput e (omega (arith, long-enough, kept-length t v x newer e .1)) in
-      given-write (restoreOf (b .pool) (b .table) t v longestOutput) (x .image) (drop (length (x .image)) longestOutput) output (g .0) (g .1) (g .2)
+      let g = restores s b st k l z .given 0 t v x newer longestOutput refl e (omega (arith, long-enough, kept-length t v x newer e .1)) in
+      ap (λ (r : RestoreAnswer). writeRestored r output) (sym (owners t v))
+      ∙ given-write (restoreAs (b .pool) (b .table) 0 t v longestOutput) (x .image) (drop (length (x .image)) longestOutput) output (g .0) (g .1) (g .2)
 
   pub streams : Streams (s .measures .blockBytes) st k b
   unfolding writeStreamOf
   streams = record {
-    given = λ t v x newer output e h.
-        let w = written-is t v x newer output e ∙ long-write (x .image) output h in
+    given = λ u t v x newer output m e h.
+        let w = written-by u t v output m ∙ written-is t v x newer output e ∙ long-write (x .image) output h in
         (ap (λ (a : StreamAnswer). a .refusal) w, ap (λ (a : StreamAnswer). a .length) w, ap (λ (a : StreamAnswer). a .output) w);
-    short = λ t v x newer output e h. ap (λ (a : StreamAnswer). a .refusal) (written-is t v x newer output e) ∙ short-write (x .image) output h;
-    notHeld = λ t v output e h.
-        refused-write (restoreOf (b .pool) (b .table) t v longestOutput) output (notHeld (keptTill k t .last) v) (not-held-some (keptTill k t .last) v) (restores s b st k l z .notHeld t v longestOutput e h);
-    noTill = λ t v output h. refused-write (restoreOf (b .pool) (b .table) t v longestOutput) output 3 (omega arith) (restores s b st k l z .noTill t v longestOutput h);
+    short = λ u t v x newer output m e h. ap (λ (a : StreamAnswer). a .refusal) (written-by u t v output m ∙ written-is t v x newer output e) ∙ short-write (x .image) output h;
+    notHeld = λ u t v output m e h.
+        ap (λ (a : StreamAnswer). a .refusal) (written-by u t v output m)
+        ∙ refused-write (restoreOf (b .pool) (b .table) t v longestOutput) output (notHeld (keptTill k t .last) v) (not-held-some (keptTill k t .last) v)
+        (ap (λ (r : RestoreAnswer). r .refusal) (sym (owners t v)) ∙ restores s b st k l z .notHeld 0 t v longestOutput refl e h);
+    noTill = λ u t v output h.
+        ap (λ (a : StreamAnswer). a .refusal) (written-by u t v output (may-missing k u t toRestore h))
+        ∙ refused-write (restoreOf (b .pool) (b .table) t v longestOutput) output 3 (omega arith)
+        (ap (λ (r : RestoreAnswer). r .refusal) (sym (owners t v)) ∙ restores s b st k l z .noTill 0 t v longestOutput h);
     readAgain = λ t v x newer output e h.
         let n = kept-length t v x newer e in
         claims .readBack (x .image) output (has-yes (length (x .image)) (λ q. omega (arith, n .0, q)) (n .1)) h;

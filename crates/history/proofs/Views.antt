@@ -71,7 +71,7 @@ module _ (s : Shape) (a b : Shelf) (ps : List Pointer) (sv : Serves (s .measures
 
   pub view-again : (t : Till) → Among (t .versions) → viewOf (s .measures .blockBytes) b t ≡ viewOf (s .measures .blockBytes) a t
   unfolding viewOf
-  view-again t g = λ j. record { last = t .last; versions = views-again (t .versions) g j }
+  view-again t g = λ j. record { last = t .last; rights = t .rights; versions = views-again (t .versions) g j }
 
 -- ---- pointers that turn
 

@@ -1,20 +1,22 @@
--- "A list of calls": what each answers and leaves on the buffers, and on the state with no buffer in between.
+-- The calls: what each answers and leaves on the buffers, and on the state with no buffer in between, for a user who may make it. Users.antt has them
+-- with their users, and lists of them.
 use Prim.Native.Nat.{ℕ}
 use mathlib.Core.Path.{_≡_}
 use mathlib.Core.Bool.{Bool}
-use mathlib.Core.List.{List, [], _∷_}
+use mathlib.Core.List.{List}
 use mathlib.Core.Option.{some, Option, none}
 use lib.Dec.{eqb}
 use Rattle.model.specs.Measures.{Shape}
 use Rattle.model.specs.Image.{Era}
-use Rattle.model.specs.State.{State}
+use Rattle.model.specs.State.{Rights, State}
 use Rattle.model.specs.Table.{stateToWords, stateToBytes}
 use Rattle.model.specs.Calls.{layoutOf, backupBy, restoreOf, retireOf, listingOf, versionOnOf, tallyOf, backup, restore, retire, listingIn, versionOnIn, tallyIn, RestoreAnswer, ListingAnswer, VersionOnAnswer, TallyAnswer, stateOr, outcomeRefusal, outcomeNumber}
+use Rattle.model.specs.Rights.{setRights, setRightsOf}
 use Rattle.stream.specs.Stream.{StreamAnswer}
 use Rattle.stream.specs.Version.{writeVersion, writeStreamOf}
 use Rattle.sha1.specs.Sha1.{sha1}
 use Rattle.sent.specs.Sent.{OfferAnswer, offerIn, offerOf, backupSent, backupSentOf}
-use Rattle.closing.specs.Closing.{AllAnswer, allAnswer, closedOr, backupAll, backupAllOf}
+use Rattle.closing.specs.Closing.{AllAnswer, allAnswer, closedOr, backupAll, backupAllAs}
 
 -- A call with its arguments, any of them; a backup was made before blank blocks were known, or with them, and brings a day (§13) or none. Table length
 -- takes no buffer and is no call of the list.
@@ -30,6 +32,7 @@ pub data Call : Type 0 where
   callOffer : (till : ℕ) (fingerprints marks : List ℕ) → Call
   callBackupSent : (till bytes : ℕ) (fingerprints marks segments : List ℕ) → Call
   callBackupAll : (tills lengths images : List ℕ) → Call
+  callSetRights : (subject till : ℕ) (rights : Rights) → Call
 
 -- the two buffers
 pub record Buffers : Type 0 where
@@ -48,7 +51,8 @@ refusalOf b callTally = tallyOf (b .pool) (b .table) .refusal
 refusalOf b (callWriteStream t v output) = writeStreamOf (b .pool) (b .table) t v output .refusal
 refusalOf b (callOffer t fs ms) = offerOf (b .pool) (b .table) t fs ms .refusal
 refusalOf b (callBackupSent t n fs ms ss) = backupSentOf (b .pool) (b .table) t n fs ms ss .refusal
-refusalOf b (callBackupAll ts ns is) = backupAllOf (b .pool) (b .table) ts ns is .answer .refusal
+refusalOf b (callBackupAll ts ns is) = backupAllAs (b .pool) (b .table) 0 ts ns is .answer .refusal
+refusalOf b (callSetRights subject t r) = setRightsOf (b .pool) (b .table) 0 subject t r .refusal
 
 -- the buffers after a call
 unfoldable pub buffersAfter : Buffers → Call → Buffers
@@ -62,11 +66,8 @@ buffersAfter b callTally = b
 buffersAfter b (callWriteStream t v output) = b
 buffersAfter b (callOffer t fs ms) = b
 buffersAfter b (callBackupSent t n fs ms ss) = record { pool = backupSentOf (b .pool) (b .table) t n fs ms ss .pool; table = backupSentOf (b .pool) (b .table) t n fs ms ss .table }
-buffersAfter b (callBackupAll ts ns is) = record { pool = backupAllOf (b .pool) (b .table) ts ns is .pool; table = backupAllOf (b .pool) (b .table) ts ns is .table }
-
-unfoldable pub buffersAfterAll : Buffers → List Call → Buffers
-buffersAfterAll b [] = b
-buffersAfterAll b (c ∷ cs) = buffersAfterAll (buffersAfter b c) cs
+buffersAfter b (callBackupAll ts ns is) = record { pool = backupAllAs (b .pool) (b .table) 0 ts ns is .pool; table = backupAllAs (b .pool) (b .table) 0 ts ns is .table }
+buffersAfter b (callSetRights subject t r) = record { pool = b .pool; table = setRightsOf (b .pool) (b .table) 0 subject t r .table }
 
 -- what a call answers; a restore's has the output too, and so has a stream's; an offer's has the marks
 pub data Answer : Type 0 where
@@ -80,6 +81,7 @@ pub data Answer : Type 0 where
   streamed : (answer : StreamAnswer) → Answer
   offered : (answer : OfferAnswer) → Answer
   backedUpAll : (answer : AllAnswer) → Answer
+  rightsSet : (refusal : ℕ) → Answer
 
 unfoldable pub answerOf : Buffers → Call → Answer
 answerOf b (callLayout c) = laidOut (layoutOf c (b .pool) (b .table) .refusal)
@@ -92,7 +94,8 @@ answerOf b callTally = tallied (tallyOf (b .pool) (b .table))
 answerOf b (callWriteStream t v output) = streamed (writeStreamOf (b .pool) (b .table) t v output)
 answerOf b (callOffer t fs ms) = offered (offerOf (b .pool) (b .table) t fs ms)
 answerOf b (callBackupSent t n fs ms ss) = backedUp (backupSentOf (b .pool) (b .table) t n fs ms ss .refusal) (backupSentOf (b .pool) (b .table) t n fs ms ss .version)
-answerOf b (callBackupAll ts ns is) = backedUpAll (backupAllOf (b .pool) (b .table) ts ns is .answer)
+answerOf b (callBackupAll ts ns is) = backedUpAll (backupAllAs (b .pool) (b .table) 0 ts ns is .answer)
+answerOf b (callSetRights subject t r) = rightsSet (setRightsOf (b .pool) (b .table) 0 subject t r .refusal)
 
 -- the number of the refusal that an answer carries, or 0
 unfoldable pub refusalIn : Answer → ℕ
@@ -106,13 +109,9 @@ refusalIn (tallied a) = a .refusal
 refusalIn (streamed a) = a .refusal
 refusalIn (offered a) = a .refusal
 refusalIn (backedUpAll a) = a .refusal
+refusalIn (rightsSet n) = n
 
--- the answers of a list of calls, each with the buffers as the last one left them
-unfoldable pub answersOf : Buffers → List Call → List Answer
-answersOf b [] = []
-answersOf b (c ∷ cs) = answerOf b c ∷ answersOf (buffersAfter b c) cs
-
--- every lay out of the list is refused when it is made
+-- a lay out is refused when it is made
 abbrev pub refusedLayout : Buffers → Call → Type 0
 refusedLayout b (callLayout c) = ¬ (layoutOf c (b .pool) (b .table) .refusal ≡ 0)
 refusedLayout b (callBackup era t d image) = Unit {0}
@@ -125,12 +124,9 @@ refusedLayout b (callWriteStream t v output) = Unit {0}
 refusedLayout b (callOffer t fs ms) = Unit {0}
 refusedLayout b (callBackupSent t n fs ms ss) = Unit {0}
 refusedLayout b (callBackupAll ts ns is) = Unit {0}
+refusedLayout b (callSetRights subject t r) = Unit {0}
 
-abbrev pub refusedLayouts : Buffers → List Call → Type 0
-refusedLayouts b [] = Unit {0}
-refusedLayouts b (c ∷ cs) = refusedLayout b c × refusedLayouts (buffersAfter b c) cs
-
--- ---- the state, call by call from the empty store, with no buffer in between
+-- ---- the state, with no buffer in between
 
 unfoldable pub stateAfter : Shape → State → Call → State
 stateAfter s st (callLayout c) = st
@@ -143,11 +139,8 @@ stateAfter s st callTally = st
 stateAfter s st (callWriteStream t v output) = st
 stateAfter s st (callOffer t fs ms) = st
 stateAfter s st (callBackupSent t n fs ms ss) = stateOr st (backupSent sha1 s st t n fs ms ss)
-stateAfter s st (callBackupAll ts ns is) = closedOr st (backupAll s st ts ns is)
-
-unfoldable pub stateAfterAll : Shape → State → List Call → State
-stateAfterAll s st [] = st
-stateAfterAll s st (c ∷ cs) = stateAfterAll s (stateAfter s st c) cs
+stateAfter s st (callBackupAll ts ns is) = closedOr st (backupAll s st 0 ts ns is)
+stateAfter s st (callSetRights subject t r) = stateOr st (setRights s st 0 subject t r)
 
 -- what each call answers on a state: there is always a sound store, so no call gets 10
 unfoldable pub answerIn : Shape → State → Call → Answer
@@ -161,11 +154,8 @@ answerIn s st callTally = tallied (tallyIn (some (record { shape = s; state = st
 answerIn s st (callWriteStream t v output) = streamed (writeVersion s st t v output)
 answerIn s st (callOffer t fs ms) = offered (offerIn sha1 (some (record { shape = s; state = st })) t fs ms)
 answerIn s st (callBackupSent t n fs ms ss) = backedUp (outcomeRefusal (backupSent sha1 s st t n fs ms ss)) (outcomeNumber (backupSent sha1 s st t n fs ms ss))
-answerIn s st (callBackupAll ts ns is) = backedUpAll (allAnswer (backupAll s st ts ns is))
-
-unfoldable pub answersIn : Shape → State → List Call → List Answer
-answersIn s st [] = []
-answersIn s st (c ∷ cs) = answerIn s st c ∷ answersIn s (stateAfter s st c) cs
+answerIn s st (callBackupAll ts ns is) = backedUpAll (allAnswer (backupAll s st 0 ts ns is))
+answerIn s st (callSetRights subject t r) = rightsSet (outcomeRefusal (setRights s st 0 subject t r))
 
 unfoldable pub isAccepted : Shape → State → Call → Bool
 isAccepted s st call = eqb (refusalIn (answerIn s st call)) 0

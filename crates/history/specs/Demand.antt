@@ -2,27 +2,31 @@
 use Prim.Native.Nat.{ℕ, _≤_, _<_}
 use mathlib.Core.Path.{_≡_}
 use mathlib.Core.Logic.{_↔_}
-use mathlib.Core.Bool.{true, false}
+use mathlib.Core.Bool.{true, false, cond, _||_}
 use mathlib.Core.List.{List, [], _∷_, _++_, map}
-use mathlib.Core.Option.{some, Option, none}
+use mathlib.Core.Option.{some, Option}
 use lib.ListN.{length, getD, drop}
+use lib.Dec.{eqb, leb, ltb}
 use Rattle.lists.specs.Lists.{counted, count, rises, isIn, allZero}
 use Rattle.lists.specs.Rows.{fill}
 use Rattle.lists.specs.Each.{Each}
 use Rattle.model.specs.Measures.{Shape}
-use Rattle.model.specs.State.{Block, Pointer, nullPointer, blankPointer, direct, indirect, Version, State}
+use Rattle.model.specs.State.{Block, Pointer, nullPointer, blankPointer, direct, indirect, Version, Rights, staff, State}
 use Rattle.model.specs.Image.{Era, withBlanks, isBare, imageBlocks}
 use Rattle.model.specs.Records.{namedCells, cellAt, positionAt, cellOf, isHeld}
 use Rattle.model.specs.Trace.{longestChain}
 use Rattle.model.specs.Table.{stateToWords, stateToBytes, cellsIn}
 use Rattle.model.specs.Sound.{storeOf, nextPointers}
-use Rattle.model.specs.Calls.{layoutOf, backupBy, restoreOf, RestoreAnswer, retireOf, listingOf, ListingAnswer, versionOnOf, VersionOnAnswer, tallyOf, emptyState, tillOf, heldFrom, notHeld}
+use Rattle.model.specs.Calls.{layoutOf, BackupAnswer, RestoreAnswer, RetireAnswer, ListingAnswer, VersionOnAnswer, emptyState, tillOf, heldFrom, notHeld}
+use Rattle.model.specs.Rights.{Right, toList, toRestore, toRetire, userRefusal, notOwner, backupAs, restoreAs, retireAs, listingAs, versionOnAs, tallyAs, setRightsOf}
 use Rattle.stream.specs.Stream.{StreamAnswer, streamOf, readStream}
-use Rattle.stream.specs.Version.{writeStreamOf}
-use Rattle.sent.specs.Sent.{backupSentOf}
-use Rattle.closing.specs.Closing.{imagesIn, AllAnswer, backupAllOf}
-use Rattle.history.specs.Calls.{Call, callBackup, callBackupSent, Buffers, buffersAfterAll, answersOf, refusedLayouts, stateAfterAll, answersIn}
+use Rattle.stream.specs.Version.{writeStreamAs}
+use Rattle.sent.specs.Sent.{backupSentAs}
+use Rattle.closing.specs.Closing.{imagesIn, AllAnswer, backupAllAs}
+use Rattle.history.specs.Calls.{Call, callBackup, callBackupSent, Buffers}
+use Rattle.history.specs.Users.{UserCall, rightFor, refusalBy, buffersAfterAll, answersOf, refusedLayouts, stateAfterAll, answersIn}
 use Rattle.history.specs.Keeper.{Kept, Keeper, freshKeeper, keptTill, fed, fedEach, numbersGiven, comesTo, fedAll, keptFrom, keptNotAfter, oldestKept, newestKept}
+use Rattle.history.specs.View.{tillNamed}
 
 -- the pointers of a till's version of that number; `nextPointers` gives those of the first version of a list
 unfoldable pub pointersHeld : State → ℕ → ℕ → List Pointer
@@ -55,77 +59,94 @@ module _ (bytes : ℕ) (st : State) (k : Keeper) (b : Buffers) where
   abbrev pub IsKept : ℕ → ℕ → Kept → List Kept → Type 0
   IsKept t v x newer = keptFrom v (keptTill k t .versions) ≡ x ∷ newer
 
-  abbrev pub restoring : ℕ → ℕ → List ℕ → RestoreAnswer
-  restoring t v output = restoreOf (b .pool) (b .table) t v output
+  -- §9: the refusal of user `u` on till `t`, by the rights that are kept, 0 if there is none; and that user `u` may: 3 comes before the rights, so anyone
+  -- may on a till that is not there
+  abbrev pub keptRefusal : ℕ → ℕ → Right → ℕ
+  keptRefusal u t right = userRefusal (leb (length k) t) (keptTill k t .rights) u right
+
+  abbrev pub May : ℕ → ℕ → Right → Type 0
+  May u t right = keptRefusal u t right ≡ 0
+
+  abbrev pub restoring : ℕ → ℕ → ℕ → List ℕ → RestoreAnswer
+  restoring u t v output = restoreAs (b .pool) (b .table) u t v output
 
   pub record Restores : Type 0 where
     -- "A restore of a held version, with an output long enough, gets none of 10, 3, 17, 18 and 5": it is accepted, "answers the image's length and writes the
     -- image; later bytes of the output stay"; and its longest chain is "the most so followed for any one block"
-    pub given : (t v : ℕ) (x : Kept) (newer : List Kept) (output : List ℕ) → IsKept t v x newer → length (x .image) ≤ length output
-        → (restoring t v output .refusal ≡ 0)
-        × (restoring t v output .length ≡ length (x .image))
-        × (restoring t v output .output ≡ x .image ++ drop (length (x .image)) output)
-        × (restoring t v output .hops ≡ longestChain (heldFrom v (tillOf st t .versions)))
-    pub short : (t v : ℕ) (x : Kept) (newer : List Kept) (output : List ℕ) → IsKept t v x newer → length output < length (x .image)
-        → restoring t v output .refusal ≡ 5
+    pub given : (u t v : ℕ) (x : Kept) (newer : List Kept) (output : List ℕ) → May u t toRestore → IsKept t v x newer → length (x .image) ≤ length output
+        → (restoring u t v output .refusal ≡ 0)
+        × (restoring u t v output .length ≡ length (x .image))
+        × (restoring u t v output .output ≡ x .image ++ drop (length (x .image)) output)
+        × (restoring u t v output .hops ≡ longestChain (heldFrom v (tillOf st t .versions)))
+    pub short : (u t v : ℕ) (x : Kept) (newer : List Kept) (output : List ℕ) → May u t toRestore → IsKept t v x newer → length output < length (x .image)
+        → restoring u t v output .refusal ≡ 5
     -- "A restore of a version not held is refused": of a till that is there, with 17 or 18 as the keeper's last number says
-    pub notHeld : (t v : ℕ) (output : List ℕ) → keptFrom v (keptTill k t .versions) ≡ [] → t < length k → restoring t v output .refusal ≡ notHeld (keptTill k t .last) v
-    pub noTill : (t v : ℕ) (output : List ℕ) → length k ≤ t → restoring t v output .refusal ≡ 3
+    pub notHeld : (u t v : ℕ) (output : List ℕ) → May u t toRestore → keptFrom v (keptTill k t .versions) ≡ [] → t < length k → restoring u t v output .refusal ≡ notHeld (keptTill k t .last) v
+    pub noTill : (u t v : ℕ) (output : List ℕ) → length k ≤ t → restoring u t v output .refusal ≡ 3
     -- "The longest chain that restore answers … is 0 for a till's newest version and for another at most the number of newer ones held": both in one
-    pub chain : (t v : ℕ) (x : Kept) (newer : List Kept) (output : List ℕ) → IsKept t v x newer → restoring t v output .hops ≤ length newer
+    pub chain : (u t v : ℕ) (x : Kept) (newer : List Kept) (output : List ℕ) → May u t toRestore → IsKept t v x newer → restoring u t v output .hops ≤ length newer
 
-  abbrev pub writing : ℕ → ℕ → List ℕ → StreamAnswer
-  writing t v output = writeStreamOf (b .pool) (b .table) t v output
+  abbrev pub writing : ℕ → ℕ → ℕ → List ℕ → StreamAnswer
+  writing u t v output = writeStreamAs (b .pool) (b .table) u t v output
 
   pub record Streams : Type 0 where
     -- "A version is written out as a stream": a held one, with an output long enough, as its image's. The call "answers the stream's length"; later bytes of
     -- the output stay.
-    pub given : (t v : ℕ) (x : Kept) (newer : List Kept) (output : List ℕ) → IsKept t v x newer → length (streamOf (x .image)) ≤ length output
-        → (writing t v output .refusal ≡ 0)
-        × (writing t v output .length ≡ length (streamOf (x .image)))
-        × (writing t v output .output ≡ streamOf (x .image) ++ drop (length (streamOf (x .image))) output)
+    pub given : (u t v : ℕ) (x : Kept) (newer : List Kept) (output : List ℕ) → May u t toRestore → IsKept t v x newer → length (streamOf (x .image)) ≤ length output
+        → (writing u t v output .refusal ≡ 0)
+        × (writing u t v output .length ≡ length (streamOf (x .image)))
+        × (writing u t v output .output ≡ streamOf (x .image) ++ drop (length (streamOf (x .image))) output)
     -- "with 5 for an output shorter than the stream"
-    pub short : (t v : ℕ) (x : Kept) (newer : List Kept) (output : List ℕ) → IsKept t v x newer → length output < length (streamOf (x .image))
-        → writing t v output .refusal ≡ 5
+    pub short : (u t v : ℕ) (x : Kept) (newer : List Kept) (output : List ℕ) → May u t toRestore → IsKept t v x newer → length output < length (streamOf (x .image))
+        → writing u t v output .refusal ≡ 5
     -- a version not held is refused, as a restore of it is
-    pub notHeld : (t v : ℕ) (output : List ℕ) → keptFrom v (keptTill k t .versions) ≡ [] → t < length k → writing t v output .refusal ≡ notHeld (keptTill k t .last) v
-    pub noTill : (t v : ℕ) (output : List ℕ) → length k ≤ t → writing t v output .refusal ≡ 3
+    pub notHeld : (u t v : ℕ) (output : List ℕ) → May u t toRestore → keptFrom v (keptTill k t .versions) ≡ [] → t < length k → writing u t v output .refusal ≡ notHeld (keptTill k t .last) v
+    pub noTill : (u t v : ℕ) (output : List ℕ) → length k ≤ t → writing u t v output .refusal ≡ 3
     -- "reading it gives the image"
     pub readAgain : (t v : ℕ) (x : Kept) (newer : List Kept) (output : List ℕ) → IsKept t v x newer → length (x .image) ≤ length output
         → readStream (streamOf (x .image)) output ≡ record { refusal = 0; length = length (x .image); output = x .image ++ drop (length (x .image)) output }
 
-  abbrev pub listingAt : ℕ → ListingAnswer
-  listingAt t = listingOf (b .pool) (b .table) t
+  abbrev pub listingAt : ℕ → ℕ → ListingAnswer
+  listingAt u t = listingAs (b .pool) (b .table) u t
 
-  abbrev pub closing : List ℕ → List ℕ → List ℕ → AllAnswer
-  closing tills lengths images = backupAllOf (b .pool) (b .table) tills lengths images .answer
+  abbrev pub backingUp : Era → ℕ → ℕ → Option ℕ → List ℕ → BackupAnswer
+  backingUp era u t d image = backupAs era (b .pool) (b .table) u t d image
+
+  abbrev pub sending : ℕ → ℕ → ℕ → List ℕ → List ℕ → List ℕ → BackupAnswer
+  sending u t bytes fingerprints marks segments = backupSentAs (b .pool) (b .table) u t bytes fingerprints marks segments
+
+  abbrev pub closing : ℕ → List ℕ → List ℕ → List ℕ → AllAnswer
+  closing u tills lengths images = backupAllAs (b .pool) (b .table) u tills lengths images .answer
+
+  abbrev pub retiring : ℕ → ℕ → ℕ → RetireAnswer
+  retiring u t v = retireAs (b .pool) (b .table) u t v
 
   pub record Answers : Type 0 where
     -- "An accepted listing answers the keeper's oldest, newest (0 and 0 if none is held) and last number"
-    pub listing : (t : ℕ) → listingAt t .refusal ≡ 0
-        → (listingAt t .oldest ≡ oldestKept (keptTill k t .versions))
-        × (listingAt t .newest ≡ newestKept (keptTill k t .versions))
-        × (listingAt t .last ≡ keptTill k t .last)
+    pub listing : (u t : ℕ) → listingAt u t .refusal ≡ 0
+        → (listingAt u t .oldest ≡ oldestKept (keptTill k t .versions))
+        × (listingAt u t .newest ≡ newestKept (keptTill k t .versions))
+        × (listingAt u t .last ≡ keptTill k t .last)
     -- "an accepted backup the keeper's new last number"
-    pub backup : (era : Era) (t : ℕ) (d : Option ℕ) (image : List ℕ) → backupBy era (b .pool) (b .table) t d image .refusal ≡ 0
-        → backupBy era (b .pool) (b .table) t d image .version ≡ keptTill (fed k (callBackup era t d image) true) t .last
+    pub backup : (era : Era) (u t : ℕ) (d : Option ℕ) (image : List ℕ) → backingUp era u t d image .refusal ≡ 0
+        → backingUp era u t d image .version ≡ keptTill (fed k (callBackup era t d image) true) t .last
     -- and so does an accepted second message of §5, which the keeper is fed as the backup of the image put together
-    pub backupSent : (t bytes : ℕ) (fingerprints marks segments : List ℕ) → backupSentOf (b .pool) (b .table) t bytes fingerprints marks segments .refusal ≡ 0
-        → backupSentOf (b .pool) (b .table) t bytes fingerprints marks segments .version
-        ≡ keptTill (fedEach k (comesTo b (callBackupSent t bytes fingerprints marks segments))) t .last
+    pub backupSent : (u t bytes : ℕ) (fingerprints marks segments : List ℕ) → sending u t bytes fingerprints marks segments .refusal ≡ 0
+        → sending u t bytes fingerprints marks segments .version
+        ≡ keptTill (fedEach k (comesTo b u (callBackupSent t bytes fingerprints marks segments))) t .last
     -- and so does each accepted image of a closing of §7, one after the other; a refused one answers 0
-    pub backupAll : (tills lengths images : List ℕ) → closing tills lengths images .refusal ≡ 0
-        → closing tills lengths images .versions ≡ fill 16 (numbersGiven k (imagesIn tills lengths images) (closing tills lengths images .refusals))
+    pub backupAll : (u : ℕ) (tills lengths images : List ℕ) → closing u tills lengths images .refusal ≡ 0
+        → closing u tills lengths images .versions ≡ fill 16 (numbersGiven k (imagesIn tills lengths images) (closing u tills lengths images .refusals))
     -- a held version "now goes", whichever it is
-    pub goes : (t v : ℕ) (x : Kept) (newer : List Kept) → IsKept t v x newer → retireOf (b .pool) (b .table) t v .refusal ≡ 0
+    pub goes : (u t v : ℕ) (x : Kept) (newer : List Kept) → May u t toRetire → IsKept t v x newer → retiring u t v .refusal ≡ 0
     -- and one not held is refused, of a till that is there with 17 or 18 as the keeper's last number says
-    pub notHeld : (t v : ℕ) → keptFrom v (keptTill k t .versions) ≡ [] → t < length k → retireOf (b .pool) (b .table) t v .refusal ≡ notHeld (keptTill k t .last) v
+    pub notHeld : (u t v : ℕ) → May u t toRetire → keptFrom v (keptTill k t .versions) ≡ [] → t < length k → retiring u t v .refusal ≡ notHeld (keptTill k t .last) v
     -- "an accepted retire the struck image's length"
-    pub retire : (t v : ℕ) → retireOf (b .pool) (b .table) t v .refusal ≡ 0
-        → (x : Kept) × (newer : List Kept) × (IsKept t v x newer) × (retireOf (b .pool) (b .table) t v .length ≡ length (x .image))
+    pub retire : (u t v : ℕ) → retiring u t v .refusal ≡ 0
+        → (x : Kept) × (newer : List Kept) × (IsKept t v x newer) × (retiring u t v .length ≡ length (x .image))
 
-  abbrev pub versionOn : ℕ → ℕ → VersionOnAnswer
-  versionOn t day = versionOnOf (b .pool) (b .table) t day
+  abbrev pub versionOn : ℕ → ℕ → ℕ → VersionOnAnswer
+  versionOn u t day = versionOnAs (b .pool) (b .table) u t day
 
   -- §13: "what is said about the images of held versions covers their days too, as the version record keeps them and lookup goes by them"
   pub record Days : Type 0 where
@@ -133,10 +154,10 @@ module _ (bytes : ℕ) (st : State) (k : Keeper) (b : Buffers) where
     -- a day is "equal to or later than that of the till's newest held version": from older to newer they never fall
     pub ordered : (t : ℕ) → NeverFall (map (λ (x : Kept). x .day) (keptTill k t .versions))
     -- "Lookup by day gives the newest held version not after the day"
-    pub given : (t day : ℕ) (x : Kept) (xs : List Kept) → keptNotAfter day (keptTill k t .versions) ≡ x ∷ xs
-        → (versionOn t day .refusal ≡ 0) × (versionOn t day .version ≡ newestKept (x ∷ xs))
-    pub none : (t day : ℕ) → keptNotAfter day (keptTill k t .versions) ≡ [] → t < length k → versionOn t day .refusal ≡ 29
-    pub noTill : (t day : ℕ) → length k ≤ t → versionOn t day .refusal ≡ 3
+    pub given : (u t day : ℕ) (x : Kept) (xs : List Kept) → May u t toList → keptNotAfter day (keptTill k t .versions) ≡ x ∷ xs
+        → (versionOn u t day .refusal ≡ 0) × (versionOn u t day .version ≡ newestKept (x ∷ xs))
+    pub none : (u t day : ℕ) → May u t toList → keptNotAfter day (keptTill k t .versions) ≡ [] → t < length k → versionOn u t day .refusal ≡ 29
+    pub noTill : (u t day : ℕ) → length k ≤ t → versionOn u t day .refusal ≡ 3
 
   -- block `n` of a kept image
   abbrev pub blockOf : Kept → ℕ → Block
@@ -156,8 +177,19 @@ module _ (bytes : ℕ) (st : State) (k : Keeper) (b : Buffers) where
     pub nonZero : (c : ℕ) → (isIn c (namedCells (st .shelf .records)) ≡ true) ↔ (allZero (cellAt (st .shelf) c) ≡ false)
     pub led : (c : ℕ) → (isIn c (namedCells (st .shelf .records)) ≡ true) ↔ LedTo st c
     pub inside : (c : ℕ) → isIn c (namedCells (st .shelf .records)) ≡ true → c < s .capacities .cells
-    pub counts : tallyOf (b .pool) (b .table) .refusal ≡ 0
-        → tallyOf (b .pool) (b .table) .cells ≡ count (λ c. isIn c (namedCells (st .shelf .records))) (counted (λ c. c) 0 (s .capacities .cells))
+    pub counts : (u : ℕ) → tallyAs (b .pool) (b .table) u .refusal ≡ 0
+        → tallyAs (b .pool) (b .table) u .cells ≡ count (λ c. isIn c (namedCells (st .shelf .records))) (counted (λ c. c) 0 (s .capacities .cells))
+
+  -- §9, by the rights that are kept, which are those last set
+  pub record Keys : Type 0 where
+    pub kept : (t : ℕ) → tillOf st t .rights ≡ keptTill k t .rights
+    -- "22 for an unknown user …, then 23 for a missing right, both after 3": of every call that needs a right on its till
+    pub refused : (u : ℕ) (call : Call) (right : Right) → rightFor call ≡ some right → ¬ May u (tillNamed call) right → refusalBy b u call ≡ keptRefusal u (tillNamed call) right
+    -- "The tally belongs to the owner"
+    pub tally : (u : ℕ) → tallyAs (b .pool) (b .table) u .refusal ≡ notOwner u
+    -- "The owner … sets the others"; 22 is also "for … a change to user 0's rights"
+    pub set : (u subject t : ℕ) (r : Rights) → setRightsOf (b .pool) (b .table) u subject t r .refusal
+        ≡ cond (leb (length k) t) 3 (cond (ltb staff u || (eqb subject 0 || ltb staff subject)) 22 (cond (ltb 0 u) 23 0))
 
   pub record Holds (s : Shape) : Type 0 where
     -- "the store [is the one] that the calls … give call by call from the empty store"
@@ -170,11 +202,12 @@ module _ (bytes : ℕ) (st : State) (k : Keeper) (b : Buffers) where
     pub streams : Streams
     pub answers : Answers
     pub days : Days
+    pub keys : Keys
     pub shares : Shares
     pub cells : Cells s
 
 -- a list of calls from a store laid out in `b`
-pub record Demands (s : Shape) (b : Buffers) (calls : List Call) : Type 0 where
+pub record Demands (s : Shape) (b : Buffers) (calls : List UserCall) : Type 0 where
   -- "the answers … are those that the calls … give call by call from the empty store"
   pub answers : answersOf b calls ≡ answersIn s (emptyState s) calls
   pub after : Holds (s .measures .blockBytes) (stateAfterAll s (emptyState s) calls) (fedAll (freshKeeper (s .capacities)) b calls) (buffersAfterAll b calls) s
@@ -185,5 +218,5 @@ laidOutIn s pool table = record { pool = layoutOf s pool table .pool; table = la
 -- The single claim: from any accepted lay out, with any capacities, after every list of calls, with any arguments, whose lay outs are refused.
 abbrev pub Demand3 : Type 0
 Demand3 =
-    (s : Shape) (pool table : List ℕ) (calls : List Call) → layoutOf s pool table .refusal ≡ 0 → refusedLayouts (laidOutIn s pool table) calls
+    (s : Shape) (pool table : List ℕ) (calls : List UserCall) → layoutOf s pool table .refusal ≡ 0 → refusedLayouts (laidOutIn s pool table) calls
     → Demands s (laidOutIn s pool table) calls

@@ -1,5 +1,5 @@
 -- "The keeper of whole images", which measures demand 3.
-use Prim.Native.Nat.{ℕ, suc}
+use Prim.Native.Nat.{ℕ, suc, _-_}
 use mathlib.Core.Bool.{Bool, true, false, cond, not}
 use mathlib.Core.List.{List, [], _∷_, _++_}
 use mathlib.Core.Option.{Option, none, some}
@@ -7,13 +7,15 @@ use lib.ListN.{getD, set, replicate}
 use lib.Dec.{eqb, leb}
 use Rattle.lists.specs.Lists.{keep}
 use Rattle.model.specs.Measures.{Capacities}
-use Rattle.model.specs.State.{Outcome, refused, done}
+use Rattle.model.specs.State.{Rights, staff, Outcome, refused, done}
 use Rattle.model.specs.Image.{withBlanks}
+use Rattle.model.specs.Calls.{noRights}
 use Rattle.model.specs.Sound.{Store, storeOf}
 use Rattle.sha1.specs.Sha1.{sha1}
 use Rattle.sent.specs.Sent.{made}
-use Rattle.closing.specs.Closing.{TillImage, imagesIn, AllAnswer, backupAllOf}
-use Rattle.history.specs.Calls.{Call, callLayout, callBackup, callRestore, callRetire, callListing, callVersionOn, callTally, callWriteStream, callOffer, callBackupSent, callBackupAll, Buffers, buffersAfter, refusalOf}
+use Rattle.closing.specs.Closing.{TillImage, imagesIn, AllAnswer, backupAllAs}
+use Rattle.history.specs.Calls.{Call, callLayout, callBackup, callRestore, callRetire, callListing, callVersionOn, callTally, callWriteStream, callOffer, callBackupSent, callBackupAll, callSetRights, Buffers}
+use Rattle.history.specs.Users.{UserCall, buffersBy, refusalBy}
 
 -- a held version: its number, its whole image, its day, and the number of its till's newest version when it was taken, 0 if none was held
 pub record Kept : Type 0 where
@@ -22,18 +24,19 @@ pub record Kept : Type 0 where
   pub day : ℕ
   pub previous : ℕ
 
--- the last number given, and the held versions, the oldest first
+-- the last number given, the rights of users 1 to 7, and the held versions, the oldest first
 pub record KeptTill : Type 0 where
   pub last : ℕ
+  pub rights : List Rights
   pub versions : List Kept
 
 abbrev pub Keeper : Type 0
 Keeper = List KeptTill
 
 unfoldable pub noTill : KeptTill
-noTill = record { last = 0; versions = [] }
+noTill = record { last = 0; rights = replicate staff noRights; versions = [] }
 
--- after laying out every last number is 0 and no version is held
+-- after laying out every last number is 0, no user but the owner has a right, and no version is held
 unfoldable pub freshKeeper : Capacities → Keeper
 freshKeeper c = replicate (c .tills) noTill
 
@@ -63,6 +66,7 @@ dayKept (some day) xs = day
 unfoldable pub filed : KeptTill → Option ℕ → List ℕ → KeptTill
 filed t brought image = record {
   last = suc (t .last);
+  rights = t .rights;
   versions = t .versions ++ (record { number = suc (t .last); image = image; day = dayKept brought (t .versions); previous = newestKept (t .versions) } ∷ []);
 }
 
@@ -72,7 +76,11 @@ keptNotAfter day xs = keep (λ (x : Kept). leb (x .day) day) xs
 
 -- an accepted retire strikes the version named
 unfoldable pub struckOut : KeptTill → ℕ → KeptTill
-struckOut t v = record { last = t .last; versions = keep (λ (x : Kept). not (eqb (x .number) v)) (t .versions) }
+struckOut t v = record { last = t .last; rights = t .rights; versions = keep (λ (x : Kept). not (eqb (x .number) v)) (t .versions) }
+
+-- an accepted change of rights puts the subject's in place of those before
+unfoldable pub rightsKept : KeptTill → ℕ → Rights → KeptTill
+rightsKept t subject rights = record { last = t .last; rights = set (t .rights) (subject - 1) rights; versions = t .versions }
 
 -- Fed the arguments of a call and whether it was accepted, and nothing out of pool or table but the image of §5. Messages of §5 and closings of §7 do not
 -- come here: they come to backups.
@@ -90,6 +98,8 @@ fed k (callWriteStream t v output) ok = k
 fed k (callOffer t fs ms) ok = k
 fed k (callBackupSent t n fs ms ss) ok = k
 fed k (callBackupAll ts ns is) ok = k
+fed k (callSetRights subject t r) true = set k t (rightsKept (keptTill k t) subject r)
+fed k (callSetRights subject t r) false = k
 
 -- a call that was made, and whether it was accepted
 pub record CallMade : Type 0 where
@@ -134,27 +144,28 @@ numbersGiven k (x ∷ xs) (n ∷ refusals) =
 
 -- ---- what the keeper is fed for a call
 
-unfoldable pub itself : Buffers → Call → List CallMade
-itself b c = record { call = c; accepted = eqb (refusalOf b c) 0 } ∷ []
+unfoldable pub itself : Buffers → ℕ → Call → List CallMade
+itself b u c = record { call = c; accepted = eqb (refusalBy b u c) 0 } ∷ []
 
 -- a second message is the backup of its image, a closing is those of its images, and every other call is itself
-unfoldable pub comesTo : Buffers → Call → List CallMade
-comesTo b (callLayout c) = itself b (callLayout c)
-comesTo b (callBackup era t d image) = itself b (callBackup era t d image)
-comesTo b (callRestore t v output) = itself b (callRestore t v output)
-comesTo b (callRetire t v) = itself b (callRetire t v)
-comesTo b (callListing t) = itself b (callListing t)
-comesTo b (callVersionOn t day) = itself b (callVersionOn t day)
-comesTo b callTally = itself b callTally
-comesTo b (callWriteStream t v output) = itself b (callWriteStream t v output)
-comesTo b (callOffer t fs ms) = itself b (callOffer t fs ms)
-comesTo b (callBackupSent t n fs ms ss) =
-    record { call = callBackup withBlanks t none (imageSent (storeOf (b .pool) (b .table)) t n fs ms ss); accepted = eqb (refusalOf b (callBackupSent t n fs ms ss)) 0 } ∷ []
-comesTo b (callBackupAll ts ns is) = closingMade (imagesIn ts ns is) (backupAllOf (b .pool) (b .table) ts ns is .answer)
+unfoldable pub comesTo : Buffers → ℕ → Call → List CallMade
+comesTo b u (callLayout c) = itself b u (callLayout c)
+comesTo b u (callBackup era t d image) = itself b u (callBackup era t d image)
+comesTo b u (callRestore t v output) = itself b u (callRestore t v output)
+comesTo b u (callRetire t v) = itself b u (callRetire t v)
+comesTo b u (callListing t) = itself b u (callListing t)
+comesTo b u (callVersionOn t day) = itself b u (callVersionOn t day)
+comesTo b u callTally = itself b u callTally
+comesTo b u (callWriteStream t v output) = itself b u (callWriteStream t v output)
+comesTo b u (callOffer t fs ms) = itself b u (callOffer t fs ms)
+comesTo b u (callBackupSent t n fs ms ss) =
+    record { call = callBackup withBlanks t none (imageSent (storeOf (b .pool) (b .table)) t n fs ms ss); accepted = eqb (refusalBy b u (callBackupSent t n fs ms ss)) 0 } ∷ []
+comesTo b u (callBackupAll ts ns is) = closingMade (imagesIn ts ns is) (backupAllAs (b .pool) (b .table) u ts ns is .answer)
+comesTo b u (callSetRights subject t r) = itself b u (callSetRights subject t r)
 
-unfoldable pub fedAll : Keeper → Buffers → List Call → Keeper
+unfoldable pub fedAll : Keeper → Buffers → List UserCall → Keeper
 fedAll k b [] = k
-fedAll k b (c ∷ cs) = fedAll (fedEach k (comesTo b c)) (buffersAfter b c) cs
+fedAll k b (c ∷ cs) = fedAll (fedEach k (comesTo b (c .user) (c .call))) (buffersBy b (c .user) (c .call)) cs
 
 -- the kept version of that number and the newer ones; [] where none is held
 unfoldable pub keptFrom : ℕ → List Kept → List Kept

@@ -8,7 +8,8 @@ use Rattle.model.specs.State.{Shelf, Version}
 use Rattle.model.specs.Trace.{imageOf, longestChain}
 use Rattle.model.specs.Sound.{Store, storeOf}
 use Rattle.model.specs.Calls.{layoutOf, tillOf}
-use Rattle.history.specs.Calls.{Call, callLayout, callBackup, callRestore, callRetire, callListing, callVersionOn, callTally, callWriteStream, callOffer, callBackupSent, callBackupAll, Buffers, refusalOf, buffersAfterAll, buffersAfter, answerOf, refusedLayouts}
+use Rattle.history.specs.Calls.{Call, callLayout, callBackup, callRestore, callRetire, callListing, callVersionOn, callTally, callWriteStream, callOffer, callBackupSent, callBackupAll, callSetRights, Buffers}
+use Rattle.history.specs.Users.{UserCall, buffersBy, answerBy, refusalBy, buffersAfterAll, refusedLayouts}
 use Rattle.history.specs.View.{tillNamed}
 use Rattle.history.specs.Demand.{laidOutIn}
 
@@ -25,10 +26,12 @@ IsBackupRestoreOrRetire (callWriteStream t v output) = ⊥
 IsBackupRestoreOrRetire (callOffer t fs ms) = ⊥
 IsBackupRestoreOrRetire (callBackupSent t n fs ms ss) = ⊥
 IsBackupRestoreOrRetire (callBackupAll ts ns is) = ⊥
+IsBackupRestoreOrRetire (callSetRights subject t r) = ⊥
 
 -- the first is accepted, and then the second
-abbrev pub AcceptedInTurn : Buffers → Call → Call → Type 0
-AcceptedInTurn b first second = (refusalOf b first ≡ 0) × (refusalOf (buffersAfter b first) second ≡ 0)
+abbrev pub AcceptedInTurn : Buffers → UserCall → UserCall → Type 0
+AcceptedInTurn b first second =
+    (refusalBy b (first .user) (first .call) ≡ 0) × (refusalBy (buffersBy b (first .user) (first .call)) (second .user) (second .call) ≡ 0)
 
 -- a version that a till holds: its number, its length, its day, its image and its longest chain
 pub record HeldVersion : Type 0 where
@@ -57,14 +60,14 @@ pub record SameTills (b b′ : Buffers) : Type 0 where
   -- "the tills then hold the same numbers, lengths and images and every version has the same longest chain"; §13: and the same days
   pub held : (t : ℕ) → heldBy one t ≡ heldBy other t
   -- so every restore answers the same and leaves the same output, and every listing answers the same
-  pub restores : (t v : ℕ) (output : List ℕ) → answerOf b (callRestore t v output) ≡ answerOf b′ (callRestore t v output)
-  pub listings : (t : ℕ) → answerOf b (callListing t) ≡ answerOf b′ (callListing t)
+  pub restores : (u t v : ℕ) (output : List ℕ) → answerBy b u (callRestore t v output) ≡ answerBy b′ u (callRestore t v output)
+  pub listings : (u t : ℕ) → answerBy b u (callListing t) ≡ answerBy b′ u (callListing t)
 
 -- "For two calls on different tills, … accepted in both orders"
 abbrev pub OrderFree : Buffers → Type 0
 OrderFree b =
-    (c d : Call) → IsBackupRestoreOrRetire c → IsBackupRestoreOrRetire d
-    → ¬ (tillNamed c ≡ tillNamed d)
+    (c d : UserCall) → IsBackupRestoreOrRetire (c .call) → IsBackupRestoreOrRetire (d .call)
+    → ¬ (tillNamed (c .call) ≡ tillNamed (d .call))
     → AcceptedInTurn b c d
     → AcceptedInTurn b d c
     → SameTills (buffersAfterAll b (c ∷ d ∷ [])) (buffersAfterAll b (d ∷ c ∷ []))
@@ -72,5 +75,5 @@ OrderFree b =
 -- The claim: on every store that a list of calls leaves, from any accepted lay out, as in demand 3.
 abbrev pub EitherOrder : Type 0
 EitherOrder =
-    (s : Shape) (pool table : List ℕ) (calls : List Call) → layoutOf s pool table .refusal ≡ 0 → refusedLayouts (laidOutIn s pool table) calls
+    (s : Shape) (pool table : List ℕ) (calls : List UserCall) → layoutOf s pool table .refusal ≡ 0 → refusedLayouts (laidOutIn s pool table) calls
     → OrderFree (buffersAfterAll (laidOutIn s pool table) calls)

@@ -1,22 +1,21 @@
 -- What a till shows of its versions, records and cells apart; what a call makes of that, and what it answers to it.
-use Prim.Native.Nat.{ℕ, suc, _*_}
+use Prim.Native.Nat.{ℕ, suc, _-_, _*_}
 use mathlib.Core.Bool.{Bool, true, false, cond, _||_}
 use mathlib.Core.List.{List, [], _∷_, _++_, map}
 use mathlib.Core.Option.{Option, none, some}
-use lib.ListN.{length, getD, drop}
+use lib.ListN.{length, getD, set, drop}
 use lib.Dec.{eqb, leb, ltb}
 use Rattle.lists.specs.Lists.{counted, keep, allZero, largest}
 use Rattle.lists.specs.Over.{over}
 use Rattle.model.specs.Measures.{Shape}
-use Rattle.model.specs.State.{Block, Shelf, Version, Till, State}
+use Rattle.model.specs.State.{Block, Shelf, Version, Rights, staff, Till, State}
 use Rattle.model.specs.Image.{Era, isBare, imageBlocks}
 use Rattle.model.specs.Turn.{turnsTo}
 use Rattle.model.specs.Trace.{imageOf}
 use Rattle.model.specs.Calls.{tillOf, notHeld, RestoreAnswer, restoreRefusal, listingRefusal, VersionOnAnswer}
 use Rattle.stream.specs.Version.{longestOutput, writeRestored}
-use Rattle.sent.specs.Sent.{OfferAnswer}
 use Rattle.closing.specs.Closing.{allRefused}
-use Rattle.history.specs.Calls.{Call, callLayout, callBackup, callRestore, callRetire, callListing, callVersionOn, callTally, callWriteStream, callOffer, callBackupSent, callBackupAll, Answer, laidOut, backedUp, restored, retired, listed, foundOn, tallied, streamed, offered, backedUpAll}
+use Rattle.history.specs.Calls.{Call, callLayout, callBackup, callRestore, callRetire, callListing, callVersionOn, callTally, callWriteStream, callOffer, callBackupSent, callBackupAll, callSetRights, Answer, laidOut, backedUp, restored, retired, listed, foundOn, tallied, streamed, offered, backedUpAll, rightsSet}
 use Rattle.history.specs.Kinds.{Kind, zeroKind, blankKind, directKind, indirectKind, kindOf, kindAt, hopsOfKind}
 
 -- A version as its till shows it: number, length, day, image, what each pointer is and where an indirect one leads.
@@ -29,6 +28,7 @@ pub record VersionView : Type 0 where
 
 pub record TillView : Type 0 where
   pub last : ℕ
+  pub rights : List Rights
   pub versions : List VersionView
 
 unfoldable pub viewVersions : ℕ → Shelf → List Version → List VersionView
@@ -37,7 +37,7 @@ viewVersions bytes shelf (v ∷ newer) =
     record { number = v .number; length = v .length; day = v .day; image = imageOf bytes shelf (v ∷ newer); kinds = map kindOf (v .pointers) } ∷ viewVersions bytes shelf newer
 
 unfoldable pub viewOf : ℕ → Shelf → Till → TillView
-viewOf bytes shelf t = record { last = t .last; versions = viewVersions bytes shelf (t .versions) }
+viewOf bytes shelf t = record { last = t .last; rights = t .rights; versions = viewVersions bytes shelf (t .versions) }
 
 -- till `t` of a state
 abbrev pub viewAt : ℕ → State → ℕ → TillView
@@ -67,6 +67,7 @@ tillNamed (callWriteStream t v output) = t
 tillNamed (callOffer t fs ms) = t
 tillNamed (callBackupSent t n fs ms ss) = t
 tillNamed (callBackupAll ts ns is) = 0
+tillNamed (callSetRights subject t r) = t
 
 -- a new version's pointer for a block
 unfoldable pub newKind : Era → Block → Kind
@@ -100,6 +101,7 @@ dayShown (some day) ws = day
 unfoldable pub shownWith : Era → ℕ → TillView → Option ℕ → List ℕ → TillView
 shownWith era bytes w d image = record {
   last = suc (w .last);
+  rights = w .rights;
   versions =
       turnNewest era bytes (imageBlocks bytes image) (w .versions)
       ++ (record { number = suc (w .last); length = length image; day = dayShown d (w .versions); image = image; kinds = map (newKind era) (imageBlocks bytes image) } ∷ []);
@@ -121,7 +123,10 @@ dropVersion n (w ∷ x ∷ ws) =
     cond (eqb (w .number) n) (x ∷ ws) (cond (eqb (x .number) n) (withKinds w (map (takeOverKind (x .kinds)) (w .kinds)) ∷ ws) (w ∷ r))
 
 unfoldable pub shownWithout : TillView → ℕ → TillView
-shownWithout w n = record { last = w .last; versions = dropVersion n (w .versions) }
+shownWithout w n = record { last = w .last; rights = w .rights; versions = dropVersion n (w .versions) }
+
+unfoldable pub shownRights : TillView → ℕ → Rights → TillView
+shownRights w subject rights = record { last = w .last; rights = set (w .rights) (subject - 1) rights; versions = w .versions }
 
 -- What the till shows after a call that was accepted or refused: a function of what it showed before and of the call's arguments. What a second message
 -- of §5 and a closing of §7 leave is that of the backups they come to.
@@ -139,6 +144,8 @@ changed bytes (callWriteStream t v output) ok w = w
 changed bytes (callOffer t fs ms) ok w = w
 changed bytes (callBackupSent t n fs ms ss) ok w = w
 changed bytes (callBackupAll ts ns is) ok w = w
+changed bytes (callSetRights subject t r) true w = shownRights w subject r
+changed bytes (callSetRights subject t r) false w = w
 
 -- the calls whose arguments say what they make of their till: all but the second message of §5 and the closing of §7
 abbrev pub IsPlain : Call → Type 0
@@ -153,6 +160,7 @@ IsPlain (callWriteStream t v output) = Unit {0}
 IsPlain (callOffer t fs ms) = Unit {0}
 IsPlain (callBackupSent t n fs ms ss) = ⊥
 IsPlain (callBackupAll ts ns is) = ⊥
+IsPlain (callSetRights subject t r) = Unit {0}
 
 -- ---- what a call on a till answers, from what the till shows; 14 and 16, which depend on the shared shelf, apart, and the messages of §5, which do too
 
@@ -168,6 +176,7 @@ isOnTill (callWriteStream t v output) = true
 isOnTill (callOffer t fs ms) = false
 isOnTill (callBackupSent t n fs ms ss) = false
 isOnTill (callBackupAll ts ns is) = false
+isOnTill (callSetRights subject t r) = true
 
 unfoldable pub shownFrom : ℕ → List VersionView → List VersionView
 shownFrom n [] = []
@@ -221,3 +230,4 @@ answerShown s w (callWriteStream t v output) =
 answerShown s w (callOffer t fs ms) = offered (record { refusal = 0; marks = ms })
 answerShown s w (callBackupSent t n fs ms ss) = backedUp 0 0
 answerShown s w (callBackupAll ts ns is) = backedUpAll (allRefused 0)
+answerShown s w (callSetRights subject t r) = rightsSet (cond (leb (s .capacities .tills) t) 3 (cond (eqb subject 0 || ltb staff subject) 22 0))

@@ -18,7 +18,7 @@ use Rattle.lists.proofs.Same.{zeros-zero}
 use Rattle.lists.proofs.Rises.{rises-snoc}
 use Rattle.lists.proofs.Counts.{count-append}
 use Rattle.model.specs.Measures.{Measures, Shape, isWithin, partsFor}
-use Rattle.model.specs.State.{Block, Pointer, nullPointer, blankPointer, direct, indirect, Shelf, Version, Till, State, Outcome, refused, done}
+use Rattle.model.specs.State.{Block, Pointer, nullPointer, blankPointer, direct, indirect, Shelf, Version, Rights, Till, State, Outcome, refused, done}
 use Rattle.model.specs.Image.{zeroBlock, Era, isBare, imageBlocks, imageSegments}
 use Rattle.model.specs.Records.{isHeld, positionAt}
 use Rattle.model.specs.Place.{Placed, placeAll}
@@ -140,12 +140,12 @@ module _ (era : Era) (s : Shape) (p : Shelf) (x : Exact p) (bs : List Block) (ne
   ext-length vs = newest-length vs (turn era p bs (newestPointers vs)) (newV ∷ []) ∙ add-one (length vs)
 
 -- the till's numbers with the new one
-numbered : (s : Shape) (last : ℕ) (vs ws : List Version) → isNumbered (s .capacities .versions) (record { last = last; versions = vs }) ≡ true
+numbered : (s : Shape) (last : ℕ) (rights : List Rights) (vs ws : List Version) → isNumbered (s .capacities .versions) (record { last = last; rights = rights; versions = vs }) ≡ true
     → length vs < s .capacities .versions → (last ≡ 65535 → ⊥) → length ws ≡ suc (length vs)
     → map (λ (v : Version). v .number) ws ≡ map (λ (v : Version). v .number) vs ++ (suc last ∷ [])
-    → isNumbered (s .capacities .versions) (record { last = suc last; versions = ws }) ≡ true
+    → isNumbered (s .capacities .versions) (record { last = suc last; rights = rights; versions = ws }) ≡ true
 unfolding isNumbered
-numbered s last vs ws h room top l e =
+numbered s last rights vs ws h room top l e =
     let most : last ≤ 65535 = leb-true _ _ (clause _ 1 h) in
     all-true _ (
       le-leb (length ws) (s .capacities .versions) (omega (arith, l, room)),
@@ -187,6 +187,7 @@ pub record Filed (era : Era) (s : Shape) (st : State) (t day : ℕ) (image : Lis
   pub before : isTill s placed (tillOf st t) ≡ true
   pub till : Till
   pub last : till .last ≡ suc (tillOf st t .last)
+  pub rights : till .rights ≡ tillOf st t .rights
   pub versions : till .versions ≡ extended era s placed exact (imageBlocks (s .measures .blockBytes) image) version good (tillOf st t .versions)
   pub tills : a .state .tills ≡ set (st .tills) t till
   -- the sweep keeps what all pointers lead to
@@ -284,13 +285,13 @@ module _ (era : Era) (s : Shape) (pr : Proper (s .measures)) (st : State) (h : i
   unfolding isTill after tillWith
   after-till =
       all-true _ (
-        numbered s (tillOf st t .last) vs (after .versions) (unfold vs in clause _ 0 before) (unfold vs in room) number
+        numbered s (tillOf st t .last) (tillOf st t .rights) vs (after .versions) (unfold vs in clause _ 0 before) (unfold vs in room) number
             (ap length after-versions ∙ ext-length era s (placed .shelf) (ok .exact) bs newV good vs)
             (ap (map (λ (v : Version). v .number)) after-versions ∙ (unfold newV in ext-numbers era s (placed .shelf) (ok .exact) bs newV good vs)),
         (
           ap (areTraceable (s .measures .blockBytes) (s .capacities .blocks) (placed .shelf)) after-versions
               ∙ extended-traceable era s (placed .shelf) (ok .exact) bs newV good len lead end vs (unfold vs in clause _ 1 before),
-          tt,
+          (clause _ 2 before, tt),
         ),
       )
 
@@ -353,6 +354,7 @@ module _ (era : Era) (s : Shape) (pr : Proper (s .measures)) (st : State) (h : i
     before = before;
     till = after;
     last = unfold tillWith in refl;
+    rights = unfold tillWith in refl;
     versions = after-versions;
     tills = refl;
     swept = fin .serves;

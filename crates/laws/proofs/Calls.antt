@@ -1,14 +1,16 @@
 -- A sound store's calls leave a sound store, on the buffers: whatever is backed up or retired, accepted or refused.
-use mathlib.Core.Path.{_≡_, refl, ap, ap₂, _∙_}
-use mathlib.Core.Bool.{true}
+use mathlib.Core.Path.{_≡_, refl, sym, ap, _∙_}
+use mathlib.Core.Bool.{Bool, true, false, cond}
 use mathlib.Core.List.{List}
 use mathlib.Core.Option.{Option, some}
 use Prim.Native.Nat.{ℕ}
+use lib.Dec.{eqb}
 use Rattle.model.specs.Measures.{Shape}
 use Rattle.model.specs.Image.{Era}
-use Rattle.model.specs.State.{State, Outcome, refused, done}
+use Rattle.model.specs.State.{Rights, State, Outcome, refused, done}
 use Rattle.model.specs.Table.{stateToWords, stateToBytes}
 use Rattle.model.specs.Sound.{isSound, Store, storeOf}
+use Rattle.model.specs.Rights.{toBackUp, refusalFor, refusalAt, unless, backupRefusal, backupAs, setRights, rightsAnswer, setRightsIn, setRightsOf}
 use Rattle.model.specs.Calls.{layoutOf, emptyState, backup, backupAnswer, backupIn, backupBy, retire, retireAnswer, retireIn, retireOf, After, stateOr}
 use Rattle.laws.proofs.Fits.{Fit, range-fit}
 use Rattle.laws.proofs.Serves.{sound-valid}
@@ -16,6 +18,7 @@ use Rattle.laws.proofs.RoundTrip.{round-trip, store-found}
 use Rattle.laws.proofs.Empty.{empty-sound, layout-accepted}
 use Rattle.laws.proofs.Backup.{backup-sound}
 use Rattle.laws.proofs.Retire.{retire-sound}
+use Rattle.laws.proofs.Keys.{rights-set}
 
 -- the buffers are a sound store
 pub record IsStore (pool table : List ℕ) : Type 0 where
@@ -54,6 +57,31 @@ module _ (pool table : List ℕ) (x : Store) (e : storeOf pool table ≡ some x)
     is = backup-store era t brought image;
   }
 
+  -- a user's backup is the backup, or 22 or 23
+  pub backup-as : (era : Era) (user t : ℕ) (brought : Option ℕ) (image : List ℕ)
+      → backupAs era pool table user t brought image
+      ≡ backupAnswer pool table (x .shape) (unless (refusalAt (x .shape) (x .state) user t toBackUp) refused (backup era (x .shape) (x .state) t brought image))
+  unfolding backupAs refusalFor backupBy backupIn backupRefusal
+  backup-as era user t brought image = rw e (go (refusalAt (x .shape) (x .state) user t toBackUp) (eqb (refusalAt (x .shape) (x .state) user t toBackUp) 0) (backup era (x .shape) (x .state) t brought image))
+    where
+      go : (n : ℕ) (b : Bool) (o : Outcome After)
+          → cond b (backupAnswer pool table (x .shape) o) (record { refusal = n; version = 0; pool = pool; table = table }) ≡ backupAnswer pool table (x .shape) (cond b o (refused n))
+      go n true o = refl
+      go n false o = unfold backupAnswer in refl
+
+  pub backup-as-store : (era : Era) (user t : ℕ) (brought : Option ℕ) (image : List ℕ)
+      → storeOf (backupAs era pool table user t brought image .pool) (backupAs era pool table user t brought image .table)
+      ≡ some (record { shape = x .shape; state = stateOr (x .state) (unless (refusalAt (x .shape) (x .state) user t toBackUp) refused (backup era (x .shape) (x .state) t brought image)) })
+  unfolding backupAs refusalFor backupRefusal
+  backup-as-store era user t brought image = rw e (go (eqb (refusalAt (x .shape) (x .state) user t toBackUp) 0))
+    where
+      go : (b : Bool)
+          → storeOf (cond b (backupBy era pool table t brought image) (record { refusal = refusalAt (x .shape) (x .state) user t toBackUp; version = 0; pool = pool; table = table }) .pool)
+          (cond b (backupBy era pool table t brought image) (record { refusal = refusalAt (x .shape) (x .state) user t toBackUp; version = 0; pool = pool; table = table }) .table)
+          ≡ some (record { shape = x .shape; state = stateOr (x .state) (cond b (backup era (x .shape) (x .state) t brought image) (refused (refusalAt (x .shape) (x .state) user t toBackUp))) })
+      go true = backup-store era t brought image
+      go false = unfold stateOr in e
+
   pub retire-leaves : (t v : ℕ) → IsStore (retireOf pool table t v .pool) (retireOf pool table t v .table)
   unfolding retireOf retireIn
   retire-leaves t v = rw e (go (retire (x .shape) (x .state) t v) refl)
@@ -62,3 +90,17 @@ module _ (pool table : List ℕ) (x : Store) (e : storeOf pool table ≡ some x)
           → IsStore (retireAnswer pool table (x .shape) o .pool) (retireAnswer pool table (x .shape) o .table)
       go (refused n) q = unfold retireAnswer in record { store = x; is = e }
       go (done a) q = unfold retireAnswer in left (x .shape) (a .state) fit (retire-sound (x .shape) t v (x .state) a (store-found pool table x e .sound) q)
+
+  -- what setting rights leaves
+  pub rights-store : (user subject t : ℕ) (r : Rights)
+      → storeOf pool (setRightsOf pool table user subject t r .table) ≡ some (record { shape = x .shape; state = stateOr (x .state) (setRights (x .shape) (x .state) user subject t r) })
+  unfolding setRightsOf setRightsIn
+  rights-store user subject t r = rw e (go (setRights (x .shape) (x .state) user subject t r) refl)
+    where
+      go : (o : Outcome After) → setRights (x .shape) (x .state) user subject t r ≡ o
+          → storeOf pool (rightsAnswer table (x .shape) o .table) ≡ some (record { shape = x .shape; state = stateOr (x .state) o })
+      go (refused n) q = unfold rightsAnswer stateOr in e
+      go (done a) q =
+          let set = rights-set (x .shape) (x .state) user subject t r a (store-found pool table x e .sound) q in
+          unfold rightsAnswer stateOr in
+          (ap (λ (p : List ℕ). storeOf p (stateToWords (x .shape) (a .state))) (sym (store-found pool table x e .bytes) ∙ set .bytes) ∙ round-trip (x .shape) (a .state) fit (set .sound))

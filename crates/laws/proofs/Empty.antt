@@ -61,7 +61,7 @@ no-pointers (suc n) = no-pointers n
 empty-till : (s : Shape) (shelf : Shelf) → isTill s shelf emptyTill ≡ true
 unfolding isTill isNumbered areTraceable emptyTill
 empty-till s shelf =
-    all-true _ (all-true _ (le-leb 0 (s .capacities .versions) zero-le, (refl, (unfold rises in refl, tt))), (refl, tt))
+    all-true _ (all-true _ (le-leb 0 (s .capacities .versions) zero-le, (refl, (unfold rises in refl, tt))), (refl, (refl, tt)))
 
 pub empty-sound : (s : Shape) → inRange s ≡ true → isSound s (emptyState s) ≡ true
 unfolding isSound isShaped emptyState hasCells

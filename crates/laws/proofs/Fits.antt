@@ -1,19 +1,18 @@
 -- What a sound state's numbers are below, so that words can hold them; and the measures that the laws are for.
-use mathlib.Core.Path.{_≡_, refl, sym, subst}
-use mathlib.Core.Bool.{Bool, true, false, not, false≢true}
+use mathlib.Core.Path.{_≡_, sym, subst}
+use mathlib.Core.Bool.{true, false, not, false≢true}
 use mathlib.Core.List.{List, [], _∷_}
-use Prim.Native.Nat.{ℕ, zero, suc, _+_, _-_, _*_, _/_, _≤_, _<_, zero-le, suc-le-suc}
+use Prim.Native.Nat.{ℕ, zero, suc, _+_, _-_, _*_, _≤_, _<_, zero-le, suc-le-suc}
 use native.Mathlib.Nat.{le-of-suc-le-suc, zero-lt-suc, suc-mul, mul-comm, div-lt-iff-lt-mul}
 use native.Mathlib.Omega.{arith}
 use lib.ListN.{length, getD}
-use lib.Dec.{lit<, lit≤}
 use borrow.Author.Tests.{eqb-true, leb-true}
 use Rattle.lists.specs.Lists.{every}
 use Rattle.lists.specs.Each.{Each}
 use Rattle.lists.proofs.Tests.{clause}
 use Rattle.lists.proofs.Each.{every-each, each-at}
 use Rattle.model.specs.Measures.{Measures, Shape, isWithin, inRange, partsFor}
-use Rattle.model.specs.State.{Block, Pointer, nullPointer, blankPointer, direct, indirect, Position, nullPosition, Segment, Version, Till, State}
+use Rattle.model.specs.State.{Block, Pointer, nullPointer, blankPointer, direct, indirect, nullPosition, Segment, Version, Till, staff, State}
 use Rattle.model.specs.Records.{isHeld, positionAt}
 use Rattle.model.specs.Table.{kindUnit, shapeOf, stateToWords}
 use Rattle.model.specs.Sound.{isSound, isShaped, hasLength, isNumbered, isNull, leads, nextPointers, areTraceable, isTill}
@@ -58,6 +57,7 @@ pub record VersionFits (s : Shape) (v : Version) : Type 0 where
 pub record TillFits (s : Shape) (t : Till) : Type 0 where
   pub versions : Each (VersionFits s) (t .versions)
   pub most : length (t .versions) ≤ s .capacities .versions
+  pub rights : length (t .rights) ≡ staff
 
 pub record StateFits (s : Shape) (st : State) : Type 0 where
   pub tills : Each (TillFits s) (st .tills)
@@ -139,7 +139,7 @@ module _ (s : Shape) (st : State) (l : Limits s st) where
 
   till-fits : (t : Till) → isTill s (st .shelf) t ≡ true → TillFits s t
   unfolding isTill isNumbered
-  till-fits t h = record { versions = versions-fit (t .versions) (clause _ 1 h); most = leb-true _ _ (clause _ 0 (clause _ 0 h)) }
+  till-fits t h = record { versions = versions-fit (t .versions) (clause _ 1 h); most = leb-true _ _ (clause _ 0 (clause _ 0 h)); rights = eqb-true _ _ (clause _ 2 h) }
 
 pub state-fits : (s : Shape) (st : State) → 0 < s .measures .blockBytes → s .measures .segmentBlocks ≤ 16 → isSound s st ≡ true → StateFits s st
 unfolding isSound isShaped

@@ -1,6 +1,7 @@
 -- Laws of the store's definitions, named after what they are about.
 pub mod Measures
 pub mod Ranges
+pub mod Rights
 pub mod Fits
 pub mod RoundTrip
 pub mod Uses
@@ -24,6 +25,7 @@ pub mod Empty
 pub mod Named
 pub mod Bounds
 pub mod Words
+pub mod Keys
 pub mod Stores
 pub mod Tills
 pub mod Calls

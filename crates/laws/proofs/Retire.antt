@@ -15,7 +15,7 @@ use Rattle.lists.proofs.Rises.{rises-without}
 use Rattle.lists.proofs.Tests.{all-true, clause, every-at, every-set}
 use Rattle.lists.proofs.Uses.{uses}
 use Rattle.model.specs.Measures.{Measures, Shape}
-use Rattle.model.specs.State.{Pointer, Shelf, Version, Till, State, Outcome, refused, done}
+use Rattle.model.specs.State.{Pointer, Shelf, Version, Rights, Till, State, Outcome, refused, done}
 use Rattle.model.specs.Records.{isHeld}
 use Rattle.model.specs.Place.{oneMore}
 use Rattle.model.specs.Sweep.{oneLess, release, claim, sweep}
@@ -161,17 +161,18 @@ module _ (m : Measures) (a : Shelf) (qs ps : List Pointer) (f : ShelfFits m a) (
       }
 
 -- a till without a version
-closed-till : (s : Shape) (a : Shelf) (last : ℕ) (older : List Version) (v : Version) (newer : List Version) → isTill s a (record { last = last; versions = older ++ (v ∷ newer) }) ≡ true
-    → isTill s a (record { last = last; versions = closeUp older v newer }) ≡ true
+closed-till : (s : Shape) (a : Shelf) (last : ℕ) (rights : List Rights) (older : List Version) (v : Version) (newer : List Version)
+    → isTill s a (record { last = last; rights = rights; versions = older ++ (v ∷ newer) }) ≡ true
+    → isTill s a (record { last = last; rights = rights; versions = closeUp older v newer }) ≡ true
 unfolding isTill isNumbered
-closed-till s a last older v newer h =
+closed-till s a last rights older v newer h =
     let few : length (older ++ (v ∷ newer)) ≤ s .capacities .versions = leb-true _ _ (clause _ 0 (clause _ 0 h)) in
     all-true _ (
       all-true _ (
         le-leb (length (closeUp older v newer)) (s .capacities .versions) (omega (arith, few, length-append older (v ∷ newer), close-length)),
         (clause _ 1 (clause _ 0 h), (ap (rises 0 last) close-numbers ∙ rises-without 0 last (v .number) (numbers older) (numbers newer) (ap (rises 0 last) (sym split-numbers) ∙ clause _ 2 (clause _ 0 h)), tt)),
       ),
-      (close-traceable v newer s a older (clause _ 1 h), tt),
+      (close-traceable v newer s a older (clause _ 1 h), (clause _ 2 h, tt)),
     )
   where
     numbers : List Version → List ℕ
@@ -212,7 +213,7 @@ pub record Retired (s : Shape) (st : State) (t v : ℕ) (a : After) : Type 0 whe
   pub newer : List Version
   pub from : heldFrom v (tillOf st t .versions) ≡ version ∷ newer
   pub answer : a .answer ≡ version .length
-  pub tills : a .state .tills ≡ set (st .tills) t (record { last = tillOf st t .last; versions = closeUp (heldBefore v (tillOf st t .versions)) version newer })
+  pub tills : a .state .tills ≡ set (st .tills) t (record { last = tillOf st t .last; rights = tillOf st t .rights; versions = closeUp (heldBefore v (tillOf st t .versions)) version newer })
   -- the sweep keeps what all pointers lead to
   pub swept : Serves (s .measures) (st .shelf) (a .state .shelf) (allPointers (a .state .tills))
   pub sound : isSound s (a .state) ≡ true
@@ -230,7 +231,7 @@ module _ (s : Shape) (st : State) (t v : ℕ) (ht : t < length (st .tills)) (h :
   split = between v (tillOf st t .versions) w newer e .split
 
   till : Till
-  till = record { last = tillOf st t .last; versions = closeUp older w newer }
+  till = record { last = tillOf st t .last; rights = tillOf st t .rights; versions = closeUp older w newer }
 
   -- the pointers taken over
   ts : List Pointer
@@ -267,9 +268,9 @@ module _ (s : Shape) (st : State) (t v : ℕ) (ht : t < length (st .tills)) (h :
   unfolding left
   fin = exchange (s .measures) (st .shelf) (allPointers (st .tills)) ts (valid .fits) (valid .exact) (valid .counts) claimed (w .pointers) ps shared
 
-  old : isTill s (st .shelf) (record { last = tillOf st t .last; versions = older ++ (w ∷ newer) }) ≡ true
+  old : isTill s (st .shelf) (record { last = tillOf st t .last; rights = tillOf st t .rights; versions = older ++ (w ∷ newer) }) ≡ true
   old =
-      ap (λ (vs : List Version). isTill s (st .shelf) (record { last = tillOf st t .last; versions = vs })) (sym split)
+      ap (λ (vs : List Version). isTill s (st .shelf) (record { last = tillOf st t .last; rights = tillOf st t .rights; versions = vs })) (sym split)
       ∙ (unfold tillOf in every-at (isTill s (st .shelf)) emptyTill (st .tills) (valid .tills) t ht)
 
   closed-sound : isSound s (withTill st t till left) ≡ true
@@ -285,7 +286,7 @@ module _ (s : Shape) (st : State) (t v : ℕ) (ht : t < length (st .tills)) (h :
         exact = fin .exact;
         tills =
             tills-again s (st .shelf) left ps (fin .serves) (set (st .tills) t till)
-            (every-set (isTill s (st .shelf)) (st .tills) t till (valid .tills) (closed-till s (st .shelf) (tillOf st t .last) older w newer old))
+            (every-set (isTill s (st .shelf)) (st .tills) t till (valid .tills) (closed-till s (st .shelf) (tillOf st t .last) (tillOf st t .rights) older w newer old))
             (λ k i. le-refl (count (leadsTo k i) ps));
         counts = fin .counts;
       })
@@ -293,7 +294,7 @@ module _ (s : Shape) (st : State) (t v : ℕ) (ht : t < length (st .tills)) (h :
 
   closed : Retired s st t v (record {
     state =
-        withTill st t (record { last = tillOf st t .last; versions = closeUp (heldBefore v (tillOf st t .versions)) w newer })
+        withTill st t (record { last = tillOf st t .last; rights = tillOf st t .rights; versions = closeUp (heldBefore v (tillOf st t .versions)) w newer })
         (sweep (s .measures) (release (claim (st .shelf) (map (taken (w .pointers)) (newestPointers (heldBefore v (tillOf st t .versions))))) (w .pointers)));
     answer = w .length;
   })

@@ -8,7 +8,6 @@ use native.Mathlib.Nat.{min-eq-left, mul-le-mul-right}
 use native.Mathlib.Omega.{arith}
 use lib.ListN.{length, getD, take, drop, length-append, length-map, replicate, replicate-append-replicate}
 use lib.Seq.{take-at, drop-at, drop-drop, take-all}
-use lib.Dec.{lit<}
 use borrow.Author.Tests.{eqb-true, eq-eqb}
 use Rattle.lists.specs.Lists.{allOf, sameNumbers}
 use Rattle.lists.specs.Rows.{rows, parts, fill}
@@ -21,10 +20,11 @@ use Rattle.lists.proofs.Rows.{length-joined, length-rows, length-fill, fill-spl
 use Rattle.lists.proofs.Cuts.{parts-rows, chunks-rows, chunks-joined, joined-chunks, map-back}
 use Rattle.lists.proofs.Masks.{half, odd}
 use Rattle.model.specs.Measures.{Shape, slotWords, tillWords, recordWords, tableWords, poolBytes, partsFor, inRange}
-use Rattle.model.specs.State.{Pointer, nullPointer, blankPointer, direct, indirect, Position, nullPosition, blankPosition, held, removed, Segment, Version, Till, State}
+use Rattle.model.specs.State.{Pointer, nullPointer, blankPointer, direct, indirect, Position, nullPosition, blankPosition, held, removed, Segment, Version, Till, staff, State}
 use Rattle.model.specs.Records.{isHeld, isRemoved, isBlankPosition, cellOf, countOf, freeSegment}
 use Rattle.model.specs.Table.{kindUnit, pointerWord, recordToWords, versionToWords, tillToWords, headerToWords, stateToWords, stateToBytes, shapeOf, pointerOf, wordToPointer, positionOf, positionsIn, segmentIn, recordsIn, cellsIn, shelfIn, versionIn, versionsIn, tillIn, tillsIn, tillsPart, recordsPart, stateIn}
 use Rattle.model.specs.Sound.{isSound, Store, ifSound, hasLengths, storeAs, storeOf}
+use Rattle.laws.proofs.Rights.{rights-back}
 use Rattle.laws.proofs.Fits.{Fit, range-fit, PointerFits, VersionFits, TillFits, StateFits, state-fits}
 
 -- ---- a record
@@ -154,7 +154,7 @@ length-till v b t = omega (arith, length-fill (v * slotWords b) (rows (versionTo
 pub till-back : (s : Shape) (t : Till) → TillFits s t
     → tillIn (s .measures .blockBytes) (s .capacities .versions) (s .capacities .blocks) (tillToWords (s .capacities .versions) (s .capacities .blocks) t) ≡ t
 unfolding tillIn versionsIn tillToWords
-till-back s t f = λ i. record { last = t .last; versions = slots i }
+till-back s t f = λ i. record { last = t .last; rights = rights-back staff (t .rights) (f .rights) i; versions = slots i }
   where
     wide : Each (λ (v : Version). length (versionToWords (s .capacities .blocks) v) ≡ slotWords (s .capacities .blocks)) (t .versions)
     wide = each-all (λ (v : Version). length (versionToWords (s .capacities .blocks) v) ≡ slotWords (s .capacities .blocks)) (length-version (s .capacities .blocks)) (t .versions)

@@ -6,7 +6,7 @@ use Prim.Native.Nat.{ℕ, _+_, _-_, _*_, _≤_, _<_, suc, zero}
 use native.Mathlib.Nat.{not-suc-le-zero, le-refl}
 use native.Mathlib.Omega.{arith}
 use lib.ListN.{length, getD, drop}
-use lib.Dec.{ltb}
+use lib.Dec.{eqb, ltb}
 use borrow.Author.Tests.{eqb-true, eq-eqb, ltb-true, ltb-false}
 use Rattle.lists.specs.Lists.{every, allOf, count, allZero}
 use Rattle.lists.specs.Rows.{joined}
@@ -14,7 +14,7 @@ use Rattle.lists.proofs.Counts.{count-append}
 use Rattle.lists.proofs.Each.{each-every, every-each₂}
 use Rattle.lists.proofs.Tests.{all-true, clause, every-head, every-tail}
 use Rattle.model.specs.Measures.{Measures, Shape, inRange}
-use Rattle.model.specs.State.{Block, Pointer, nullPointer, blankPointer, direct, indirect, Shelf, Version, Till, State}
+use Rattle.model.specs.State.{Block, Pointer, nullPointer, blankPointer, direct, indirect, Shelf, Version, Till, State, staff}
 use Rattle.model.specs.Records.{isHeld, cellAt, positionAt}
 use Rattle.model.specs.Trace.{endVia, endOf, blockAt, tracedBlock}
 use Rattle.model.specs.Sound.{isSound, isShaped, isNumbered, leads, nextPointers, endsZero, areTraceable, isTill, isUsed, leadsTo, allPointers}
@@ -109,8 +109,8 @@ module _ (s : Shape) (a b : Shelf) (ps : List Pointer) (sv : Serves (s .measures
       let e = every-head (isTill s a) t ts h in
       let sp : (k i : ℕ) → count (leadsTo k i) (pointersOf (t .versions) ++ allPointers ts) ≡ count (leadsTo k i) (pointersOf (t .versions)) + count (leadsTo k i) (allPointers ts) =
       λ k i. count-append (leadsTo k i) (pointersOf (t .versions)) (allPointers ts) in
-      rw (let z : allOf (isNumbered (s .capacities .versions) t ∷ areTraceable (s .measures .blockBytes) (s .capacities .blocks) b (t .versions) ∷ []) ≡ true =
-      all-true _ (clause _ 0 e, (traceable-again (t .versions) (clause _ 1 e) (λ k i. omega (arith, g k i, sp k i)), tt)) in z)
+      rw (let z : allOf (isNumbered (s .capacities .versions) t ∷ areTraceable (s .measures .blockBytes) (s .capacities .blocks) b (t .versions) ∷ eqb (length (t .rights)) staff ∷ []) ≡ true =
+      all-true _ (clause _ 0 e, (traceable-again (t .versions) (clause _ 1 e) (λ k i. omega (arith, g k i, sp k i)), (clause _ 2 e, tt))) in z)
       (tills-again ts (every-tail (isTill s a) t ts h) (λ k i. omega (arith, g k i, sp k i)))
 
 -- ---- what a sound state has

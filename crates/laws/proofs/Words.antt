@@ -18,7 +18,7 @@ use Rattle.lists.proofs.Uses.{uses-in}
 use Rattle.lists.proofs.Rows.{each-fill}
 use Rattle.lists.proofs.Masks.{mask-lt}
 use Rattle.model.specs.Measures.{Measures, Shape, isBase, slotWords, inRange, isWithin}
-use Rattle.model.specs.State.{Pointer, nullPointer, blankPointer, direct, indirect, Position, nullPosition, blankPosition, held, removed, Segment, Version, Till, State}
+use Rattle.model.specs.State.{Pointer, nullPointer, blankPointer, direct, indirect, Position, nullPosition, blankPosition, held, removed, Segment, Version, Till, staff, State}
 use Rattle.model.specs.Records.{isHeld, isRemoved, isBlankPosition, cellOf, countOf, namedCells}
 use Rattle.model.specs.Table.{pointerWord, recordToWords, versionToWords, tillToWords, measureWord, headerToWords, stateToWords}
 use Rattle.model.specs.Sound.{isSound, isTill, isNumbered, areTraceable, hasLength}
@@ -29,6 +29,7 @@ use Rattle.laws.proofs.Named.{named-inside}
 use Rattle.laws.proofs.Bounds.{count-bound}
 use Rattle.laws.specs.Ranges.{Measured, Ranges}
 use Rattle.laws.proofs.Ranges.{ranges}
+use Rattle.laws.proofs.Rights.{rights-lt}
 use Rattle.laws.proofs.Fits.{Fit, PointerFits, VersionFits, TillFits, StateFits, state-fits}
 
 abbrev pub Word : ℕ → Type 0
@@ -81,20 +82,20 @@ module _ (s : Shape) (fit : Fit s) (st : State) (h : isSound s st ≡ true) (sma
   )
 
   abbrev SmallTill : Till → Type 0
-  SmallTill t = (t .last ≤ 65535) × (length (t .versions) ≤ 65535) × Each Small (t .versions)
+  SmallTill t = (length (t .rights) ≡ staff) × (t .last ≤ 65535) × (length (t .versions) ≤ 65535) × Each Small (t .versions)
 
   till-words : (t : Till) → SmallTill t → Each Word (tillToWords (s .capacities .versions) (s .capacities .blocks) t)
   unfolding tillToWords
   till-words t f = (
-    omega (arith, f .0),
+    omega (arith, f .1),
     (
-      omega (arith, f .1),
+      omega (arith, f .2),
       (
-        lit< tt,
+        omega (arith, rights-lt (t .rights) (f .0)),
         (
           lit< tt,
           each-fill Word (s .capacities .versions * slotWords (s .capacities .blocks)) (rows (versionToWords (s .capacities .blocks)) (t .versions)) (lit< tt)
-              (each-joined Word Small (versionToWords (s .capacities .blocks)) version-words (t .versions) (f .2)),
+              (each-joined Word Small (versionToWords (s .capacities .blocks)) version-words (t .versions) (f .3)),
         ),
       ),
     ),
@@ -105,6 +106,7 @@ module _ (s : Shape) (fit : Fit s) (st : State) (h : isSound s st ≡ true) (sma
   small-till t f e ds =
       let top : t .last ≤ 65535 = leb-true _ _ (clause _ 1 (clause _ 0 e)) in
       let many : 0 + length (map (λ (v : Version). v .number) (t .versions)) ≤ t .last = rises-length 0 (t .last) (map (λ (v : Version). v .number) (t .versions)) zero-le (clause _ 2 (clause _ 0 e)) in (
+        f .rights,
         top,
         omega (arith, top, many, length-map (t .versions) (λ (v : Version). v .number)),
         each-both (VersionFits s) (λ (v : Version). (v .number ≤ 65535) × ((v .length ≤ s .measures .blockBytes * s .capacities .blocks) × Word (v .day))) (t .versions) (f .versions)

@@ -18,8 +18,8 @@ use Rattle.model.specs.State.{Position, nullPosition, Till}
 use Rattle.model.specs.Image.{zeroBlock}
 use Rattle.model.specs.Records.{freeSegment, isHeld, isRemoved, cellOf, countOf}
 use Rattle.lists.specs.Masks.{maskOf}
-use Rattle.model.specs.Table.{recordToWords, versionToWords, tillToWords, measureWord, measuresIn, headerToWords, shapeOf, stateToWords, stateToBytes}
-use Rattle.model.specs.Calls.{LengthAnswer, LayoutAnswer, emptyTill, emptyState, tableLengthOf, layoutOf, layoutIf}
+use Rattle.model.specs.Table.{recordToWords, versionToWords, rightsBits, rightsWord, tillToWords, measureWord, measuresIn, headerToWords, shapeOf, stateToWords, stateToBytes}
+use Rattle.model.specs.Calls.{LengthAnswer, LayoutAnswer, noRights, emptyTill, emptyState, tableLengthOf, layoutOf, layoutIf}
 use Rattle.numbers.specs.Measures.{measuresOf}
 use Rattle.layout.specs.declared.Capacities.{Capacities}
 use Rattle.layout.specs.Layout.{shape}
@@ -125,7 +125,7 @@ zero-rows words x k e zero = rw (zero-mul k)
 zero-rows words x k e (suc n) = let p : suc n * k ≡ k + n * k = omega (arith, suc-mul n k) in rw (e, zero-rows words x k e n, p) (zeros-append k (n * k))
 
 empty-till : (v b : ℕ) → tillToWords v b emptyTill ≡ replicate (tillWords v b) 0
-unfolding tillToWords emptyTill joined
+unfolding tillToWords emptyTill rightsWord rightsBits noRights maskOf joined
 empty-till v b = let e : 4 + v * (3 + b) ≡ suc (suc (suc (suc (v * (3 + b))))) = omega arith in rw (e, fill-zeros (v * slotWords b))
 
 zero-cells : (k n : ℕ) → joined {A = ℕ} (replicate n (replicate k 0)) ≡ replicate (n * k) 0

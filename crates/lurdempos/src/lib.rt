@@ -1,6 +1,9 @@
 // The calls as C sees them (include/lurdempos.h): each passes its arguments on, and its contract is the call's.
 ghost use mathlib.Core.Path.{_≡_};
-ghost use Rattle.model.specs.Calls.{tableLengthOf, layoutOf, backupOf, backupDatedOf, restoreOf, retireOf, listingOf, versionOnOf, tallyOf};
+ghost use mathlib.Core.Option.{none, some};
+ghost use Rattle.model.specs.Image.{withBlanks};
+ghost use Rattle.model.specs.Calls.{tableLengthOf, layoutOf};
+ghost use Rattle.model.specs.Rights.{backupAs, restoreAs, retireAs, listingAs, versionOnAs, tallyAs, setRightsOf};
 ghost use Rattle.layout.specs.Layout.{lengthAnswer, layoutAnswer};
 ghost use Rattle.backup.specs.Call.{backedUpAnswer};
 ghost use Rattle.tills.specs.Answers.{listingAnswer, versionFound};
@@ -8,16 +11,17 @@ ghost use Rattle.restore.specs.Answers.{restoreAnswer};
 ghost use Rattle.retire.specs.Answers.{retireAnswer};
 ghost use Rattle.tally.specs.Answers.{tallyAnswer};
 ghost use Rattle.stream.specs.Stream.{readStream};
-ghost use Rattle.stream.specs.Version.{writeStreamOf};
+ghost use Rattle.stream.specs.Version.{writeStreamAs};
 ghost use Rattle.stream_write.specs.Answers.{streamWritten};
 ghost use Rattle.stream_read.specs.Answers.{streamRead};
 ghost use Rattle.sha1.specs.Sha1.{digest};
-ghost use Rattle.sent.specs.Sent.{offerOf, backupSentOf};
+ghost use Rattle.sent.specs.Sent.{offerAs, backupSentAs};
 ghost use Rattle.sent_offer.specs.Offer.{offered};
-ghost use Rattle.closing.specs.Closing.{backupAllOf};
+ghost use Rattle.closing.specs.Closing.{backupAllAs};
 ghost use Rattle.closing_backup.specs.Answers.{allBackedUp};
+ghost use Rattle.rights.specs.Answers.{rightsAnswered};
 ghost use Rattle.dispatcher.specs.Turns.{turnOf};
-ghost use Rattle.lurdempos.specs.Boundary.{theEight};
+ghost use Rattle.lurdempos.specs.Boundary.{theEight, theFour};
 use backup::BackedUp;
 use closing_backup::AllBackedUp;
 use dispatcher::Stepped;
@@ -27,6 +31,7 @@ use layout::TableLength;
 use numbers::Measures;
 use restore::Restored;
 use retire::Retired;
+use rights::Rights;
 use sha1::Digest;
 use stream_read::StreamRead;
 use stream_write::StreamWritten;
@@ -41,6 +46,11 @@ pub struct LaidOut {
 
 #[repr(C)]
 pub struct Offered {
+    pub refusal: u32,
+}
+
+#[repr(C)]
+pub struct RightsSet {
     pub refusal: u32,
 }
 
@@ -109,89 +119,95 @@ pub extern "C" fn lurdempos_lay_out(
 pub extern "C" fn lurdempos_backup(
     pool: &mut [u8],
     table: &mut [u32],
+    user: u32,
     till: u32,
     image: &[u8],
 ) -> BackedUp
-    ensures { λ r. ⌜ backedUpAnswer r (now (pool .exit)) (now (table .exit)) ≡ backupOf (now (pool .entry)) (now (table .entry)) till (now (image .entry)) ⌝ }
+    ensures { λ r. ⌜ backedUpAnswer r (now (pool .exit)) (now (table .exit)) ≡ backupAs withBlanks (now (pool .entry)) (now (table .entry)) user till none (now (image .entry)) ⌝ }
 {
-    store::backup(pool, table, till, image)
+    store::backup(pool, table, user, till, image)
 }
 
 #[no_mangle]
 pub extern "C" fn lurdempos_backup_dated(
     pool: &mut [u8],
     table: &mut [u32],
+    user: u32,
     till: u32,
     day: u32,
     image: &[u8],
 ) -> BackedUp
-    ensures { λ r. ⌜ backedUpAnswer r (now (pool .exit)) (now (table .exit)) ≡ backupDatedOf (now (pool .entry)) (now (table .entry)) till day (now (image .entry)) ⌝ }
+    ensures { λ r. ⌜ backedUpAnswer r (now (pool .exit)) (now (table .exit)) ≡ backupAs withBlanks (now (pool .entry)) (now (table .entry)) user till (some day) (now (image .entry)) ⌝ }
 {
-    store::backup_dated(pool, table, till, day, image)
+    store::backup_dated(pool, table, user, till, day, image)
 }
 
 #[no_mangle]
 pub extern "C" fn lurdempos_restore(
     pool: &[u8],
     table: &[u32],
+    user: u32,
     till: u32,
     version: u32,
     output: &mut [u8],
 ) -> Restored
-    ensures { λ r. ⌜ restoreAnswer r (now (output .exit)) ≡ restoreOf (now (pool .entry)) (now (table .entry)) till version (now (output .entry)) ⌝ }
+    ensures { λ r. ⌜ restoreAnswer r (now (output .exit)) ≡ restoreAs (now (pool .entry)) (now (table .entry)) user till version (now (output .entry)) ⌝ }
 {
-    store::restore(pool, table, till, version, output)
+    store::restore(pool, table, user, till, version, output)
 }
 
 #[no_mangle]
 pub extern "C" fn lurdempos_retire(
     pool: &mut [u8],
     table: &mut [u32],
+    user: u32,
     till: u32,
     version: u32,
 ) -> Retired
-    ensures { λ r. ⌜ retireAnswer r (now (pool .exit)) (now (table .exit)) ≡ retireOf (now (pool .entry)) (now (table .entry)) till version ⌝ }
+    ensures { λ r. ⌜ retireAnswer r (now (pool .exit)) (now (table .exit)) ≡ retireAs (now (pool .entry)) (now (table .entry)) user till version ⌝ }
 {
-    store::retire(pool, table, till, version)
+    store::retire(pool, table, user, till, version)
 }
 
 #[no_mangle]
-pub extern "C" fn lurdempos_listing(pool: &[u8], table: &[u32], till: u32) -> Listing
-    ensures { λ r. ⌜ listingAnswer r ≡ listingOf (now (pool .entry)) (now (table .entry)) till ⌝ }
+pub extern "C" fn lurdempos_listing(pool: &[u8], table: &[u32], user: u32, till: u32) -> Listing
+    ensures { λ r. ⌜ listingAnswer r ≡ listingAs (now (pool .entry)) (now (table .entry)) user till ⌝ }
 {
-    store::listing(pool, table, till)
+    store::listing(pool, table, user, till)
 }
 
 #[no_mangle]
 pub extern "C" fn lurdempos_version_on(
     pool: &[u8],
     table: &[u32],
+    user: u32,
     till: u32,
     day: u32,
 ) -> VersionFound
-    ensures { λ r. ⌜ versionFound r ≡ versionOnOf (now (pool .entry)) (now (table .entry)) till day ⌝ }
+    ensures { λ r. ⌜ versionFound r ≡ versionOnAs (now (pool .entry)) (now (table .entry)) user till day ⌝ }
 {
-    store::version_on(pool, table, till, day)
+    store::version_on(pool, table, user, till, day)
 }
 
 #[no_mangle]
-pub extern "C" fn lurdempos_tally(pool: &[u8], table: &[u32]) -> Tally
-    ensures { λ r. ⌜ tallyAnswer r ≡ tallyOf (now (pool .entry)) (now (table .entry)) ⌝ }
+pub extern "C" fn lurdempos_tally(pool: &[u8], table: &[u32], user: u32) -> Tally
+    ensures { λ r. ⌜ tallyAnswer r ≡ tallyAs (now (pool .entry)) (now (table .entry)) user ⌝ }
 {
-    store::tally(pool, table)
+    store::tally(pool, table, user)
 }
 
 #[no_mangle]
 pub extern "C" fn lurdempos_write_stream(
     pool: &[u8],
     table: &[u32],
+    user: u32,
     till: u32,
     version: u32,
     output: &mut [u8],
 ) -> StreamWritten
-    ensures { λ r. ⌜ streamWritten r (now (output .exit)) ≡ writeStreamOf (now (pool .entry)) (now (table .entry)) till version (now (output .entry)) ⌝ }
+    ensures { λ r. ⌜ streamWritten r (now (output .exit)) ≡ writeStreamAs (now (pool .entry)) (now (table .entry)) user till version (now (output .entry)) ⌝ }
 {
-    store::write_stream(pool, table, till, version, output)
+    store::write_stream(pool, table, user, till, version, output)
 }
 
 #[no_mangle]
@@ -205,13 +221,14 @@ pub extern "C" fn lurdempos_read_stream(stream: &[u8], output: &mut [u8]) -> Str
 pub extern "C" fn lurdempos_offer(
     pool: &[u8],
     table: &[u32],
+    user: u32,
     till: u32,
     fingerprints: &[u8],
     marks: &mut [u8],
 ) -> Offered
-    ensures { λ r. ⌜ offered (r .refusal) (now (marks .exit)) ≡ offerOf (now (pool .entry)) (now (table .entry)) till (now (fingerprints .entry)) (now (marks .entry)) ⌝ }
+    ensures { λ r. ⌜ offered (r .refusal) (now (marks .exit)) ≡ offerAs (now (pool .entry)) (now (table .entry)) user till (now (fingerprints .entry)) (now (marks .entry)) ⌝ }
 {
-    let refusal = store::offer(pool, table, till, fingerprints, marks);
+    let refusal = store::offer(pool, table, user, till, fingerprints, marks);
     Offered { refusal: refusal }
 }
 
@@ -219,28 +236,69 @@ pub extern "C" fn lurdempos_offer(
 pub extern "C" fn lurdempos_backup_sent(
     pool: &mut [u8],
     table: &mut [u32],
+    user: u32,
     till: u32,
     length: u32,
     fingerprints: &[u8],
     marks: &[u8],
     segments: &[u8],
 ) -> BackedUp
-    ensures { λ r. ⌜ backedUpAnswer r (now (pool .exit)) (now (table .exit)) ≡ backupSentOf (now (pool .entry)) (now (table .entry)) till length (now (fingerprints .entry)) (now (marks .entry)) (now (segments .entry)) ⌝ }
+    ensures { λ r. ⌜ backedUpAnswer r (now (pool .exit)) (now (table .exit)) ≡ backupSentAs (now (pool .entry)) (now (table .entry)) user till length (now (fingerprints .entry)) (now (marks .entry)) (now (segments .entry)) ⌝ }
 {
-    store::backup_sent(pool, table, till, length, fingerprints, marks, segments)
+    store::backup_sent(
+        pool,
+        table,
+        user,
+        till,
+        length,
+        fingerprints,
+        marks,
+        segments,
+    )
 }
 
 #[no_mangle]
 pub extern "C" fn lurdempos_backup_all(
     pool: &mut [u8],
     table: &mut [u32],
+    user: u32,
     tills: &[u32],
     lengths: &[u32],
     images: &[u8],
 ) -> AllBackedUp
-    ensures { λ r. ⌜ allBackedUp r (now (pool .exit)) (now (table .exit)) ≡ backupAllOf (now (pool .entry)) (now (table .entry)) (now (tills .entry)) (now (lengths .entry)) (now (images .entry)) ⌝ }
+    ensures { λ r. ⌜ allBackedUp r (now (pool .exit)) (now (table .exit)) ≡ backupAllAs (now (pool .entry)) (now (table .entry)) user (now (tills .entry)) (now (lengths .entry)) (now (images .entry)) ⌝ }
 {
-    store::backup_all(pool, table, tills, lengths, images)
+    store::backup_all(pool, table, user, tills, lengths, images)
+}
+
+#[no_mangle]
+pub extern "C" fn lurdempos_set_rights(
+    pool: &[u8],
+    table: &mut [u32],
+    user: u32,
+    subject: u32,
+    till: u32,
+    list: bool,
+    back_up: bool,
+    restore: bool,
+    retire: bool,
+) -> RightsSet
+    ensures { λ r. ⌜ rightsAnswered (r .refusal) (now (table .exit)) ≡ setRightsOf (now (pool .entry)) (now (table .entry)) user subject till (theFour list «back_up» restore retire) ⌝ }
+{
+    let refusal = store::set_rights(
+        pool,
+        table,
+        user,
+        subject,
+        till,
+        Rights {
+            list: list,
+            back_up: back_up,
+            restore: restore,
+            retire: retire,
+        },
+    );
+    RightsSet { refusal: refusal }
 }
 
 #[no_mangle]

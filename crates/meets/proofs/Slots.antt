@@ -18,6 +18,7 @@ use Rattle.lists.proofs.Tests.{every-head, every-tail, clause, every-at}
 use Rattle.model.specs.Measures.{Capacities, Shape, partsFor, tillWords, recordWords, headerWords}
 use Rattle.model.specs.Records.{positionAt}
 use Rattle.model.specs.Sound.{nextPointers, isNull, leads, areTraceable, isSound, isTill}
+use Rattle.model.specs.Calls.{emptyTill}
 use Rattle.model.specs.State.{Shelf, Version, Pointer, nullPointer, blankPointer, direct, indirect, State, Till, Segment}
 use Rattle.model.specs.Table.{versionIn, versionToWords, tillToWords, versionsIn, stateToWords, headerToWords, recordToWords}
 use Rattle.laws.proofs.Fits.{record-in, held-in, TillFits, VersionFits, pointer-in}
@@ -107,18 +108,15 @@ module _ (s : Shape) (st : State) (sound : isSound s st ≡ true) (t : ℕ) (ht 
   abbrev b : ℕ
   b = c .blocks
 
-  abbrev noTill : Till
-  noTill = record { last = 0; versions = [] }
-
   abbrev pub till : Till
-  till = getD (st .tills) t noTill
+  till = getD (st .tills) t emptyTill
 
   traceable : areTraceable bytes b (st .shelf) (till .versions) ≡ true
   unfolding isSound isTill
-  traceable = clause _ 1 (every-at (isTill s (st .shelf)) noTill (st .tills) (clause _ 4 sound) t ht)
+  traceable = clause _ 1 (every-at (isTill s (st .shelf)) emptyTill (st .tills) (clause _ 4 sound) t ht)
 
   pub till-fits : TillFits s till
-  till-fits = each-at (TillFits s) noTill (st .tills) (fits s st sound .tills) t ht
+  till-fits = each-at (TillFits s) emptyTill (st .tills) (fits s st sound .tills) t ht
 
   positions-most : (k : ℕ) → length (getD (st .shelf .records) k []) ≤ n
   positions-most k = go (st .shelf .records) (fits s st sound .records) k
@@ -133,7 +131,7 @@ module _ (s : Shape) (st : State) (sound : isSound s st ≡ true) (t : ℕ) (ht 
   unfolding stateToWords headerToWords
   till-row =
       ap (take (tillWords (c .versions) b)) (sym (drop-drop (t * tillWords (c .versions) b) 8 (stateToWords s st)))
-      ∙ row-append (tillToWords (c .versions) b) (tillWords (c .versions) b) noTill (st .tills)
+      ∙ row-append (tillToWords (c .versions) b) (tillWords (c .versions) b) emptyTill (st .tills)
       (wide-all (tillToWords (c .versions) b) (tillWords (c .versions) b) (length-till (c .versions) b) (st .tills)) (rows recordToWords (st .shelf .records)) t ht
 
   -- each pointer of a version names what is there

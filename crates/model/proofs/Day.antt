@@ -8,7 +8,7 @@ use lib.ListN.{take, drop, replicate}
 use Rattle.lists.specs.Lists.{counted, every, keep, count, total, firstFrom, allOf, sameNumbers, rises, isIn, distinct, allZero, largest}
 use Rattle.lists.specs.Rows.{joined, parts, chunks, fill}
 use Rattle.lists.specs.Masks.{maskOf}
-use Rattle.model.specs.Measures.{isWithin, areMeasures, inRange, partsFor, tableWords, poolBytes, isBase, Measures, Shape}
+use Rattle.model.specs.Measures.{isWithin, areMeasures, inRange, partsFor, tableWords, poolBytes, isBase, Shape}
 use Rattle.model.specs.Image.{zeroBlock, blankBlock, isBlank, isBare, blockFrom, blocksFrom, imageBlocks, segmentsFrom, imageSegments}
 use Rattle.model.specs.Records.{freeSegment, isFree, cellsOf, namedCells, cellAt, positionAt, equals}
 use Rattle.model.specs.Runs.{freeCells, better, scan, findRun}
@@ -16,14 +16,17 @@ use Rattle.model.specs.Place.{barePointer, barePosition, pointersTo, new
 use Rattle.model.specs.Turn.{turnsTo, target, turn, turning}
 use Rattle.model.specs.Sweep.{changeAt, changeAll, release, claim, moved, clearCells, freeRecord, strikeOnly, compact, removeFrom, sweepRecord, sweepFrom, sweep}
 use Rattle.model.specs.Trace.{hopsVia, endVia, hops, endOf, blockAt, tracedBlock, tracedBlocks, imageOf, longestChain}
-use Rattle.model.specs.Table.{pointerWord, recordToWords, versionToWords, tillToWords, measureWord, headerToWords, stateToWords, stateToBytes, measuresIn, shapeOf, pointerOf, wordToPointer, positionOf, positionsIn, segmentIn, recordsIn, cellsIn, shelfIn, versionIn, versionsIn, tillIn, tillsIn, stateIn}
+use Rattle.model.specs.Table.{pointerWord, recordToWords, versionToWords, rightsBits, rightsWord, tillToWords, measureWord, headerToWords, stateToWords, stateToBytes, measuresIn, shapeOf, pointerOf, wordToPointer, positionOf, positionsIn, segmentIn, recordsIn, cellsIn, shelfIn, versionIn, versionsIn, isOdd, rightsOf, rightsIn, tillIn, tillsIn, stateIn}
 use Rattle.model.specs.Sound.{isShaped, hasLength, isNumbered, isUsed, hasCells, nextPointers, endsZero, areTraceable, isTill, allPointers, areCounted, allCounted, areFilled, isSound, ifSound, hasLengths, storeAs, storeOf}
-use Rattle.model.specs.Calls.{tableLengthOf, emptyTill, emptyState, layoutIf, layoutOf, tillOf, heldFrom, withTill, newestPointers, withNewestPointers, newestDay, dayFor, tillWith, fileIn, placeAndFile, backupAnswer, backupIn, backupBy, backupOf, backupDatedOf, notAfter, newestOrNone, versionOnIn, versionOnOf, restoreRefusal, restoreFrom, restoreIn, restoreOf, heldBefore, firstOf, notHeld, lookUp, closeUp, retireFrom, retireAnswer, retireIn, retireOf, oldestNumber, newestNumber, listingRefusal, listTill, listingIn, listingOf, tallyIn, tallyOf}
+use Rattle.model.specs.Calls.{tableLengthOf, noRights, emptyTill, emptyState, layoutIf, layoutOf, tillOf, heldFrom, withTill, newestPointers, withNewestPointers, newestDay, dayFor, tillWith, fileIn, placeAndFile, backupAnswer, backupIn, backupBy, backupOf, backupDatedOf, notAfter, newestOrNone, versionOnIn, versionOnOf, restoreRefusal, restoreFrom, restoreIn, restoreOf, heldBefore, firstOf, notHeld, lookUp, closeUp, retireFrom, retireAnswer, retireIn, retireOf, oldestNumber, newestNumber, listingRefusal, listTill, listingIn, listingOf, tallyIn, tallyOf}
+use Rattle.model.specs.Rights.{refusalFor, ownerRefusal, backupRefusal, backupAs, restoreAs, retireRefusal, retireAs, listingAs, versionOnRefusal, versionOnAs, tallyRefusal, tallyAs, withRights, setRightsIn, setRightsOf, rightsAnswer}
+use Rattle.model.specs.Rights as Rights
 use Rattle.model.specs.State.{nullPointer, direct, indirect, nullPosition, held, removed}
 use Rattle.model.specs.Calls as Calls
-use Rattle.model.proofs.Steps.{Step, tableLength, layout, backup, restore, retire, listing, tally, slotIs, recordIs, poolIs, settingsAre, overwrite, Row, slotAt, recordAt, isAt, holdsFrom, holds, atBase, box, blocks, zeros, letters, ABCDEFGH, ABCDEFGZ, AIJKLMNO, ABIJKLMN, IJKLMNOP, QRSTUVWX, run8, to8, v512}
+use Rattle.model.proofs.Steps.{Step, tableLength, layout, backup, restore, retire, listing, tally, slotIs, recordIs, poolIs, settingsAre, overwrite, Row, tillAt, slotAt, recordAt, isAt, holdsFrom, holds, atBase, box, blocks, zeros, letters, ABCDEFGH, ABCDEFGZ, AIJKLMNO, ABIJKLMN, IJKLMNOP, QRSTUVWX, run8, to8, v512}
 use Rattle.model.proofs.Blanks.{version, blanks}
 use Rattle.model.proofs.Dates.{shopOf, oneBlock, A, B, dates}
+use Rattle.model.proofs.Keys.{onlyList, onlyBackUp, onlyRestore, onlyRetire, allRights, each, seen, keys}
 
 -- ---- the page's cases
 
@@ -425,17 +428,17 @@ beside =
           ∷ backup 0 (replicate 64 7) 12 0
           ∷ [];
     }
-    -- no sound store: 10 before all others; word 10 is a reserved one, which is zero in every sound store
+    -- no sound store: 10 before all others; word 11 is a reserved one, which is zero in every sound store
     ∷ record {
       capacities = box 32;
       steps =
-          overwrite 10 1
+          overwrite 11 1
           ∷ backup 9 [] 10 0
           ∷ restore 9 9 [] 10 0 0 []
           ∷ retire 9 9 10 0
           ∷ listing 9 10 0 0 0
           ∷ tally 10 0 0 0
-          ∷ overwrite 10 0
+          ∷ overwrite 11 0
           ∷ tally 0 0 0 0
           ∷ [];
     }
@@ -558,17 +561,18 @@ otherMeasures =
     }
     ∷ []
 
-day-holds : every holds (theDay ++ (blanks ++ (dates ++ (beside ++ otherMeasures)))) ≡ true
-unfolding theDay blanks dates shopOf oneBlock A B beside otherMeasures boxOf version case1 case2 case3 case4 case5 case6 v512 to8 run8 letters ABCDEFGH ABCDEFGZ AIJKLMNO ABIJKLMN IJKLMNOP QRSTUVWX zeros blocks atBase box holds
-    holdsFrom isAt slotAt recordAt
+day-holds : every holds (theDay ++ (blanks ++ (dates ++ (keys ++ (beside ++ otherMeasures))))) ≡ true
+unfolding theDay blanks dates keys seen each onlyList onlyBackUp onlyRestore onlyRetire allRights shopOf oneBlock A B beside otherMeasures boxOf version case1 case2 case3 case4 case5 case6 v512 to8 run8 letters ABCDEFGH ABCDEFGZ AIJKLMNO ABIJKLMN IJKLMNOP QRSTUVWX zeros blocks atBase box holds
+    holdsFrom isAt tillAt slotAt recordAt
+    refusalFor ownerRefusal backupRefusal backupAs restoreAs retireRefusal retireAs listingAs versionOnRefusal versionOnAs tallyRefusal tallyAs withRights Rights.setRights rightsAnswer setRightsIn setRightsOf
     counted every keep count total firstFrom allOf sameNumbers rises isIn distinct allZero largest joined parts chunks fill maskOf isWithin areMeasures inRange partsFor
     tableWords poolBytes zeroBlock blankBlock isBlank isBare blockFrom blocksFrom imageBlocks segmentsFrom imageSegments freeSegment isFree cellsOf namedCells cellAt positionAt
     equals freeCells better scan findRun barePointer barePosition pointersTo newPositions stored share write writeRun writeRecord shareOrWrite placeSegment afterSome
     placeNext placeAll turnsTo target turn turning changeAt changeAll release claim moved clearCells freeRecord strikeOnly compact removeFrom sweepRecord sweepFrom
-    sweep hopsVia endVia hops endOf blockAt tracedBlock tracedBlocks imageOf longestChain pointerWord recordToWords versionToWords tillToWords
+    sweep hopsVia endVia hops endOf blockAt tracedBlock tracedBlocks imageOf longestChain pointerWord recordToWords versionToWords rightsBits rightsWord tillToWords
     isBase measureWord headerToWords stateToWords stateToBytes measuresIn shapeOf pointerOf wordToPointer positionOf positionsIn segmentIn recordsIn cellsIn shelfIn versionIn
-    versionsIn tillIn tillsIn stateIn isShaped hasLength isNumbered isUsed hasCells nextPointers endsZero areTraceable isTill allPointers areCounted
-    allCounted areFilled isSound ifSound hasLengths storeAs storeOf emptyTill emptyState layoutIf layoutOf tillOf heldFrom withTill
+    versionsIn isOdd rightsOf rightsIn tillIn tillsIn stateIn isShaped hasLength isNumbered isUsed hasCells nextPointers endsZero areTraceable isTill allPointers areCounted
+    allCounted areFilled isSound ifSound hasLengths storeAs storeOf noRights emptyTill emptyState layoutIf layoutOf tillOf heldFrom withTill
     newestPointers withNewestPointers newestDay dayFor tillWith fileIn placeAndFile Calls.backup backupAnswer backupIn backupBy backupOf backupDatedOf notAfter newestOrNone versionOnIn versionOnOf restoreRefusal restoreFrom
     Calls.restore restoreIn restoreOf heldBefore firstOf notHeld lookUp closeUp retireFrom Calls.retire retireAnswer retireIn retireOf oldestNumber newestNumber listingRefusal
     listTill listingIn listingOf tallyIn tallyOf tableLengthOf

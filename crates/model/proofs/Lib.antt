@@ -2,4 +2,5 @@
 pub mod Steps
 pub mod Blanks
 pub mod Dates
+pub mod Keys
 pub mod Day

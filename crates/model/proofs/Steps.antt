@@ -2,16 +2,17 @@
 use Prim.Native.Nat.{ℕ, _+_, _*_}
 use mathlib.Core.Bool.{Bool, true, _&&_}
 use mathlib.Core.List.{List, [], _∷_, _++_}
-use mathlib.Core.Option.{none}
+use mathlib.Core.Option.{none, some}
 use lib.ListN.{set, take, drop, replicate}
 use lib.Dec.{eqb}
 use Rattle.lists.specs.Lists.{counted, sameNumbers}
 use Rattle.lists.specs.Rows.{rows}
-use Rattle.model.specs.Measures.{Capacities, Shape, baseMeasures, tableWords, poolBytes, headerWords, slotWords, recordWords, recordsAt}
-use Rattle.model.specs.Image.{beforeBlanks}
+use Rattle.model.specs.Measures.{Capacities, Shape, baseMeasures, tableWords, poolBytes, headerWords, slotWords, tillWords, recordWords, recordsAt}
+use Rattle.model.specs.Image.{beforeBlanks, withBlanks}
 use Rattle.model.specs.Table.{recordToWords, versionToWords}
-use Rattle.model.specs.State.{Pointer, direct, held, Segment, Version}
-use Rattle.model.specs.Calls.{tableLengthOf, layoutOf, backupBy, backupOf, backupDatedOf, versionOnOf, VersionOnAnswer, restoreOf, retireOf, listingOf, tallyOf, LengthAnswer, LayoutAnswer, BackupAnswer, RestoreAnswer, RetireAnswer, ListingAnswer, TallyAnswer}
+use Rattle.model.specs.State.{Pointer, direct, held, Segment, Version, Rights}
+use Rattle.model.specs.Calls.{tableLengthOf, layoutOf, VersionOnAnswer, LengthAnswer, LayoutAnswer, BackupAnswer, RestoreAnswer, RetireAnswer, ListingAnswer, TallyAnswer}
+use Rattle.model.specs.Rights.{backupAs, restoreAs, retireAs, listingAs, versionOnAs, tallyAs, RightsAnswer, setRightsOf}
 
 -- A call with what it answers, or a fact of the buffers as the calls before it left them. Slots and records are read as words.
 pub data Step : Type 0 where
@@ -27,6 +28,11 @@ pub data Step : Type 0 where
   retire : (till version refusal length : ℕ) → Step
   listing : (till refusal oldest newest last : ℕ) → Step
   tally : (refusal cells records counts : ℕ) → Step
+  -- the calls after it are this user's; those at first are the owner's
+  user : (number : ℕ) → Step
+  setRights : (subject till : ℕ) (rights : Rights) (refusal : ℕ) → Step
+  -- the word of a till's rights
+  rightsAre : (till word : ℕ) → Step
   -- slot `i` of till 0
   slotIs : (i : ℕ) (version : Version) → Step
   recordIs : (k : ℕ) (positions : Segment) → Step
@@ -41,6 +47,9 @@ pub record Row : Type 0 where
   pub capacities : Shape
   pub steps : List Step
 
+unfoldable pub tillAt : Shape → ℕ → ℕ
+tillAt s t = headerWords + t * tillWords (s .capacities .versions) (s .capacities .blocks)
+
 unfoldable pub slotAt : Shape → ℕ → ℕ
 slotAt s i = headerWords + 4 + i * slotWords (s .capacities .blocks)
 
@@ -51,45 +60,50 @@ recordAt s k = recordsAt (s .capacities .tills) (s .capacities .versions) (s .ca
 unfoldable pub isAt : List ℕ → ℕ → ℕ → List ℕ → Bool
 isAt xs at n ys = sameNumbers (take n (drop at xs)) ys
 
-unfoldable pub holdsFrom : Shape → List Step → List ℕ → List ℕ → Bool
-holdsFrom s [] pool table = true
-holdsFrom s (tableLength d n w ∷ steps) pool table =
+unfoldable pub holdsFrom : Shape → ℕ → List Step → List ℕ → List ℕ → Bool
+holdsFrom s u [] pool table = true
+holdsFrom s u (tableLength d n w ∷ steps) pool table =
     let a : LengthAnswer = tableLengthOf d in
-    eqb (a .refusal) n && eqb (a .words) w && holdsFrom s steps pool table
-holdsFrom s (layout d n ∷ steps) pool table =
+    eqb (a .refusal) n && eqb (a .words) w && holdsFrom s u steps pool table
+holdsFrom s u (layout d n ∷ steps) pool table =
     let a : LayoutAnswer = layoutOf d pool table in
-    eqb (a .refusal) n && holdsFrom s steps (a .pool) (a .table)
-holdsFrom s (backup t image n v ∷ steps) pool table =
-    let a : BackupAnswer = backupOf pool table t image in
-    eqb (a .refusal) n && eqb (a .version) v && holdsFrom s steps (a .pool) (a .table)
-holdsFrom s (earlier t image n v ∷ steps) pool table =
-    let a : BackupAnswer = backupBy beforeBlanks pool table t none image in
-    eqb (a .refusal) n && eqb (a .version) v && holdsFrom s steps (a .pool) (a .table)
-holdsFrom s (dated t day image n v ∷ steps) pool table =
-    let a : BackupAnswer = backupDatedOf pool table t day image in
-    eqb (a .refusal) n && eqb (a .version) v && holdsFrom s steps (a .pool) (a .table)
-holdsFrom s (versionOn t day n v ∷ steps) pool table =
-    let a : VersionOnAnswer = versionOnOf pool table t day in
-    eqb (a .refusal) n && eqb (a .version) v && holdsFrom s steps pool table
-holdsFrom s (restore t v output n l h after ∷ steps) pool table =
-    let a : RestoreAnswer = restoreOf pool table t v output in
-    eqb (a .refusal) n && eqb (a .length) l && eqb (a .hops) h && sameNumbers (a .output) after && holdsFrom s steps pool table
-holdsFrom s (retire t v n l ∷ steps) pool table =
-    let a : RetireAnswer = retireOf pool table t v in
-    eqb (a .refusal) n && eqb (a .length) l && holdsFrom s steps (a .pool) (a .table)
-holdsFrom s (listing t r o n l ∷ steps) pool table =
-    let a : ListingAnswer = listingOf pool table t in
-    eqb (a .refusal) r && eqb (a .oldest) o && eqb (a .newest) n && eqb (a .last) l && holdsFrom s steps pool table
-holdsFrom s (tally r k u n ∷ steps) pool table =
-    let a : TallyAnswer = tallyOf pool table in
-    eqb (a .refusal) r && eqb (a .cells) k && eqb (a .records) u && eqb (a .counts) n && holdsFrom s steps pool table
-holdsFrom s (slotIs i v ∷ steps) pool table =
-    isAt table (slotAt s i) (slotWords (s .capacities .blocks)) (versionToWords (s .capacities .blocks) v) && holdsFrom s steps pool table
-holdsFrom s (recordIs k seg ∷ steps) pool table =
-    isAt table (recordAt s k) (recordWords (s .measures .segmentBlocks)) (recordToWords seg) && holdsFrom s steps pool table
-holdsFrom s (poolIs bytes ∷ steps) pool table = sameNumbers pool bytes && holdsFrom s steps pool table
-holdsFrom s (settingsAre words ∷ steps) pool table = isAt table 5 3 words && holdsFrom s steps pool table
-holdsFrom s (overwrite at word ∷ steps) pool table = holdsFrom s steps pool (set table at word)
+    eqb (a .refusal) n && holdsFrom s u steps (a .pool) (a .table)
+holdsFrom s u (backup t image n v ∷ steps) pool table =
+    let a : BackupAnswer = backupAs withBlanks pool table u t none image in
+    eqb (a .refusal) n && eqb (a .version) v && holdsFrom s u steps (a .pool) (a .table)
+holdsFrom s u (earlier t image n v ∷ steps) pool table =
+    let a : BackupAnswer = backupAs beforeBlanks pool table u t none image in
+    eqb (a .refusal) n && eqb (a .version) v && holdsFrom s u steps (a .pool) (a .table)
+holdsFrom s u (dated t day image n v ∷ steps) pool table =
+    let a : BackupAnswer = backupAs withBlanks pool table u t (some day) image in
+    eqb (a .refusal) n && eqb (a .version) v && holdsFrom s u steps (a .pool) (a .table)
+holdsFrom s u (versionOn t day n v ∷ steps) pool table =
+    let a : VersionOnAnswer = versionOnAs pool table u t day in
+    eqb (a .refusal) n && eqb (a .version) v && holdsFrom s u steps pool table
+holdsFrom s u (restore t v output n l h after ∷ steps) pool table =
+    let a : RestoreAnswer = restoreAs pool table u t v output in
+    eqb (a .refusal) n && eqb (a .length) l && eqb (a .hops) h && sameNumbers (a .output) after && holdsFrom s u steps pool table
+holdsFrom s u (retire t v n l ∷ steps) pool table =
+    let a : RetireAnswer = retireAs pool table u t v in
+    eqb (a .refusal) n && eqb (a .length) l && holdsFrom s u steps (a .pool) (a .table)
+holdsFrom s u (listing t r o n l ∷ steps) pool table =
+    let a : ListingAnswer = listingAs pool table u t in
+    eqb (a .refusal) r && eqb (a .oldest) o && eqb (a .newest) n && eqb (a .last) l && holdsFrom s u steps pool table
+holdsFrom s u (tally r k i n ∷ steps) pool table =
+    let a : TallyAnswer = tallyAs pool table u in
+    eqb (a .refusal) r && eqb (a .cells) k && eqb (a .records) i && eqb (a .counts) n && holdsFrom s u steps pool table
+holdsFrom s u (user v ∷ steps) pool table = holdsFrom s v steps pool table
+holdsFrom s u (setRights subject t r n ∷ steps) pool table =
+    let a : RightsAnswer = setRightsOf pool table u subject t r in
+    eqb (a .refusal) n && holdsFrom s u steps pool (a .table)
+holdsFrom s u (rightsAre t word ∷ steps) pool table = isAt table (tillAt s t + 2) 1 (word ∷ []) && holdsFrom s u steps pool table
+holdsFrom s u (slotIs i v ∷ steps) pool table =
+    isAt table (slotAt s i) (slotWords (s .capacities .blocks)) (versionToWords (s .capacities .blocks) v) && holdsFrom s u steps pool table
+holdsFrom s u (recordIs k seg ∷ steps) pool table =
+    isAt table (recordAt s k) (recordWords (s .measures .segmentBlocks)) (recordToWords seg) && holdsFrom s u steps pool table
+holdsFrom s u (poolIs bytes ∷ steps) pool table = sameNumbers pool bytes && holdsFrom s u steps pool table
+holdsFrom s u (settingsAre words ∷ steps) pool table = isAt table 5 3 words && holdsFrom s u steps pool table
+holdsFrom s u (overwrite at word ∷ steps) pool table = holdsFrom s u steps pool (set table at word)
 
 -- from buffers of ones, which an accepted lay out clears
 unfoldable pub holds : Row → Bool
@@ -97,7 +111,7 @@ unfolding holdsFrom
 holds row =
     let s : Shape = row .capacities in
     let a : LayoutAnswer = layoutOf s (replicate (poolBytes s) 1) (replicate (tableWords s) 1) in
-    eqb (a .refusal) 0 && holdsFrom (row .capacities) (row .steps) (a .pool) (a .table)
+    eqb (a .refusal) 0 && holdsFrom (row .capacities) 0 (row .steps) (a .pool) (a .table)
 
 -- ---- the stores and images of the cases
 

@@ -1,5 +1,6 @@
 -- "The calls" and "Refusals". Each call answers a refusal's number, 0 for an accepted call, and its other fields, all 0 in a refusal; and it says what
--- the lent buffers are afterwards: as they were, in a refusal. The heading of each call gives its refusals in their order.
+-- the lent buffers are afterwards: as they were, in a refusal. The heading of each call gives its refusals in their order. These are the calls of a user who may make
+-- them; Rights.antt has them with their users.
 use Prim.Native.Nat.{ℕ, suc, _+_, _*_}
 use mathlib.Core.Bool.{Bool, true, false, cond, not, _&&_, _||_}
 use mathlib.Core.List.{List, [], _∷_, _++_, map}
@@ -8,7 +9,7 @@ use lib.ListN.{length, getD, set, take, drop, replicate}
 use lib.Dec.{eqb, ltb, leb}
 use Rattle.lists.specs.Lists.{keep, count, total}
 use Rattle.model.specs.Measures.{Shape, inRange, tableWords, poolBytes}
-use Rattle.model.specs.State.{Block, Pointer, nullPointer, blankPointer, direct, indirect, Shelf, Version, withPointers, Till, State, Outcome, refused, done}
+use Rattle.model.specs.State.{Block, Pointer, nullPointer, blankPointer, direct, indirect, Shelf, Version, withPointers, Rights, staff, Till, State, Outcome, refused, done}
 use Rattle.model.specs.Image.{zeroBlock, Era, withBlanks, imageBlocks, imageSegments}
 use Rattle.model.specs.Records.{freeSegment, isFree, namedCells, countOf}
 use Rattle.model.specs.Place.{Placed, placeAll}
@@ -34,8 +35,12 @@ pub record LayoutAnswer : Type 0 where
   pub pool : List ℕ
   pub table : List ℕ
 
+unfoldable pub noRights : Rights
+noRights = record { list = false; backUp = false; restore = false; retire = false }
+
+-- "none at first"
 unfoldable pub emptyTill : Till
-emptyTill = record { last = 0; versions = [] }
+emptyTill = record { last = 0; rights = replicate staff noRights; versions = [] }
 
 unfoldable pub emptyState : Shape → State
 emptyState s = record {
@@ -120,6 +125,7 @@ dayFor (some day) vs = day
 unfoldable pub tillWith : Till → List Pointer → ℕ → ℕ → List Pointer → Till
 tillWith till turned bytes day pointers = record {
   last = suc (till .last);
+  rights = till .rights;
   versions = withNewestPointers (till .versions) turned ++ (record { number = suc (till .last); length = bytes; day = day; pointers = pointers } ∷ []);
 }
 
@@ -162,7 +168,7 @@ backupIn era (some store) pool table t brought image = backupAnswer pool table (
 unfoldable pub backupBy : Era → List ℕ → List ℕ → ℕ → Option ℕ → List ℕ → BackupAnswer
 backupBy era pool table t brought image = backupIn era (storeOf pool table) pool table t brought image
 
--- the public calls, without a day and with one
+-- without a day and with one
 unfoldable pub backupOf : List ℕ → List ℕ → ℕ → List ℕ → BackupAnswer
 backupOf pool table t image = backupBy withBlanks pool table t none image
 
@@ -259,7 +265,7 @@ unfoldable pub retireFrom : Shape → State → ℕ → Till → Lookup → Outc
 retireFrom s st t till (missing n) = refused n
 retireFrom s st t till (found older v newer) = done (record {
   state =
-      withTill st t (record { last = till .last; versions = closeUp older v newer })
+      withTill st t (record { last = till .last; rights = till .rights; versions = closeUp older v newer })
       (sweep (s .measures) (release (claim (st .shelf) (map (taken (v .pointers)) (newestPointers older))) (v .pointers)));
   answer = v .length;
 })

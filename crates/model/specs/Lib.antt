@@ -11,3 +11,4 @@ pub mod Trace
 pub mod Table
 pub mod Sound
 pub mod Calls
+pub mod Rights

@@ -8,7 +8,7 @@ use lib.Dec.{eqb, ltb, leb}
 use Rattle.lists.specs.Lists.{every, allOf, count, sameNumbers, rises, isIn, distinct, allZero}
 use Rattle.lists.specs.Rows.{rows}
 use Rattle.model.specs.Measures.{Shape, isWithin, inRange, tableWords, poolBytes, partsFor}
-use Rattle.model.specs.State.{Block, Pointer, nullPointer, blankPointer, direct, indirect, Position, nullPosition, blankPosition, held, removed, Segment, Shelf, Version, Till, State}
+use Rattle.model.specs.State.{Block, Pointer, nullPointer, blankPointer, direct, indirect, Position, nullPosition, blankPosition, held, removed, Segment, Shelf, Version, Till, staff, State}
 use Rattle.model.specs.Records.{isHeld, isFree, namedCells, positionAt}
 use Rattle.model.specs.Trace.{tracedBlock}
 use Rattle.model.specs.Table.{shapeOf, stateIn, stateToWords}
@@ -86,9 +86,14 @@ areTraceable bytes b shelf (v ∷ newer) =
     ∷ areTraceable bytes b shelf newer
     ∷ [])
 
+-- numbers, versions, and the rights of the seven users
 unfoldable pub isTill : Shape → Shelf → Till → Bool
 isTill s shelf t =
-    allOf (isNumbered (s .capacities .versions) t ∷ areTraceable (s .measures .blockBytes) (s .capacities .blocks) shelf (t .versions) ∷ [])
+    allOf
+    (isNumbered (s .capacities .versions) t
+    ∷ areTraceable (s .measures .blockBytes) (s .capacities .blocks) shelf (t .versions)
+    ∷ eqb (length (t .rights)) staff
+    ∷ [])
 
 -- ---- counts and cells
 

@@ -1,5 +1,6 @@
 -- "What the store holds". Cells, blocks and records are numbered from 0, as are tills.
 use Prim.Native.Nat.{ℕ}
+use mathlib.Core.Bool.{Bool}
 use mathlib.Core.List.{List}
 
 -- the bytes of a block or a cell
@@ -41,9 +42,21 @@ pub record Version : Type 0 where
 abbrev pub withPointers : Version → List Pointer → Version
 withPointers v ps = record { number = v .number; length = v .length; day = v .day; pointers = ps }
 
--- the last number given, and the held versions, the oldest first
+-- §9: how many users there are beside the owner, who is user 0: they are users 1 to 7
+abbrev pub staff : ℕ
+staff = 7
+
+-- what a user may do with a till
+pub record Rights : Type 0 where
+  pub list : Bool
+  pub backUp : Bool
+  pub restore : Bool
+  pub retire : Bool
+
+-- the last number given; the rights of users 1 to 7; and the held versions, the oldest first
 pub record Till : Type 0 where
   pub last : ℕ
+  pub rights : List Rights
   pub versions : List Version
 
 pub record State : Type 0 where

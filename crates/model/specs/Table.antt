@@ -1,18 +1,20 @@
 -- The words of a table and the bytes of a pool for a state, and the state that words and bytes are read as. docs/FORMAT.md has the picture.
 --   header    tills, versions, blocks, records, cells; block bytes, blocks per segment, rebuild percentage, or 0, 0, 0 for 64, 8, 20
---   till      last number, held versions, 0, 0; then a slot for each version that the till can hold, the oldest first, unused ones zero
+--   till      last number, held versions, rights, 0; then a slot for each version that the till can hold, the oldest first, unused ones zero
+--   rights    four bits for each of users 1 to 7, the lowest for user 1: list, back up, restore, retire
 --   slot      number, length, day; then a pointer word for each block that an image can have, unused ones zero
 --   record    mask of held positions, mask of removed ones, mask of blank ones; a cell word for each position; a count word for each position
 --   pointer   0; or 2^24 + record * 16 + position; or 2 * 2^24 + block; or 3 * 2^24
 use Prim.Native.Nat.{ℕ, zero, suc, _+_, _*_, _/_, _%_, min}
-use mathlib.Core.Bool.{cond}
+use mathlib.Core.Bool.{Bool, cond}
 use mathlib.Core.List.{List, [], _∷_, _++_, map}
 use lib.ListN.{length, getD, take, drop}
+use lib.Dec.{eqb}
 use Rattle.lists.specs.Lists.{allZero}
 use Rattle.lists.specs.Rows.{joined, rows, parts, chunks, fill}
 use Rattle.lists.specs.Masks.{maskOf}
 use Rattle.model.specs.Measures.{Measures, Capacities, Shape, baseMeasures, isBase, headerWords, slotWords, tillWords, recordWords, recordsAt, partsFor}
-use Rattle.model.specs.State.{Block, Pointer, nullPointer, blankPointer, direct, indirect, Position, nullPosition, blankPosition, held, removed, Segment, Shelf, Version, Till, State}
+use Rattle.model.specs.State.{Block, Pointer, nullPointer, blankPointer, direct, indirect, Position, nullPosition, blankPosition, held, removed, Segment, Shelf, Version, Rights, Till, staff, State}
 use Rattle.model.specs.Records.{isHeld, isRemoved, isBlankPosition, cellOf, countOf}
 
 -- ---- to words
@@ -34,9 +36,16 @@ recordToWords seg = maskOf isHeld seg ∷ maskOf isRemoved seg ∷ maskOf isBlan
 unfoldable pub versionToWords : ℕ → Version → List ℕ
 versionToWords b v = v .number ∷ v .length ∷ v .day ∷ fill b (map pointerWord (v .pointers))
 
+unfoldable pub rightsBits : Rights → ℕ
+rightsBits r = maskOf (λ b. b) (r .list ∷ r .backUp ∷ r .restore ∷ r .retire ∷ [])
+
+unfoldable pub rightsWord : List Rights → ℕ
+rightsWord [] = 0
+rightsWord (r ∷ rs) = rightsBits r + 16 * rightsWord rs
+
 -- for up to `v` versions
 unfoldable pub tillToWords : ℕ → ℕ → Till → List ℕ
-tillToWords v b t = t .last ∷ length (t .versions) ∷ 0 ∷ 0 ∷ fill (v * slotWords b) (rows (versionToWords b) (t .versions))
+tillToWords v b t = t .last ∷ length (t .versions) ∷ rightsWord (t .rights) ∷ 0 ∷ fill (v * slotWords b) (rows (versionToWords b) (t .versions))
 
 -- The word of a measure `n`. A table from before the measures could be chosen has zeros, and so has every table with those measures.
 unfoldable pub measureWord : Measures → ℕ → ℕ
@@ -129,8 +138,24 @@ versionIn bytes row = record {
 unfoldable pub versionsIn : ℕ → ℕ → ℕ → List ℕ → List Version
 versionsIn bytes b n slots = map (versionIn bytes) (parts (slotWords b) n slots)
 
+unfoldable pub isOdd : ℕ → Bool
+isOdd n = eqb (n % 2) 1
+
+-- from the four lowest bits
+unfoldable pub rightsOf : ℕ → Rights
+rightsOf w = record { list = isOdd w; backUp = isOdd (w / 2); restore = isOdd (w / 4); retire = isOdd (w / 8) }
+
+-- of `n` users
+unfoldable pub rightsIn : ℕ → ℕ → List Rights
+rightsIn zero w = []
+rightsIn (suc n) w = rightsOf w ∷ rightsIn n (w / 16)
+
 unfoldable pub tillIn : ℕ → ℕ → ℕ → List ℕ → Till
-tillIn bytes v b row = record { last = getD row 0 0; versions = versionsIn bytes b (min (getD row 1 0) v) (drop 4 row) }
+tillIn bytes v b row = record {
+  last = getD row 0 0;
+  rights = rightsIn staff (getD row 2 0);
+  versions = versionsIn bytes b (min (getD row 1 0) v) (drop 4 row);
+}
 
 unfoldable pub tillsIn : ℕ → ℕ → ℕ → List ℕ → List Till
 tillsIn bytes v b ws = map (tillIn bytes v b) (chunks (tillWords v b) ws)

@@ -1,5 +1,5 @@
 -- Tracing a block, and the image of a version.
-use Prim.Native.Nat.{ℕ, zero, suc}
+use Prim.Native.Nat.{ℕ, suc}
 use mathlib.Core.List.{List, [], _∷_}
 use lib.ListN.{length, getD, take}
 use Rattle.lists.specs.Lists.{counted, largest}

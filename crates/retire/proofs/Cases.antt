@@ -12,7 +12,7 @@ use Rattle.lists.specs.Each.{Each}
 use Rattle.lists.proofs.Each.{each-at, each-take}
 use Rattle.lists.proofs.Slices.{drop-end, drop-next, take-next, tail-all, part-part, part-get}
 use Rattle.model.specs.Measures.{Measures, Shape, Capacities, partsFor, tillWords, recordWords, tableWords}
-use Rattle.model.specs.State.{Pointer, Version, Till, Shelf, State, Outcome, refused, done}
+use Rattle.model.specs.State.{Pointer, Version, Rights, Till, Shelf, State, Outcome, refused, done}
 use Rattle.model.specs.Records.{countOf}
 use Rattle.model.specs.Sweep.{release, claim, sweep}
 use Rattle.model.specs.Table.{pointerWord, wordToPointer, versionToWords, tillToWords, recordToWords, recordsPart, recordsIn, shapeOf, stateIn, shelfIn, stateToWords, stateToBytes}
@@ -300,17 +300,17 @@ module _ (s : Shape) (st : State) (t at n b : ℕ) (p : Placed s st t at n b) (w
       }
 
   pub slot-closed : (j : ℕ) (older : List Version) (u : Version) (newer : List Version) (ps : List Pointer) (pws ys : List ℕ) → tillOf st t .versions ≡ older ++ (u ∷ newer)
-      → ((v last : ℕ) (os : List Version) (x : Version) (ns : List Version) (qs : List Pointer) → length os ≡ j → length (os ++ (x ∷ ns)) ≤ v
-      → take (at + n - at) (drop at ws) ≡ tillToWords v b (record { last = last; versions = os ++ (x ∷ ns) }) → pws ≡ map pointerWord qs → length qs ≡ length (newestPointers os)
-      → ys ≡ tillToWords v b (record { last = last; versions = withNewestPointers os qs ++ ns }))
+      → ((v last : ℕ) (rights : List Rights) (os : List Version) (x : Version) (ns : List Version) (qs : List Pointer) → length os ≡ j → length (os ++ (x ∷ ns)) ≤ v
+      → take (at + n - at) (drop at ws) ≡ tillToWords v b (record { last = last; rights = rights; versions = os ++ (x ∷ ns) }) → pws ≡ map pointerWord qs → length qs ≡ length (newestPointers os)
+      → ys ≡ tillToWords v b (record { last = last; rights = rights; versions = withNewestPointers os qs ++ ns }))
       → length older ≡ j → pws ≡ map pointerWord ps → length ps ≡ length (newestPointers older)
-      → take at ws ++ (ys ++ drop (at + n - at) (drop at ws)) ≡ stateToWords s (record { tills = set (st .tills) t (record { last = tillOf st t .last; versions = withNewestPointers older ps ++ newer }); shelf = st .shelf })
+      → take at ws ++ (ys ++ drop (at + n - at) (drop at ws)) ≡ stateToWords s (record { tills = set (st .tills) t (record { last = tillOf st t .last; rights = tillOf st t .rights; versions = withNewestPointers older ps ++ newer }); shelf = st .shelf })
   slot-closed j older u newer ps pws ys ev f lo ep lp =
       let k : at + n - at ≡ n = omega arith in
-      let new : Till = record { last = tillOf st t .last; versions = withNewestPointers older ps ++ newer } in
-      let part : take (at + n - at) (drop at ws) ≡ tillToWords (s .capacities .versions) b (record { last = tillOf st t .last; versions = older ++ (u ∷ newer) }) =
-      ap (λ (m : ℕ). take m (drop at ws)) k ∙ till-part ∙ ap (λ (vs : List Version). tillToWords (s .capacities .versions) b (record { last = tillOf st t .last; versions = vs })) ev in
-      let y : ys ≡ tillToWords (s .capacities .versions) b new = f (s .capacities .versions) (tillOf st t .last) older u newer ps lo (subst (λ (vs : List Version). length vs ≤ s .capacities .versions) ev (p .few)) part ep lp in
+      let new : Till = record { last = tillOf st t .last; rights = tillOf st t .rights; versions = withNewestPointers older ps ++ newer } in
+      let part : take (at + n - at) (drop at ws) ≡ tillToWords (s .capacities .versions) b (record { last = tillOf st t .last; rights = tillOf st t .rights; versions = older ++ (u ∷ newer) }) =
+      ap (λ (m : ℕ). take m (drop at ws)) k ∙ till-part ∙ ap (λ (vs : List Version). tillToWords (s .capacities .versions) b (record { last = tillOf st t .last; rights = tillOf st t .rights; versions = vs })) ev in
+      let y : ys ≡ tillToWords (s .capacities .versions) b new = f (s .capacities .versions) (tillOf st t .last) (tillOf st t .rights) older u newer ps lo (subst (λ (vs : List Version). length vs ≤ s .capacities .versions) ev (p .few)) part ep lp in
       rw (y, k, e, p .begins, p .size, p .blocks) (till-put s st t (p .there) new)
 
 -- ---- the whole
@@ -393,6 +393,7 @@ module _ {pool table : List ℕ} {t at j : ℕ} (h : Holds pool table t at j) wh
       → w′ ≡ stateToWords (shapeOf table) (record {
         tills = set (exchanged pool table ts gs .tills) t (record {
           last = tillOf (exchanged pool table ts gs) t .last;
+          rights = tillOf (exchanged pool table ts gs) t .rights;
           versions = withNewestPointers (take j (versionsHeld pool table t)) (map (takeOver gonePointers) olderPointers) ++ drop (suc j) (versionsHeld pool table t);
         });
         shelf = exchanged pool table ts gs .shelf;
@@ -404,7 +405,7 @@ module _ {pool table : List ℕ} {t at j : ℕ} (h : Holds pool table t at j) wh
       let cells : State = exchanged pool table (map (taken gonePointers) olderPointers) gonePointers in
       record {
         bytes = a .bytes ∙ ap₂ (λ (x y : List Pointer). stateToBytes (exchanged pool table x y)) et eg;
-        words = e ∙ ap₂ (λ (x y : List Pointer). stateToWords (shapeOf table) (record { tills = set (st .tills) t (record { last = tillOf st t .last; versions = withNewestPointers (take j (versionsHeld pool table t)) (map (takeOver gonePointers) olderPointers) ++ drop (suc j) (versionsHeld pool table t) }); shelf = exchanged pool table x y .shelf })) et eg;
+        words = e ∙ ap₂ (λ (x y : List Pointer). stateToWords (shapeOf table) (record { tills = set (st .tills) t (record { last = tillOf st t .last; rights = tillOf st t .rights; versions = withNewestPointers (take j (versionsHeld pool table t)) (map (takeOver gonePointers) olderPointers) ++ drop (suc j) (versionsHeld pool table t) }); shelf = exchanged pool table x y .shelf })) et eg;
       }
 
   -- the steps of the call, with the words as they pass them on
@@ -436,7 +437,7 @@ module _ {pool table : List ℕ} {t at j : ℕ} (h : Holds pool table t at j) wh
       pub finished : (w′ : List ℕ)
           → ((s : Shape) (st : State) (u : ℕ) (before : List Version) (x : Version) (newer : List Version) (ps : List Pointer) → Placed s st u at n (getD table 2 0) → tillOf st u .versions ≡ before ++ (x ∷ newer) → length before ≡ j
           → w ≡ stateToWords s st → over ≡ map pointerWord ps → length ps ≡ length (newestPointers before)
-          → w′ ≡ stateToWords s (record { tills = set (st .tills) u (record { last = tillOf st u .last; versions = withNewestPointers before ps ++ newer }); shelf = st .shelf }))
+          → w′ ≡ stateToWords s (record { tills = set (st .tills) u (record { last = tillOf st u .last; rights = tillOf st u .rights; versions = withNewestPointers before ps ++ newer }); shelf = st .shelf }))
           → Are (shapeOf table) (stateWithout pool table t j) p w′
       unfolding tillOf
       finished w′ f =

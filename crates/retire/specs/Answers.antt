@@ -51,7 +51,7 @@ stateWithout pool table t j =
     let st = stateIn (shapeOf table) pool table in
     let older = take j (versionsHeld pool table t) in
     let gone = versionAt pool table t j in
-    calls.withTill st t (record { last = calls.tillOf st t .last; versions = calls.closeUp older gone (drop (suc j) (versionsHeld pool table t)) })
+    calls.withTill st t (record { last = calls.tillOf st t .last; rights = calls.tillOf st t .rights; versions = calls.closeUp older gone (drop (suc j) (versionsHeld pool table t)) })
     (sweep (shapeOf table .measures) (release (claim (st .shelf) (map (calls.taken (gone .pointers)) (calls.newestPointers older))) (gone .pointers)))
 
 -- the buffers are those of a state

@@ -113,7 +113,7 @@ fn exchange(pool: &mut [u8], table: &mut [u32], taken: &[u32], gone: &[u32], m: 
 // The till loses the version at place j, and its older neighbour has other pointers.
 fn close_up(table: &mut [u32], at: usize, size: usize, blocks: usize, j: usize, pointers: &[u32])
     requires { ⌜ (at + size ≤ length (now table)) × HasSlot blocks j (take size (drop at (now table))) × (length (now pointers) ≤ blocks) ⌝ }
-    ensures { λ _. ⌜ ((s : Shape) (st : State) (t : ℕ) (older : List Version) (u : Version) (newer : List Version) (ps : List Pointer) → Placed s st t at size blocks → tillOf st t .versions ≡ older ++ (u ∷ newer) → length older ≡ j → now (table .entry) ≡ stateToWords s st → now (pointers .entry) ≡ map pointerWord ps → length ps ≡ length (newestPointers older) → now (table .exit) ≡ stateToWords s (record { tills = set (st .tills) t (record { last = tillOf st t .last; versions = withNewestPointers older ps ++ newer }); shelf = st .shelf })) ⌝ }
+    ensures { λ _. ⌜ ((s : Shape) (st : State) (t : ℕ) (older : List Version) (u : Version) (newer : List Version) (ps : List Pointer) → Placed s st t at size blocks → tillOf st t .versions ≡ older ++ (u ∷ newer) → length older ≡ j → now (table .entry) ≡ stateToWords s st → now (pointers .entry) ≡ map pointerWord ps → length ps ≡ length (newestPointers older) → now (table .exit) ≡ stateToWords s (record { tills = set (st .tills) t (record { last = tillOf st t .last; rights = tillOf st t .rights; versions = withNewestPointers older ps ++ newer }); shelf = st .shelf })) ⌝ }
 {
     slots::close_up(&mut table[at..at + size], blocks, j, pointers);
 }

@@ -4,7 +4,7 @@ use mathlib.Core.Path.{_≡_}
 use mathlib.Core.Bool.{true, cond}
 use mathlib.Core.List.{List, [], _∷_, _++_, map}
 use mathlib.Core.Option.{Option, none, some}
-use lib.ListN.{length}
+use lib.ListN.{length, take, drop}
 use lib.Dec.{eqb}
 use Rattle.lists.specs.Lists.{isSome}
 use Rattle.lists.specs.Rows.{joined, rows}
@@ -34,6 +34,12 @@ sentFor print pool table t image marks =
 unfoldable pub knownIn : Option Store → List (List ℕ)
 knownIn none = []
 knownIn (some store) = zeroSegment (store .shape .measures) ∷ contents (store .shape .measures) (store .state .shelf)
+
+-- the segments of so many bytes that a second message sends: one for each mark of 1
+unfoldable pub segmentsSent : ℕ → List ℕ → List ℕ → List (List ℕ)
+segmentsSent bytes [] segments = []
+segmentsSent bytes (zero ∷ marks) segments = segmentsSent bytes marks segments
+segmentsSent bytes (suc i ∷ marks) segments = take bytes segments ∷ segmentsSent bytes marks (drop bytes segments)
 
 -- no two different ones share a fingerprint
 abbrev pub NoneShare : Print → List (List ℕ) → Type 0

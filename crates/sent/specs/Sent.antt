@@ -1,5 +1,5 @@
 -- "Sending only what the box lacks" (§5). A segment here is its bytes, as many as a whole segment has. `print` makes fingerprints: any function to
--- 20 bytes in the laws, SHA-1 in the two public calls at the end.
+-- 20 bytes in the laws, SHA-1 in the calls at the end.
 use Prim.Native.Nat.{ℕ, zero, suc, _-_, _*_}
 use mathlib.Core.Bool.{Bool, true, false, cond, not, _||_}
 use mathlib.Core.List.{List, [], _∷_, _++_, map}
@@ -15,6 +15,7 @@ use Rattle.model.specs.Image.{zeroBlock, blankBlock, withBlanks, isBlank, image
 use Rattle.model.specs.Records.{cellAt, isFree}
 use Rattle.model.specs.Sound.{Store, storeOf}
 use Rattle.model.specs.Calls.{tillOf, After, backup, BackupAnswer, backupAnswer}
+use Rattle.model.specs.Rights.{toBackUp, refusalFor, unless, backupRefusal}
 
 abbrev pub Print : Type 0
 Print = List ℕ → List ℕ
@@ -171,10 +172,20 @@ unfoldable pub backupSentBy : Print → List ℕ → List ℕ → ℕ → ℕ �
 backupSentBy print pool table t bytes fingerprints marks segments =
     backupSentIn print (storeOf pool table) pool table t bytes fingerprints marks segments
 
--- ---- the public calls: SHA-1, fixed here and nowhere else
+-- ---- both with SHA-1, fixed here and nowhere else
 
 unfoldable pub offerOf : List ℕ → List ℕ → ℕ → List ℕ → List ℕ → OfferAnswer
 offerOf pool table t fingerprints marks = offerIn sha1 (storeOf pool table) t fingerprints marks
 
 unfoldable pub backupSentOf : List ℕ → List ℕ → ℕ → ℕ → List ℕ → List ℕ → List ℕ → BackupAnswer
 backupSentOf pool table t bytes fingerprints marks segments = backupSentBy sha1 pool table t bytes fingerprints marks segments
+
+-- the public calls, with their users: 22 and 23 after 3, in both messages
+
+unfoldable pub offerAs : List ℕ → List ℕ → ℕ → ℕ → List ℕ → List ℕ → OfferAnswer
+offerAs pool table user t fingerprints marks =
+    unless (refusalFor (storeOf pool table) user t toBackUp) (λ n. record { refusal = n; marks = marks }) (offerOf pool table t fingerprints marks)
+
+unfoldable pub backupSentAs : List ℕ → List ℕ → ℕ → ℕ → ℕ → List ℕ → List ℕ → List ℕ → BackupAnswer
+backupSentAs pool table user t bytes fingerprints marks segments =
+    unless (refusalFor (storeOf pool table) user t toBackUp) (backupRefusal pool table) (backupSentOf pool table t bytes fingerprints marks segments)

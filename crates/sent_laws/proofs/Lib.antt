@@ -10,3 +10,4 @@ pub mod Both
 pub mod Assembling
 pub mod Marks
 pub mod Content
+pub mod Alike

@@ -3,7 +3,7 @@ ghost use mathlib.Core.Path.{_≡_};
 ghost use mathlib.Core.List.{List, _∷_, _++_, map};
 ghost use Prim.Native.Nat.{ℕ, _+_, _-_, _≤_, _<_};
 ghost use lib.ListN.{length, getD, set};
-ghost use Rattle.model.specs.State.{Pointer, Version, withPointers};
+ghost use Rattle.model.specs.State.{Pointer, Version, Rights, withPointers};
 ghost use Rattle.model.specs.Table.{pointerWord, tillToWords};
 ghost use Rattle.model.specs.Calls.{newestPointers, withNewestPointers};
 ghost use Rattle.slots.specs.Slots.{HasSlot};
@@ -20,7 +20,7 @@ fn one_held_less(till: &mut [u32])
 // Pointer words over those of the version at place j of those held, the oldest first, for images of b blocks.
 fn put_pointers(till: &mut [u32], b: usize, j: usize, pointers: &[u32])
     requires { ⌜ HasSlot b j (now till) × (length (now pointers) ≤ b) ⌝ }
-    ensures { λ _. ⌜ ((v last : ℕ) (older : List Version) (u : Version) (newer : List Version) (ps : List Pointer) → length older ≡ j → length (older ++ (u ∷ newer)) ≤ v → now (till .entry) ≡ tillToWords v b (record { last = last; versions = older ++ (u ∷ newer) }) → now (pointers .entry) ≡ map pointerWord ps → length ps ≡ length (u .pointers) → now (till .exit) ≡ tillToWords v b (record { last = last; versions = older ++ (withPointers u ps ∷ newer) })) × (getD (now (till .exit)) 1 0 ≡ getD (now (till .entry)) 1 0) ⌝ }
+    ensures { λ _. ⌜ ((v last : ℕ) (rights : List Rights) (older : List Version) (u : Version) (newer : List Version) (ps : List Pointer) → length older ≡ j → length (older ++ (u ∷ newer)) ≤ v → now (till .entry) ≡ tillToWords v b (record { last = last; rights = rights; versions = older ++ (u ∷ newer) }) → now (pointers .entry) ≡ map pointerWord ps → length ps ≡ length (u .pointers) → now (till .exit) ≡ tillToWords v b (record { last = last; rights = rights; versions = older ++ (withPointers u ps ∷ newer) })) × (getD (now (till .exit)) 1 0 ≡ getD (now (till .entry)) 1 0) ⌝ }
 {
     let start = 4 + j * (3 + b) + 3;
     let end = start + b;
@@ -30,7 +30,7 @@ fn put_pointers(till: &mut [u32], b: usize, j: usize, pointers: &[u32])
 // The version at place j goes, and the later slots move down.
 fn drop_slot(till: &mut [u32], b: usize, j: usize)
     requires { ⌜ HasSlot b j (now till) ⌝ }
-    ensures { λ _. ⌜ ((v last : ℕ) (older : List Version) (u : Version) (newer : List Version) → length older ≡ j → length (older ++ (u ∷ newer)) ≤ v → now (till .entry) ≡ tillToWords v b (record { last = last; versions = older ++ (u ∷ newer) }) → now (till .exit) ≡ tillToWords v b (record { last = last; versions = older ++ newer })) ⌝ }
+    ensures { λ _. ⌜ ((v last : ℕ) (rights : List Rights) (older : List Version) (u : Version) (newer : List Version) → length older ≡ j → length (older ++ (u ∷ newer)) ≤ v → now (till .entry) ≡ tillToWords v b (record { last = last; rights = rights; versions = older ++ (u ∷ newer) }) → now (till .exit) ≡ tillToWords v b (record { last = last; rights = rights; versions = older ++ newer })) ⌝ }
 {
     one_held_less(till);
     let start = 4 + j * (3 + b);
@@ -40,7 +40,7 @@ fn drop_slot(till: &mut [u32], b: usize, j: usize)
 // The version at place j goes, and its older neighbour has other pointers; with none there are no pointers to put.
 pub fn close_up(till: &mut [u32], b: usize, j: usize, pointers: &[u32])
     requires { ⌜ HasSlot b j (now till) × (length (now pointers) ≤ b) ⌝ }
-    ensures { λ _. ⌜ ((v last : ℕ) (older : List Version) (u : Version) (newer : List Version) (ps : List Pointer) → length older ≡ j → length (older ++ (u ∷ newer)) ≤ v → now (till .entry) ≡ tillToWords v b (record { last = last; versions = older ++ (u ∷ newer) }) → now (pointers .entry) ≡ map pointerWord ps → length ps ≡ length (newestPointers older) → now (till .exit) ≡ tillToWords v b (record { last = last; versions = withNewestPointers older ps ++ newer })) ⌝ }
+    ensures { λ _. ⌜ ((v last : ℕ) (rights : List Rights) (older : List Version) (u : Version) (newer : List Version) (ps : List Pointer) → length older ≡ j → length (older ++ (u ∷ newer)) ≤ v → now (till .entry) ≡ tillToWords v b (record { last = last; rights = rights; versions = older ++ (u ∷ newer) }) → now (pointers .entry) ≡ map pointerWord ps → length ps ≡ length (newestPointers older) → now (till .exit) ≡ tillToWords v b (record { last = last; rights = rights; versions = withNewestPointers older ps ++ newer })) ⌝ }
 {
     if j == 0 {
         drop_slot(till, b, j);

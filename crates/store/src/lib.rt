@@ -1,24 +1,30 @@
-// The calls, on lent buffers. No call has a premise: what is no sound store is refused with 10.
+// The calls, on lent buffers. No call has a premise: what is no sound store is refused with 10, and then a user who may not make the call with 22 or 23.
 ghost use mathlib.Core.Path.{_≡_};
-ghost use Rattle.model.specs.Calls.{tableLengthOf, layoutOf, backupOf, backupDatedOf, restoreOf, retireOf, listingOf, versionOnOf, tallyOf};
+ghost use mathlib.Core.Option.{none, some};
+ghost use Rattle.model.specs.Image.{withBlanks};
+ghost use Rattle.model.specs.Calls.{tableLengthOf, layoutOf};
+ghost use Rattle.model.specs.Rights.{backupAs, restoreAs, retireAs, listingAs, versionOnAs, tallyAs, setRightsOf};
 ghost use Rattle.layout.specs.Layout.{shape, lengthAnswer, layoutAnswer};
 ghost use Rattle.backup.specs.Call.{backedUpAnswer};
 ghost use Rattle.tills.specs.Answers.{listingAnswer, versionFound};
 ghost use Rattle.restore.specs.Answers.{restoreAnswer};
 ghost use Rattle.retire.specs.Answers.{retireAnswer};
 ghost use Rattle.tally.specs.Answers.{tallyAnswer};
-ghost use Rattle.stream.specs.Version.{writeStreamOf};
+ghost use Rattle.stream.specs.Version.{writeStreamAs};
 ghost use Rattle.stream_write.specs.Answers.{streamWritten};
-ghost use Rattle.sent.specs.Sent.{offerOf, backupSentOf};
+ghost use Rattle.sent.specs.Sent.{offerAs, backupSentAs};
 ghost use Rattle.sent_offer.specs.Offer.{offered};
-ghost use Rattle.closing.specs.Closing.{backupAllOf};
+ghost use Rattle.closing.specs.Closing.{backupAllAs};
 ghost use Rattle.closing_backup.specs.Answers.{allBackedUp};
+ghost use Rattle.rights.specs.Answers.{rightsGiven, rightsAnswered};
 use backup::BackedUp;
 use closing_backup::AllBackedUp;
 use layout::Capacities;
 use layout::TableLength;
 use restore::Restored;
 use retire::Retired;
+use rights::Right;
+use rights::Rights;
 use stream_write::StreamWritten;
 use tally::Tally;
 use tills::Listing;
@@ -36,12 +42,19 @@ pub fn lay_out(pool: &mut [u8], table: &mut [u32], c: Capacities) -> u32
     layout::lay_out(pool, table, c)
 }
 
-pub fn backup(pool: &mut [u8], table: &mut [u32], till: u32, image: &[u8]) -> BackedUp
-    ensures { λ r. ⌜ backedUpAnswer r (now (pool .exit)) (now (table .exit)) ≡ backupOf (now (pool .entry)) (now (table .entry)) till (now (image .entry)) ⌝ }
+pub fn backup(pool: &mut [u8], table: &mut [u32], user: u32, till: u32, image: &[u8]) -> BackedUp
+    ensures { λ r. ⌜ backedUpAnswer r (now (pool .exit)) (now (table .exit)) ≡ backupAs withBlanks (now (pool .entry)) (now (table .entry)) user till none (now (image .entry)) ⌝ }
 {
     if !audit::sound(pool, table) {
         return BackedUp {
             refusal: 10,
+            version: 0,
+        };
+    }
+    let refusal = rights::refusal(pool, table, user, till, Right::BackUp);
+    if refusal != 0 {
+        return BackedUp {
+            refusal: refusal,
             version: 0,
         };
     }
@@ -52,11 +65,12 @@ pub fn backup(pool: &mut [u8], table: &mut [u32], till: u32, image: &[u8]) -> Ba
 pub fn backup_dated(
     pool: &mut [u8],
     table: &mut [u32],
+    user: u32,
     till: u32,
     day: u32,
     image: &[u8],
 ) -> BackedUp
-    ensures { λ r. ⌜ backedUpAnswer r (now (pool .exit)) (now (table .exit)) ≡ backupDatedOf (now (pool .entry)) (now (table .entry)) till day (now (image .entry)) ⌝ }
+    ensures { λ r. ⌜ backedUpAnswer r (now (pool .exit)) (now (table .exit)) ≡ backupAs withBlanks (now (pool .entry)) (now (table .entry)) user till (some day) (now (image .entry)) ⌝ }
 {
     if !audit::sound(pool, table) {
         return BackedUp {
@@ -64,11 +78,25 @@ pub fn backup_dated(
             version: 0,
         };
     }
+    let refusal = rights::refusal(pool, table, user, till, Right::BackUp);
+    if refusal != 0 {
+        return BackedUp {
+            refusal: refusal,
+            version: 0,
+        };
+    }
     backup::back_up_dated(pool, table, till, day, image)
 }
 
-pub fn restore(pool: &[u8], table: &[u32], till: u32, version: u32, output: &mut [u8]) -> Restored
-    ensures { λ r. ⌜ restoreAnswer r (now (output .exit)) ≡ restoreOf (now (pool .entry)) (now (table .entry)) till version (now (output .entry)) ⌝ }
+pub fn restore(
+    pool: &[u8],
+    table: &[u32],
+    user: u32,
+    till: u32,
+    version: u32,
+    output: &mut [u8],
+) -> Restored
+    ensures { λ r. ⌜ restoreAnswer r (now (output .exit)) ≡ restoreAs (now (pool .entry)) (now (table .entry)) user till version (now (output .entry)) ⌝ }
 {
     if !audit::sound(pool, table) {
         return Restored {
@@ -77,11 +105,19 @@ pub fn restore(pool: &[u8], table: &[u32], till: u32, version: u32, output: &mut
             hops: 0,
         };
     }
+    let refusal = rights::refusal(pool, table, user, till, Right::Restore);
+    if refusal != 0 {
+        return Restored {
+            refusal: refusal,
+            length: 0,
+            hops: 0,
+        };
+    }
     restore::restore_version(pool, table, till, version, output)
 }
 
-pub fn retire(pool: &mut [u8], table: &mut [u32], till: u32, version: u32) -> Retired
-    ensures { λ r. ⌜ retireAnswer r (now (pool .exit)) (now (table .exit)) ≡ retireOf (now (pool .entry)) (now (table .entry)) till version ⌝ }
+pub fn retire(pool: &mut [u8], table: &mut [u32], user: u32, till: u32, version: u32) -> Retired
+    ensures { λ r. ⌜ retireAnswer r (now (pool .exit)) (now (table .exit)) ≡ retireAs (now (pool .entry)) (now (table .entry)) user till version ⌝ }
 {
     if !audit::sound(pool, table) {
         return Retired {
@@ -89,11 +125,18 @@ pub fn retire(pool: &mut [u8], table: &mut [u32], till: u32, version: u32) -> Re
             length: 0,
         };
     }
+    let refusal = rights::refusal(pool, table, user, till, Right::Retire);
+    if refusal != 0 {
+        return Retired {
+            refusal: refusal,
+            length: 0,
+        };
+    }
     retire::retire_version(pool, table, till, version)
 }
 
-pub fn listing(pool: &[u8], table: &[u32], till: u32) -> Listing
-    ensures { λ r. ⌜ listingAnswer r ≡ listingOf (now (pool .entry)) (now (table .entry)) till ⌝ }
+pub fn listing(pool: &[u8], table: &[u32], user: u32, till: u32) -> Listing
+    ensures { λ r. ⌜ listingAnswer r ≡ listingAs (now (pool .entry)) (now (table .entry)) user till ⌝ }
 {
     if !audit::sound(pool, table) {
         return Listing {
@@ -103,12 +146,21 @@ pub fn listing(pool: &[u8], table: &[u32], till: u32) -> Listing
             last: 0,
         };
     }
+    let refusal = rights::refusal(pool, table, user, till, Right::List);
+    if refusal != 0 {
+        return Listing {
+            refusal: refusal,
+            oldest: 0,
+            newest: 0,
+            last: 0,
+        };
+    }
     tills::list_till(pool, table, till)
 }
 
 // The version of a day: the newest one held that is not after it.
-pub fn version_on(pool: &[u8], table: &[u32], till: u32, day: u32) -> VersionFound
-    ensures { λ r. ⌜ versionFound r ≡ versionOnOf (now (pool .entry)) (now (table .entry)) till day ⌝ }
+pub fn version_on(pool: &[u8], table: &[u32], user: u32, till: u32, day: u32) -> VersionFound
+    ensures { λ r. ⌜ versionFound r ≡ versionOnAs (now (pool .entry)) (now (table .entry)) user till day ⌝ }
 {
     if !audit::sound(pool, table) {
         return VersionFound {
@@ -116,15 +168,32 @@ pub fn version_on(pool: &[u8], table: &[u32], till: u32, day: u32) -> VersionFou
             version: 0,
         };
     }
+    let refusal = rights::refusal(pool, table, user, till, Right::List);
+    if refusal != 0 {
+        return VersionFound {
+            refusal: refusal,
+            version: 0,
+        };
+    }
     tills::version_on(pool, table, till, day)
 }
 
-pub fn tally(pool: &[u8], table: &[u32]) -> Tally
-    ensures { λ r. ⌜ tallyAnswer r ≡ tallyOf (now (pool .entry)) (now (table .entry)) ⌝ }
+// The owner's only.
+pub fn tally(pool: &[u8], table: &[u32], user: u32) -> Tally
+    ensures { λ r. ⌜ tallyAnswer r ≡ tallyAs (now (pool .entry)) (now (table .entry)) user ⌝ }
 {
     if !audit::sound(pool, table) {
         return Tally {
             refusal: 10,
+            cells: 0,
+            records: 0,
+            counts: 0,
+        };
+    }
+    let refusal = rights::owner_refusal(user);
+    if refusal != 0 {
+        return Tally {
+            refusal: refusal,
             cells: 0,
             records: 0,
             counts: 0,
@@ -137,11 +206,12 @@ pub fn tally(pool: &[u8], table: &[u32]) -> Tally
 pub fn write_stream(
     pool: &[u8],
     table: &[u32],
+    user: u32,
     till: u32,
     version: u32,
     output: &mut [u8],
 ) -> StreamWritten
-    ensures { λ r. ⌜ streamWritten r (now (output .exit)) ≡ writeStreamOf (now (pool .entry)) (now (table .entry)) till version (now (output .entry)) ⌝ }
+    ensures { λ r. ⌜ streamWritten r (now (output .exit)) ≡ writeStreamAs (now (pool .entry)) (now (table .entry)) user till version (now (output .entry)) ⌝ }
 {
     if !audit::sound(pool, table) {
         return StreamWritten {
@@ -149,15 +219,33 @@ pub fn write_stream(
             length: 0,
         };
     }
+    let refused = rights::refusal(pool, table, user, till, Right::Restore);
+    if refused != 0 {
+        return StreamWritten {
+            refusal: refused,
+            length: 0,
+        };
+    }
     stream_version::write_version(pool, table, till, version, output)
 }
 
 // The first message of a till that sends only what the box lacks: the marks of what it has. The answer is the refusal, or 0.
-pub fn offer(pool: &[u8], table: &[u32], till: u32, fingerprints: &[u8], marks: &mut [u8]) -> u32
-    ensures { λ r. ⌜ offered r (now (marks .exit)) ≡ offerOf (now (pool .entry)) (now (table .entry)) till (now (fingerprints .entry)) (now (marks .entry)) ⌝ }
+pub fn offer(
+    pool: &[u8],
+    table: &[u32],
+    user: u32,
+    till: u32,
+    fingerprints: &[u8],
+    marks: &mut [u8],
+) -> u32
+    ensures { λ r. ⌜ offered r (now (marks .exit)) ≡ offerAs (now (pool .entry)) (now (table .entry)) user till (now (fingerprints .entry)) (now (marks .entry)) ⌝ }
 {
     if !audit::sound(pool, table) {
         return 10;
+    }
+    let refusal = rights::refusal(pool, table, user, till, Right::BackUp);
+    if refusal != 0 {
+        return refusal;
     }
     sent_offer::offer_segments(pool, table, till, fingerprints, marks)
 }
@@ -166,13 +254,14 @@ pub fn offer(pool: &[u8], table: &[u32], till: u32, fingerprints: &[u8], marks: 
 pub fn backup_sent(
     pool: &mut [u8],
     table: &mut [u32],
+    user: u32,
     till: u32,
     length: u32,
     fingerprints: &[u8],
     marks: &[u8],
     segments: &[u8],
 ) -> BackedUp
-    ensures { λ r. ⌜ backedUpAnswer r (now (pool .exit)) (now (table .exit)) ≡ backupSentOf (now (pool .entry)) (now (table .entry)) till length (now (fingerprints .entry)) (now (marks .entry)) (now (segments .entry)) ⌝ }
+    ensures { λ r. ⌜ backedUpAnswer r (now (pool .exit)) (now (table .exit)) ≡ backupSentAs (now (pool .entry)) (now (table .entry)) user till length (now (fingerprints .entry)) (now (marks .entry)) (now (segments .entry)) ⌝ }
 {
     if !audit::sound(pool, table) {
         return BackedUp {
@@ -180,18 +269,26 @@ pub fn backup_sent(
             version: 0,
         };
     }
+    let refusal = rights::refusal(pool, table, user, till, Right::BackUp);
+    if refusal != 0 {
+        return BackedUp {
+            refusal: refusal,
+            version: 0,
+        };
+    }
     sent_backup::back_up_sent(pool, table, till, length, fingerprints, marks, segments)
 }
 
-// All tills at closing: the images lie end to end. One check serves for all of them.
+// All tills at closing: the images lie end to end. One check serves for all of them, and the user's right is asked for each.
 pub fn backup_all(
     pool: &mut [u8],
     table: &mut [u32],
+    user: u32,
     tills: &[u32],
     lengths: &[u32],
     images: &[u8],
 ) -> AllBackedUp
-    ensures { λ r. ⌜ allBackedUp r (now (pool .exit)) (now (table .exit)) ≡ backupAllOf (now (pool .entry)) (now (table .entry)) (now (tills .entry)) (now (lengths .entry)) (now (images .entry)) ⌝ }
+    ensures { λ r. ⌜ allBackedUp r (now (pool .exit)) (now (table .exit)) ≡ backupAllAs (now (pool .entry)) (now (table .entry)) user (now (tills .entry)) (now (lengths .entry)) (now (images .entry)) ⌝ }
 {
     if !audit::sound(pool, table) {
         return AllBackedUp {
@@ -200,5 +297,22 @@ pub fn backup_all(
             versions: [0u32; 16],
         };
     }
-    closing_backup::back_up_all(pool, table, tills, lengths, images)
+    closing_backup::back_up_all(pool, table, user, tills, lengths, images)
+}
+
+// The owner sets what another user may do with a till. The answer is the refusal, or 0.
+pub fn set_rights(
+    pool: &[u8],
+    table: &mut [u32],
+    user: u32,
+    subject: u32,
+    till: u32,
+    rights: Rights,
+) -> u32
+    ensures { λ r. ⌜ rightsAnswered r (now (table .exit)) ≡ setRightsOf (now (pool .entry)) (now (table .entry)) user subject till (rightsGiven rights) ⌝ }
+{
+    if !audit::sound(pool, table) {
+        return 10u32;
+    }
+    rights::set_rights(pool, table, user, subject, till, rights)
 }

@@ -6,7 +6,9 @@ use lib.ListN.{take, replicate}
 use lib.Dec.{eqb}
 use Rattle.model.specs.Measures.{Shape}
 use Rattle.model.specs.State.{State}
+use Rattle.model.specs.Sound.{storeOf}
 use Rattle.model.specs.Calls.{RestoreAnswer, restore, restoreOf}
+use Rattle.model.specs.Rights.{toRestore, refusalFor, unless}
 use Rattle.stream.specs.Stream.{StreamAnswer, streamRefusal, writeStream}
 
 -- an output that every image fits
@@ -23,3 +25,8 @@ writeVersion s st t version output = writeRestored (restore s st t version longe
 
 unfoldable pub writeStreamOf : List ℕ → List ℕ → ℕ → ℕ → List ℕ → StreamAnswer
 writeStreamOf pool table t version output = writeRestored (restoreOf pool table t version longestOutput) output
+
+-- with its user: 22 and 23 after 3
+unfoldable pub writeStreamAs : List ℕ → List ℕ → ℕ → ℕ → ℕ → List ℕ → StreamAnswer
+writeStreamAs pool table user t version output =
+    unless (refusalFor (storeOf pool table) user t toRestore) (λ n. streamRefusal n output) (writeStreamOf pool table t version output)

@@ -50,6 +50,7 @@ fn trial(pool: &mut [u8], table: &mut [u32], counts: &mut [u64]) {
     trial_refusals::layouts(pool, table, counts);
     trial_refusals::last_number(counts);
     trial_refusals::sent::messages(counts);
+    trial_staff::keys(counts);
     trial_closing::whole::closings(counts);
     histories(20, pool, table, counts);
     tell::report(counts);
@@ -58,6 +59,6 @@ fn trial(pool: &mut [u8], table: &mut [u32], counts: &mut [u64]) {
 fn main() {
     let mut pool = [0u8; 4096];
     let mut table = [0u32; 600];
-    let mut counts = [0u64; 62];
+    let mut counts = [0u64; 63];
     trial(&mut pool, &mut table, &mut counts);
 }

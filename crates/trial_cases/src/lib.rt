@@ -35,7 +35,7 @@ fn print_image(bytes: usize, given: BackedUp, back: Restored, kept: Tally, wrong
 // A fresh store gets the image.
 fn taken(pool: &mut [u8], table: &mut [u32], image: &[u8]) -> BackedUp {
     store::lay_out(pool, table, capacities());
-    store::backup(pool, table, 0, image)
+    store::backup(pool, table, 0, 0, image)
 }
 
 // At how many places the output's first bytes and the image differ, if the image was taken.
@@ -51,8 +51,8 @@ fn wrong_in(image: &[u8], output: &[u8], bytes: usize) -> usize {
 
 fn image_on(pool: &mut [u8], table: &mut [u32], image: &[u8], output: &mut [u8]) {
     let given = taken(pool, table, image);
-    let back = store::restore(pool, table, 0, given.version, output);
-    let kept = store::tally(pool, table);
+    let back = store::restore(pool, table, 0, 0, given.version, output);
+    let kept = store::tally(pool, table, 0);
     let wrong = wrong_in(image, output, back.length as usize);
     print_image(image.len(), given, back, kept, wrong);
 }
@@ -73,7 +73,7 @@ fn first_bytes(image: &[u8], bytes: usize) {
 // The output's length, the version's, the restore's number.
 fn output_on(pool: &mut [u8], table: &mut [u32], image: &[u8], output: &mut [u8]) {
     let given = taken(pool, table, image);
-    let back = store::restore(pool, table, 0, given.version, output);
+    let back = store::restore(pool, table, 0, 0, given.version, output);
     tell::text(b"output");
     tell::number(output.len() as u64);
     tell::number(image.len() as u64);
@@ -120,17 +120,17 @@ fn print_retired(version: u32, gone: Retired, cells: u32) {
 }
 
 fn retire_one(pool: &mut [u8], table: &mut [u32], version: u32) {
-    let gone = store::retire(pool, table, 0, version);
-    let kept = store::tally(pool, table);
+    let gone = store::retire(pool, table, 0, 0, version);
+    let kept = store::tally(pool, table, 0);
     print_retired(version, gone, kept.cells);
 }
 
 // Cases 1 to 4.
 fn four_taken(pool: &mut [u8], table: &mut [u32], first: &[u8], second: &[u8]) {
     taken(pool, table, first);
-    store::backup(pool, table, 0, second);
-    store::backup(pool, table, 0, first);
-    store::backup(pool, table, 0, first);
+    store::backup(pool, table, 0, 0, second);
+    store::backup(pool, table, 0, 0, first);
+    store::backup(pool, table, 0, 0, first);
 }
 
 // From the middle, gone already, the oldest.

@@ -1,4 +1,4 @@
-// Every held version of every till restored and compared, the tills listed, the store tallied.
+// Every held version of every till restored and compared, the tills listed, the store tallied: as the owner.
 use layout::Capacities;
 
 // With just enough room; 0 is no version.
@@ -14,7 +14,18 @@ fn restored(
 ) {
     if version != 0 {
         let room = trial_keeper::length(notes, till, version) as usize;
-        trial_calls::restore(c, till, version, room, pool, table, images, notes, counts);
+        trial_calls::restore(
+            c,
+            0,
+            till,
+            version,
+            room,
+            pool,
+            table,
+            images,
+            notes,
+            counts,
+        );
     }
 }
 
@@ -46,7 +57,7 @@ fn each_till(
 ) {
     let mut till = 0;
     while till < c.tills {
-        trial_calls::list(c, till, pool, table, notes, counts);
+        trial_calls::list(c, 0, till, pool, table, notes, counts);
         each_version(c, till, pool, table, images, notes, counts);
         till += 1;
     }

@@ -1,4 +1,4 @@
-// The till and the image of a drawn backup.
+// The user, the till and the image of a drawn call.
 ghost use Prim.Native.Nat.{_+_, _≤_};
 ghost use Rattle.trial_keeper.specs.Notes.{mostBytes};
 use layout::Capacities;
@@ -13,6 +13,16 @@ pub fn till_of(c: Capacities, d: Dice) -> u32
         return c.tills;
     }
     d.pick(12, c.tills)
+}
+
+// Mostly the owner; one time in four any, of which two are unknown.
+pub fn user_of(d: Dice) -> u32
+    ensures { λ r. ⌜ r ≤ 9 ⌝ }
+{
+    if d.pick(28, 4) == 0 {
+        return d.pick(16, 10);
+    }
+    0
 }
 
 // None, a byte too many, full, or any length.

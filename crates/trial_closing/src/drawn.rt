@@ -52,6 +52,7 @@ fn draw_each(
 // Of the lists the first n places, of the room the first bytes. Images that had no room show as a wrong answer.
 fn close_first(
     c: Capacities,
+    user: u32,
     n: usize,
     bytes: usize,
     tills: &[u32],
@@ -77,6 +78,7 @@ fn close_first(
     }
     crate::back_up(
         c,
+        user,
         &tills[0..n],
         &lengths[0..n],
         &sent[0..bytes],
@@ -104,6 +106,7 @@ pub fn close(
     let bytes = draw_each(c, d, n, &mut tills, &mut lengths, &mut sent);
     close_first(
         c,
+        trial_choice::user_of(d),
         n,
         bytes,
         &tills,

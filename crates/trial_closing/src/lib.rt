@@ -5,7 +5,7 @@ pub mod whole;
 ghost use mathlib.Core.Path.{_≡_};
 ghost use Prim.Native.Nat.{_+_, _≤_, _<_, min};
 ghost use lib.ListN.{length, getD};
-ghost use Rattle.closing.specs.Closing.{backupAllOf};
+ghost use Rattle.closing.specs.Closing.{backupAllAs};
 ghost use Rattle.closing_backup.specs.Answers.{allBackedUp};
 use backup::BackedUp;
 use closing_backup::AllBackedUp;
@@ -50,6 +50,7 @@ fn judge_lists(
 
 // The call, and what can be told of it without a keeper. The answer is the store's.
 pub fn call(
+    user: u32,
     tills: &[u32],
     lengths: &[u32],
     sent: &[u8],
@@ -58,10 +59,10 @@ pub fn call(
     counts: &mut [u64],
     expected: u32,
 ) -> AllBackedUp
-    ensures { λ r. ⌜ allBackedUp r (now (pool .exit)) (now (table .exit)) ≡ backupAllOf (now (pool .entry)) (now (table .entry)) (now (tills .entry)) (now (lengths .entry)) (now (sent .entry)) ⌝ }
+    ensures { λ r. ⌜ allBackedUp r (now (pool .exit)) (now (table .exit)) ≡ backupAllAs (now (pool .entry)) (now (table .entry)) user (now (tills .entry)) (now (lengths .entry)) (now (sent .entry)) ⌝ }
 {
     let before = trial_compare::sum_of(pool, table);
-    let a = store::backup_all(pool, table, tills, lengths, sent);
+    let a = store::backup_all(pool, table, user, tills, lengths, sent);
     let refusals = a.refusals;
     let versions = a.versions;
     let images = answered(a.refusal, tills.len());
@@ -106,6 +107,7 @@ fn outcome_of(refusal: u32) -> usize
 fn judge_one(
     a: BackedUp,
     c: Capacities,
+    user: u32,
     till: u32,
     image: &[u8],
     images: &mut [u8],
@@ -113,11 +115,12 @@ fn judge_one(
     counts: &mut [u64],
 ) {
     counts::add(counts, outcome_of(a.refusal), 1);
-    trial_judge::backed_up(a, c, till, image, images, notes, counts);
+    trial_judge::backed_up(a, c, user, till, image, images, notes, counts);
 }
 
 fn judge_each(
     c: Capacities,
+    user: u32,
     tills: &[u32],
     lengths: &[u32],
     sent: &[u8],
@@ -132,7 +135,16 @@ fn judge_each(
     while i < tills.len() {
         let end = end_of(lengths, i, from, sent.len());
         let a = answer_at(refusals, versions, i);
-        judge_one(a, c, tills[i], &sent[from..end], images, notes, counts);
+        judge_one(
+            a,
+            c,
+            user,
+            tills[i],
+            &sent[from..end],
+            images,
+            notes,
+            counts,
+        );
         from = end;
         i += 1;
     }
@@ -141,6 +153,7 @@ fn judge_each(
 // A closing whose lists fit each other.
 pub fn back_up(
     c: Capacities,
+    user: u32,
     tills: &[u32],
     lengths: &[u32],
     sent: &[u8],
@@ -150,11 +163,12 @@ pub fn back_up(
     notes: &mut [u32],
     counts: &mut [u64],
 ) {
-    let a = call(tills, lengths, sent, pool, table, counts, 0);
+    let a = call(user, tills, lengths, sent, pool, table, counts, 0);
     let refusals = a.refusals;
     let versions = a.versions;
     judge_each(
         c,
+        user,
         tills,
         lengths,
         sent,

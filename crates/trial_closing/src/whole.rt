@@ -31,6 +31,7 @@ fn refuse_parts(
     requires { ⌜ (t ≤ length (now tills)) × (l ≤ length (now lengths)) × (s ≤ length (now sent)) ⌝ }
 {
     crate::call(
+        0,
         &tills[0..t],
         &lengths[0..l],
         &sent[0..s],
@@ -88,15 +89,15 @@ fn other_sums(pool: &mut [u8], table: &mut [u32], counts: &mut [u64]) {
 fn wrapped(pool: &mut [u8], table: &mut [u32], counts: &mut [u64]) {
     let tills = [0u32; 2];
     let lengths = [4294967295u32, 2];
-    crate::call(&tills, &lengths, b"A", pool, table, counts, 4);
+    crate::call(0, &tills, &lengths, b"A", pool, table, counts, 4);
 }
 
 // With a reserved word of the till that is not zero: 10, also for what would be 4.
 fn unsound(pool: &mut [u8], table: &mut [u32], counts: &mut [u64]) {
-    trial_keeper::put_note(table, 10, 1);
+    trial_keeper::put_note(table, 11, 1);
     refuse(17, 17, 17, pool, table, counts, 10);
     refuse(1, 1, 1, pool, table, counts, 10);
-    trial_keeper::put_note(table, 10, 0);
+    trial_keeper::put_note(table, 11, 0);
 }
 
 fn refused(pool: &mut [u8], table: &mut [u32], counts: &mut [u64]) {
@@ -119,6 +120,7 @@ fn few(
     let none = [0u32; 0];
     crate::back_up(
         capacities(),
+        0,
         &none,
         &none,
         b"",
@@ -130,6 +132,7 @@ fn few(
     );
     crate::back_up(
         capacities(),
+        0,
         &tills,
         &lengths,
         b"ABCDEF",
@@ -153,6 +156,7 @@ fn most(
     let lengths = [1u32; 16];
     crate::back_up(
         capacities(),
+        0,
         &tills,
         &lengths,
         b"ABCDEFGHIJKLMNOP",

@@ -3,6 +3,7 @@ use backup::BackedUp;
 use layout::Capacities;
 use restore::Restored;
 use retire::Retired;
+use rights::Rights;
 use tills::Listing;
 use trial_report::counts;
 
@@ -11,6 +12,14 @@ pub fn buffers(refusal: u32, before: u64, pool: &[u8], table: &[u32], counts: &m
     if refusal != 0 {
         counts::expect_unaltered(counts, trial_compare::sum_of(pool, table) == before);
     }
+}
+
+// The first refusal, if there is one, or the second.
+fn first_of(a: u32, b: u32) -> u32 {
+    if a != 0 {
+        return a;
+    }
+    b
 }
 
 // Whether there is room, 14 and 16, is for the store to say.
@@ -29,14 +38,16 @@ fn or_full(expected: u32, refusal: u32) -> u32 {
 
 fn backup_number(
     c: Capacities,
+    user: u32,
     till: u32,
     bytes: usize,
     refusal: u32,
     notes: &[u32],
     counts: &mut [u64],
 ) {
-    let expected = or_full(trial_keeper::backup_refusal(c, notes, till, bytes), refusal);
-    counts::answered(counts, counts::BACKUPS, refusal, expected);
+    let may = trial_keeper::refusal_of(c, notes, user, till, trial_keeper::BACK_UP);
+    let expected = first_of(may, trial_keeper::backup_refusal(c, notes, till, bytes));
+    counts::answered(counts, counts::BACKUPS, refusal, or_full(expected, refusal));
 }
 
 // An accepted image is filed.
@@ -59,25 +70,28 @@ fn backup_version(
 pub fn backed_up(
     a: BackedUp,
     c: Capacities,
+    user: u32,
     till: u32,
     image: &[u8],
     images: &mut [u8],
     notes: &mut [u32],
     counts: &mut [u64],
 ) {
-    backup_number(c, till, image.len(), a.refusal, notes, counts);
+    backup_number(c, user, till, image.len(), a.refusal, notes, counts);
     backup_version(a, till, image, images, notes, counts);
 }
 
 fn retire_number(
     c: Capacities,
+    user: u32,
     till: u32,
     version: u32,
     refusal: u32,
     notes: &[u32],
     counts: &mut [u64],
 ) {
-    let expected = trial_keeper::retire_refusal(c, notes, till, version);
+    let may = trial_keeper::refusal_of(c, notes, user, till, trial_keeper::RETIRE);
+    let expected = first_of(may, trial_keeper::retire_refusal(c, notes, till, version));
     counts::answered(counts, counts::RETIRES, refusal, expected);
 }
 
@@ -103,12 +117,13 @@ fn retired_version(length: u32, till: u32, version: u32, notes: &mut [u32], coun
 pub fn retired(
     a: Retired,
     c: Capacities,
+    user: u32,
     till: u32,
     version: u32,
     notes: &mut [u32],
     counts: &mut [u64],
 ) {
-    retire_number(c, till, version, a.refusal, notes, counts);
+    retire_number(c, user, till, version, a.refusal, notes, counts);
     if a.refusal == 0 {
         retired_version(a.length, till, version, notes, counts);
     } else {
@@ -148,6 +163,7 @@ pub fn not_restored(a: Restored, output: &[u8], counts: &mut [u64]) {
 
 fn restore_number(
     c: Capacities,
+    user: u32,
     till: u32,
     version: u32,
     room: usize,
@@ -155,13 +171,18 @@ fn restore_number(
     notes: &[u32],
     counts: &mut [u64],
 ) {
-    let expected = trial_keeper::restore_refusal(c, notes, till, version, room);
+    let may = trial_keeper::refusal_of(c, notes, user, till, trial_keeper::RESTORE);
+    let expected = first_of(
+        may,
+        trial_keeper::restore_refusal(c, notes, till, version, room),
+    );
     counts::answered(counts, counts::RESTORES, refusal, expected);
 }
 
 pub fn restored(
     a: Restored,
     c: Capacities,
+    user: u32,
     till: u32,
     version: u32,
     room: usize,
@@ -170,7 +191,7 @@ pub fn restored(
     output: &[u8],
     counts: &mut [u64],
 ) {
-    restore_number(c, till, version, room, a.refusal, notes, counts);
+    restore_number(c, user, till, version, room, a.refusal, notes, counts);
     if a.refusal == 0 {
         restored_bytes(a, till, version, images, notes, output, counts);
         restored_chain(a, till, version, notes, counts);
@@ -179,14 +200,38 @@ pub fn restored(
     }
 }
 
-pub fn listed(a: Listing, c: Capacities, till: u32, notes: &[u32], counts: &mut [u64]) {
-    if c.tills <= till {
-        counts::answered(counts, counts::LISTINGS, a.refusal, 3);
-        counts::expect(counts, a.last == 0);
+fn not_listed(a: Listing, counts: &mut [u64]) {
+    counts::expect(counts, a.oldest == 0);
+    counts::expect(counts, a.newest == 0);
+    counts::expect(counts, a.last == 0);
+}
+
+pub fn listed(a: Listing, c: Capacities, user: u32, till: u32, notes: &[u32], counts: &mut [u64]) {
+    let expected = trial_keeper::refusal_of(c, notes, user, till, trial_keeper::LIST);
+    counts::answered(counts, counts::LISTINGS, a.refusal, expected);
+    if expected != 0 {
+        not_listed(a, counts);
         return;
     }
-    counts::answered(counts, counts::LISTINGS, a.refusal, 0);
     counts::expect(counts, a.oldest == trial_keeper::oldest(notes, till));
     counts::expect(counts, a.newest == trial_keeper::newest(notes, till));
     counts::expect(counts, a.last == trial_keeper::last(notes, till));
+}
+
+// Rights that are set are noted.
+pub fn rights_set(
+    refusal: u32,
+    c: Capacities,
+    user: u32,
+    subject: u32,
+    till: u32,
+    rights: Rights,
+    notes: &mut [u32],
+    counts: &mut [u64],
+) {
+    let expected = trial_keeper::set_refusal(c, user, subject, till);
+    counts::answered(counts, counts::RIGHTS, refusal, expected);
+    if refusal == 0 {
+        trial_keeper::set_rights(notes, till, subject, rights);
+    }
 }

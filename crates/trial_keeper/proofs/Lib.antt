@@ -1,3 +1,4 @@
 -- The module of the crate's proofs.
 pub mod Places
 pub mod Versions
+pub mod Users

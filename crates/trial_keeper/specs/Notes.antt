@@ -1,4 +1,5 @@
--- The keeper's notes, eleven for each till: the last number given, the number held at each of five places (0 at a free one), a length for each place.
+-- The keeper's notes, eleven for each till: the last number given, the number held at each of five places (0 at a free one), a length for each place; and then
+-- the rights, 1 for one that is given, four for each of eight users on each till.
 use mathlib.Core.Bool.{Bool, false, cond}
 use mathlib.Core.List.{List, [], _∷_}
 use Prim.Native.Nat.{ℕ, suc, _+_, _*_, min}
@@ -61,6 +62,35 @@ struck notes till n = cond (isHeld notes till n) (set notes (till * 11 + 1 + pla
 -- an image's most bytes
 abbrev pub mostBytes : ℕ → ℕ → ℕ
 mostBytes blocks bytes = min (blocks * min bytes 512) 65536
+
+-- ---- rights
+
+abbrev pub rightNote : ℕ → ℕ → ℕ → ℕ
+rightNote till user right = 33 + (till * 8 + user) * 4 + right
+
+abbrev pub rightAt : List ℕ → ℕ → ℕ → ℕ → ℕ
+rightAt notes till user right = getD notes (rightNote till user right) 0
+
+-- a user on a till: 3, 22, 23; the owner has all rights
+abbrev pub userRefusal : ℕ → List ℕ → ℕ → ℕ → ℕ → ℕ
+userRefusal tills notes user till right =
+    cond (leb tills till) 3 (cond (ltb 7 user) 22 (cond (eqb user 0) 0 (cond (eqb (rightAt notes till user right) 0) 23 0)))
+
+-- what is the owner's only
+abbrev pub ownerRefusal : ℕ → ℕ
+ownerRefusal user = cond (ltb 7 user) 22 (cond (ltb 0 user) 23 0)
+
+-- setting rights: 22 for either user
+abbrev pub setRefusal : ℕ → ℕ → ℕ → ℕ → ℕ
+setRefusal tills user subject till = cond (leb tills till) 3 (cond (eqb subject 0) 22 (cond (ltb 7 subject) 22 (ownerRefusal user)))
+
+abbrev pub rightsSet : List ℕ → ℕ → ℕ → Bool → Bool → Bool → Bool → List ℕ
+rightsSet notes till user list backUp restore retire =
+    set
+    (set
+    (set (set notes (rightNote till user 0) (cond list 1 0)) (rightNote till user 1) (cond backUp 1 0))
+    (rightNote till user 2) (cond restore 1 0))
+    (rightNote till user 3) (cond retire 1 0)
 
 -- the page's numbers in their order; 14 and 16 are not the keeper's to tell
 abbrev pub backupRefusal : ℕ → ℕ → ℕ → List ℕ → ℕ → ℕ → ℕ

@@ -1,11 +1,13 @@
 // The keeper of whole images: told the arguments of each call and whether it was accepted, and nothing out of pool or table.
 // Its notes are eleven for each till: the last number given, the number held at each of five places (0 at a free one), the length of the image there.
+// After those of three tills come the rights, 1 for one that is given: on each till those of each user to list, to back up, to restore and to retire.
 ghost use mathlib.Core.Path.{_≡_};
 ghost use Prim.Native.Nat.{_+_, _*_, _≤_, _<_, min};
 ghost use lib.ListN.{getD, set};
-ghost use Rattle.trial_keeper.specs.Notes.{lastGiven, numberAt, newerThan, placeOf, newestOf, oldestOf, lengthOf, isHeld, struck, mostBytes, missingNumber, backupRefusal, restoreRefusal, retireRefusal};
+ghost use Rattle.trial_keeper.specs.Notes.{lastGiven, numberAt, newerThan, placeOf, newestOf, oldestOf, lengthOf, isHeld, struck, mostBytes, missingNumber, rightAt, userRefusal, ownerRefusal, setRefusal, rightsSet, backupRefusal, restoreRefusal, retireRefusal};
 use layout::Capacities;
 use numbers::Block;
+use rights::Rights;
 
 // So many versions at most are kept of a till.
 pub const PLACES: u32 = 5;
@@ -14,7 +16,7 @@ pub const PLACES: u32 = 5;
 const BYTES: usize = 1280;
 
 // Enough notes and bytes of images for three tills.
-pub const NOTES: usize = 33;
+pub const NOTES: usize = 129;
 
 pub const IMAGES: usize = 19200;
 
@@ -270,6 +272,87 @@ pub fn image_bytes(c: Capacities) -> usize
         return bytes;
     }
     65536
+}
+
+// The four rights.
+pub const LIST: u32 = 0;
+
+pub const BACK_UP: u32 = 1;
+
+pub const RESTORE: u32 = 2;
+
+pub const RETIRE: u32 = 3;
+
+fn right_note(till: u32, user: u32, right: u32) -> usize
+    ensures { λ r. ⌜ r ≡ 33 + (till * 8 + user) * 4 + right ⌝ }
+{
+    33 + (till as usize * 8 + user as usize) * 4 + right as usize
+}
+
+// The number that the page's order gives a user for a call on a till: 3, 22, 23; 0 if the user may make it.
+pub fn refusal_of(c: Capacities, notes: &[u32], user: u32, till: u32, right: u32) -> u32
+    ensures { λ r. ⌜ r ≡ userRefusal (c .tills) (now (notes .entry)) user till right ⌝ }
+{
+    if c.tills <= till {
+        return 3;
+    }
+    if 7 < user {
+        return 22;
+    }
+    if user == 0 {
+        return 0;
+    }
+    if note_at(notes, right_note(till, user, right)) == 0 {
+        return 23;
+    }
+    0
+}
+
+// For a call that is the owner's only.
+pub fn owner_refusal(user: u32) -> u32
+    ensures { λ r. ⌜ r ≡ ownerRefusal user ⌝ }
+{
+    if 7 < user {
+        return 22;
+    }
+    if 0 < user {
+        return 23;
+    }
+    0
+}
+
+// For setting the rights of a user, the subject.
+pub fn set_refusal(c: Capacities, user: u32, subject: u32, till: u32) -> u32
+    ensures { λ r. ⌜ r ≡ setRefusal (c .tills) user subject till ⌝ }
+{
+    if c.tills <= till {
+        return 3;
+    }
+    if subject == 0 {
+        return 22;
+    }
+    if 7 < subject {
+        return 22;
+    }
+    owner_refusal(user)
+}
+
+// The user has these rights on the till and no others.
+pub fn set_rights(notes: &mut [u32], till: u32, user: u32, rights: Rights)
+    ensures { λ _. ⌜ now (notes .exit) ≡ rightsSet (now (notes .entry)) till user (rights .list) (rights .«back_up») (rights .restore) (rights .retire) ⌝ }
+{
+    put_note(notes, right_note(till, user, LIST), rights.list as u32);
+    put_note(
+        notes,
+        right_note(till, user, BACK_UP),
+        rights.back_up as u32,
+    );
+    put_note(
+        notes,
+        right_note(till, user, RESTORE),
+        rights.restore as u32,
+    );
+    put_note(notes, right_note(till, user, RETIRE), rights.retire as u32);
 }
 
 // The number that the page's order gives a backup, 14 and 16 apart.

@@ -143,13 +143,13 @@ pub fn layouts(pool: &mut [u8], table: &mut [u32], counts: &mut [u64]) {
 
 // Version n comes to a store of ones.
 fn come(n: u32, image: &[u8], pool: &mut [u8], table: &mut [u32], counts: &mut [u64]) {
-    let a = store::backup(pool, table, 0, image);
+    let a = store::backup(pool, table, 0, 0, image);
     counts::answered(counts, counts::BACKUPS, a.refusal, 0);
     counts::expect(counts, a.version == n);
 }
 
 fn go(n: u32, pool: &mut [u8], table: &mut [u32], counts: &mut [u64]) {
-    let a = store::retire(pool, table, 0, n);
+    let a = store::retire(pool, table, 0, 0, n);
     counts::answered(counts, counts::RETIRES, a.refusal, 0);
     counts::expect(counts, a.length == 50);
 }
@@ -169,13 +169,13 @@ fn every_number(image: &[u8], pool: &mut [u8], table: &mut [u32], counts: &mut [
 
 fn no_more(image: &[u8], pool: &mut [u8], table: &mut [u32], counts: &mut [u64]) {
     let before = trial_compare::sum_of(pool, table);
-    let a = store::backup(pool, table, 0, image);
+    let a = store::backup(pool, table, 0, 0, image);
     counts::answered(counts, counts::BACKUPS, a.refusal, 12);
     trial_judge::buffers(a.refusal, before, pool, table, counts);
 }
 
 fn none_held(pool: &[u8], table: &[u32], counts: &mut [u64]) {
-    let a = store::listing(pool, table, 0);
+    let a = store::listing(pool, table, 0, 0);
     counts::answered(counts, counts::LISTINGS, a.refusal, 0);
     counts::expect(counts, a.newest == 0);
     counts::expect(counts, a.last == 65535);

@@ -25,7 +25,7 @@ fn refuse_offer(
     expected: u32,
 ) {
     trial_compare::mark(marks);
-    let refusal = store::offer(pool, table, 0, prints, marks);
+    let refusal = store::offer(pool, table, 0, 0, prints, marks);
     counts::answered(counts, counts::OFFERS, refusal, expected);
     counts::expect_unaltered(counts, trial_compare::unmarked(marks) == 0);
 }
@@ -42,7 +42,7 @@ fn refuse(
     expected: u32,
 ) {
     let before = trial_compare::sum_of(pool, table);
-    let a = store::backup_sent(pool, table, 0, bytes, prints, marks, segments);
+    let a = store::backup_sent(pool, table, 0, 0, bytes, prints, marks, segments);
     counts::answered(counts, counts::BACKUPS, a.refusal, expected);
     counts::expect(counts, a.version == 0);
     trial_judge::buffers(expected, before, pool, table, counts);
@@ -58,7 +58,7 @@ fn take(
     counts: &mut [u64],
     version: u32,
 ) {
-    let a = store::backup_sent(pool, table, 0, 576, prints, marks, segments);
+    let a = store::backup_sent(pool, table, 0, 0, 576, prints, marks, segments);
     counts::answered(counts, counts::BACKUPS, a.refusal, 0);
     counts::expect(counts, a.version == version);
 }
@@ -99,7 +99,7 @@ fn had(prints: &[u8], pool: &mut [u8], table: &mut [u32], counts: &mut [u64]) {
 // With a reserved word of the till that is not zero, both are refused.
 fn unsound(prints: &[u8], image: &[u8], pool: &mut [u8], table: &mut [u32], counts: &mut [u64]) {
     let mut marks = [0u8; 2];
-    trial_keeper::put_note(table, 10, 1);
+    trial_keeper::put_note(table, 11, 1);
     refuse_offer(prints, &mut marks, pool, table, counts, 10);
     refuse(576, prints, b"\x01\x01", image, pool, table, counts, 10);
 }

@@ -49,6 +49,8 @@ pub const TAKEN: usize = 60;
 
 pub const TURNED_AWAY: usize = 61;
 
+pub const RIGHTS: usize = 62;
+
 pub fn count_at(counts: &[u64], at: usize) -> u64
     ensures { λ r. ⌜ r ≡ getD (now (counts .entry)) at 0 ⌝ }
 {

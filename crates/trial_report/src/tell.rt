@@ -36,6 +36,8 @@ fn refusals(counts: &[u64]) {
     line(b"refused with 18:", counts::count_at(counts, 18));
     line(b"refused with 19:", counts::count_at(counts, 19));
     line(b"refused with 20:", counts::count_at(counts, 20));
+    line(b"refused with 22:", counts::count_at(counts, 22));
+    line(b"refused with 23:", counts::count_at(counts, 23));
 }
 
 fn retires(counts: &[u64]) {
@@ -105,6 +107,10 @@ fn accepted(counts: &[u64]) {
     );
 }
 
+fn rights(counts: &[u64]) {
+    line(b"rights set:", counts::count_at(counts, counts::RIGHTS));
+}
+
 fn verdict(counts: &[u64]) {
     line(b"longest chain:", counts::count_at(counts, counts::CHAIN));
     line(
@@ -131,6 +137,7 @@ pub fn report(counts: &[u64]) {
     retires(counts);
     segments(counts);
     closings(counts);
+    rights(counts);
     refusals(counts);
     verdict(counts);
 }

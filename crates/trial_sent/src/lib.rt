@@ -119,10 +119,17 @@ fn pack(image: &[u8], width: usize, marks: &[u8], out: &mut [u8]) -> usize
     n
 }
 
+// Who sends for which till, and the number that the page's order gives that: 3, 22, 23 or 0.
+struct Sender {
+    user: u32,
+    till: u32,
+    refusal: u32,
+}
+
 // The number that the page's order gives the first message.
-fn offer_refusal(c: Capacities, till: u32, segments: usize) -> u32 {
-    if c.tills <= till {
-        return 3;
+fn offer_refusal(c: Capacities, sender: Sender, segments: usize) -> u32 {
+    if sender.refusal != 0 {
+        return sender.refusal;
     }
     if segments == 0 {
         return 4;
@@ -152,7 +159,7 @@ fn judge_marks(refusal: u32, marks: &[u8], counts: &mut [u64]) {
 // The first message, after which the marks are turned round.
 fn offer(
     c: Capacities,
-    till: u32,
+    sender: Sender,
     pool: &[u8],
     table: &[u32],
     prints: &[u8],
@@ -160,8 +167,8 @@ fn offer(
     counts: &mut [u64],
 ) {
     trial_compare::mark(marks);
-    let refusal = store::offer(pool, table, till, prints, marks);
-    let expected = offer_refusal(c, till, marks.len());
+    let refusal = store::offer(pool, table, sender.user, sender.till, prints, marks);
+    let expected = offer_refusal(c, sender, marks.len());
     counts::answered(counts, counts::OFFERS, refusal, expected);
     judge_marks(refusal, marks, counts);
     turn(marks);
@@ -177,7 +184,7 @@ fn short(n: usize) -> u32 {
 
 // Of what is packed, the first n bytes. One that has no room shows as a wrong answer.
 fn send_packed(
-    till: u32,
+    sender: Sender,
     bytes: usize,
     prints: &[u8],
     marks: &[u8],
@@ -195,7 +202,8 @@ fn send_packed(
     store::backup_sent(
         pool,
         table,
-        till,
+        sender.user,
+        sender.till,
         short(bytes),
         prints,
         marks,
@@ -205,7 +213,7 @@ fn send_packed(
 
 // The second message: those of the image's segments that are marked.
 fn send(
-    till: u32,
+    sender: Sender,
     bytes: usize,
     image: &[u8],
     width: usize,
@@ -218,13 +226,13 @@ fn send(
 {
     let mut packed = [0u8; 8192];
     let n = pack(image, width, marks, &mut packed);
-    send_packed(till, bytes, prints, marks, &packed, n, pool, table)
+    send_packed(sender, bytes, prints, marks, &packed, n, pool, table)
 }
 
 // Both, with room for fingerprints and marks.
 fn exchange(
     c: Capacities,
-    till: u32,
+    sender: Sender,
     bytes: usize,
     image: &[u8],
     prints: &mut [u8],
@@ -235,14 +243,14 @@ fn exchange(
 ) -> BackedUp {
     let width = segment_bytes(c);
     print_all(image, width, prints);
-    offer(c, till, pool, table, prints, marks, counts);
-    send(till, bytes, image, width, prints, marks, pool, table)
+    offer(c, sender, pool, table, prints, marks, counts);
+    send(sender, bytes, image, width, prints, marks, pool, table)
 }
 
 // The image has n whole segments; of the room they take their part.
 fn with_segments(
     c: Capacities,
-    till: u32,
+    sender: Sender,
     bytes: usize,
     image: &[u8],
     n: usize,
@@ -257,7 +265,7 @@ fn with_segments(
     let end = 20 * n;
     exchange(
         c,
-        till,
+        sender,
         bytes,
         image,
         &mut prints[0..end],
@@ -270,7 +278,7 @@ fn with_segments(
 
 fn with_room(
     c: Capacities,
-    till: u32,
+    sender: Sender,
     bytes: usize,
     image: &[u8],
     n: usize,
@@ -284,7 +292,7 @@ fn with_room(
     let mut marks = [0u8; 16];
     with_segments(
         c,
-        till,
+        sender,
         bytes,
         image,
         n,
@@ -305,7 +313,7 @@ fn bytes_in(n: usize, width: usize) -> usize
 // The image's bytes are followed by zeros, up to a whole segment.
 fn filled_up(
     c: Capacities,
-    till: u32,
+    sender: Sender,
     bytes: usize,
     whole: &[u8],
     pool: &mut [u8],
@@ -321,12 +329,12 @@ fn filled_up(
             version: 0,
         };
     }
-    with_room(c, till, bytes, &whole[0..end], n, pool, table, counts)
+    with_room(c, sender, bytes, &whole[0..end], n, pool, table, counts)
 }
 
 fn both(
     c: Capacities,
-    till: u32,
+    sender: Sender,
     image: &[u8],
     pool: &mut [u8],
     table: &mut [u32],
@@ -334,12 +342,13 @@ fn both(
 ) -> BackedUp {
     let mut whole = [0u8; 8192];
     put(image, &mut whole, 0);
-    filled_up(c, till, image.len(), &whole, pool, table, counts)
+    filled_up(c, sender, image.len(), &whole, pool, table, counts)
 }
 
 // Judged as the backup of the whole image.
 pub fn back_up(
     c: Capacities,
+    user: u32,
     till: u32,
     image: &[u8],
     pool: &mut [u8],
@@ -349,7 +358,12 @@ pub fn back_up(
     counts: &mut [u64],
 ) {
     let before = trial_compare::sum_of(pool, table);
-    let a = both(c, till, image, pool, table, counts);
+    let sender = Sender {
+        user: user,
+        till: till,
+        refusal: trial_keeper::refusal_of(c, notes, user, till, trial_keeper::BACK_UP),
+    };
+    let a = both(c, sender, image, pool, table, counts);
     trial_judge::buffers(a.refusal, before, pool, table, counts);
-    trial_judge::backed_up(a, c, till, image, images, notes, counts);
+    trial_judge::backed_up(a, c, user, till, image, images, notes, counts);
 }

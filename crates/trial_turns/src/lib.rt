@@ -1,11 +1,13 @@
-// One drawn call. After a backup or a retire all is checked.
+// One drawn call, of a drawn user. After a backup, a retire or a change of rights all is checked.
 use layout::Capacities;
+use rights::Rights;
 use trial_draw::dice::Dice;
 use trial_report::counts;
 
 // By one call, or by both messages.
 fn back_up_image(
     c: Capacities,
+    user: u32,
     messages: bool,
     till: u32,
     image: &[u8],
@@ -16,14 +18,15 @@ fn back_up_image(
     counts: &mut [u64],
 ) {
     if messages {
-        trial_sent::back_up(c, till, image, pool, table, images, notes, counts);
+        trial_sent::back_up(c, user, till, image, pool, table, images, notes, counts);
     } else {
-        trial_calls::back_up(c, till, image, pool, table, images, notes, counts);
+        trial_calls::back_up(c, user, till, image, pool, table, images, notes, counts);
     }
 }
 
 fn back_up_first(
     c: Capacities,
+    user: u32,
     messages: bool,
     till: u32,
     bytes: usize,
@@ -40,6 +43,7 @@ fn back_up_first(
     }
     back_up_image(
         c,
+        user,
         messages,
         till,
         &image[0..bytes],
@@ -65,6 +69,7 @@ fn back_up(
     let bytes = trial_choice::draw_image(c, d, &mut image);
     back_up_first(
         c,
+        trial_choice::user_of(d),
         d.pick(4, 3) == 0,
         trial_choice::till_of(c, d),
         bytes,
@@ -117,7 +122,38 @@ fn retire(
 ) {
     let till = trial_choice::till_of(c, d);
     let version = version_of(d, till, notes);
-    trial_calls::retire(c, till, version, pool, table, notes, counts);
+    let user = trial_choice::user_of(d);
+    trial_calls::retire(c, user, till, version, pool, table, notes, counts);
+}
+
+// Any rights, of any user.
+fn set_rights(
+    c: Capacities,
+    d: Dice,
+    pool: &[u8],
+    table: &mut [u32],
+    notes: &mut [u32],
+    counts: &mut [u64],
+) {
+    let rights = Rights {
+        list: d.pick(40, 2) == 1,
+        back_up: d.pick(41, 2) == 1,
+        restore: d.pick(42, 2) == 1,
+        retire: d.pick(43, 2) == 1,
+    };
+    let user = trial_choice::user_of(d);
+    let till = trial_choice::till_of(c, d);
+    trial_calls::set_rights(
+        c,
+        user,
+        d.pick(32, 10),
+        till,
+        rights,
+        pool,
+        table,
+        notes,
+        counts,
+    );
 }
 
 // The whole output, a byte too few, or just enough.
@@ -146,10 +182,22 @@ fn restore(
     let till = trial_choice::till_of(c, d);
     let version = version_of(d, till, notes);
     let room = room_of(d, trial_keeper::length(notes, till, version));
-    trial_calls::restore(c, till, version, room, pool, table, images, notes, counts);
+    let user = trial_choice::user_of(d);
+    trial_calls::restore(
+        c,
+        user,
+        till,
+        version,
+        room,
+        pool,
+        table,
+        images,
+        notes,
+        counts,
+    );
 }
 
-// A version comes, or some do, or one goes.
+// A version comes, or some do, or one goes, or a user gets other rights.
 fn change(
     c: Capacities,
     d: Dice,
@@ -164,9 +212,25 @@ fn change(
         back_up(c, d, pool, table, images, notes, counts);
     } else if kind < 13 {
         trial_closing::drawn::close(c, d, pool, table, images, notes, counts);
-    } else {
+    } else if kind < 21 {
         retire(c, d, pool, table, notes, counts);
+    } else {
+        set_rights(c, d, pool, table, notes, counts);
     }
+}
+
+fn list(c: Capacities, d: Dice, pool: &[u8], table: &[u32], notes: &[u32], counts: &mut [u64]) {
+    let user = trial_choice::user_of(d);
+    trial_calls::list(
+        c,
+        user,
+        trial_choice::till_of(c, d),
+        pool,
+        table,
+        notes,
+        counts,
+    );
+    trial_calls::tally_as(user, pool, table, counts);
 }
 
 fn change_and_check(
@@ -197,7 +261,7 @@ fn look(
     if kind < 30 {
         restore(c, d, pool, table, images, notes, counts);
     } else if kind < 31 {
-        trial_calls::list(c, trial_choice::till_of(c, d), pool, table, notes, counts);
+        list(c, d, pool, table, notes, counts);
     } else {
         trial_unsound::damaged(d, pool, table, counts);
     }

@@ -4,7 +4,7 @@ use keeper::closings::{Shop, LENGTH};
 use keeper::dense::Dense;
 use std::fmt;
 use std::rc::Rc;
-use terms::{Calls, Capacities, Collected, Sending, FINGERPRINT};
+use terms::{Calls, Capacities, Collected, Sending, FINGERPRINT, OWNER};
 use twin::{fingerprint_of, Twin};
 
 const SEED: u64 = 1;
@@ -77,7 +77,7 @@ impl Kept {
     }
 
     fn backup(&mut self, till: usize, day: usize, image: &[u8]) {
-        let [refusal, _] = Twin.backup_dated(&mut self.pool, &mut self.table, till as u32, day as u32, image);
+        let [refusal, _] = Twin.backup_dated(&mut self.pool, &mut self.table, OWNER, till as u32, day as u32, image);
         assert_eq!(refusal, 0, "a backup in making the {} store", self.name);
     }
 
@@ -85,7 +85,7 @@ impl Kept {
     fn messages(&self, image: &[u8]) -> (Vec<u8>, Sending) {
         let whole = Sending::whole(image, self.capacities.segment_bytes(), fingerprint_of);
         let mut marks = vec![0; whole.marks.len()];
-        assert_eq!(Twin.offer(&self.pool, &self.table, 0, &whole.fingerprints, &mut marks), [0]);
+        assert_eq!(Twin.offer(&self.pool, &self.table, OWNER, 0, &whole.fingerprints, &mut marks), [0]);
         let sending = whole.lacking(&marks);
         (whole.fingerprints, sending)
     }
@@ -96,7 +96,7 @@ impl Kept {
             let image = next(n % tills);
             self.backup(n % tills, 1 + n / tills, &image);
         }
-        assert_eq!(Twin.retire(&mut self.pool, &mut self.table, 0, 1)[0], 0);
+        assert_eq!(Twin.retire(&mut self.pool, &mut self.table, OWNER, 0, 1)[0], 0);
         self
     }
 
@@ -105,9 +105,9 @@ impl Kept {
         let Kept { name, capacities, .. } = *self;
         let mut kept = Kept { name, capacities, pool: self.pool.clone(), table: self.table.clone() };
         for till in 1..tills as u32 {
-            let [refusal, oldest, ..] = Twin.listing(&kept.pool, &kept.table, till);
+            let [refusal, oldest, ..] = Twin.listing(&kept.pool, &kept.table, OWNER, till);
             if oldest != 0 {
-                assert_eq!([refusal, Twin.retire(&mut kept.pool, &mut kept.table, till, oldest)[0]], [0; 2]);
+                assert_eq!([refusal, Twin.retire(&mut kept.pool, &mut kept.table, OWNER, till, oldest)[0]], [0; 2]);
             }
         }
         kept
@@ -138,7 +138,7 @@ struct Fill {
 
 impl fmt::Display for Kept {
     fn fmt(&self, f: &mut fmt::Formatter<'_>) -> fmt::Result {
-        let [_, cells, records, counts] = Twin.tally(&self.pool, &self.table);
+        let [_, cells, records, counts] = Twin.tally(&self.pool, &self.table, OWNER);
         write!(f, "{} has {cells} cells, {records} records and counts of {counts} in all", self.name)
     }
 }
@@ -192,7 +192,7 @@ fn add_closings(cases: &mut Vec<Case>, day: &[Vec<u8>], most: Option<f64>) {
     let store = Rc::new(cases[0].store.with_room(day.len()));
     let images: Vec<Vec<u8>> = day.iter().map(|image| image[..LENGTH].to_vec()).collect();
     let collected = Collected::of((0..).zip(&images).map(|(till, image)| (till, &image[..])));
-    let kept = Twin.backup_all(&mut store.pool.clone(), &mut store.table.clone(), collected.closing());
+    let kept = Twin.backup_all(&mut store.pool.clone(), &mut store.table.clone(), OWNER, collected.closing());
     assert!(kept[..=day.len()].iter().all(|&refusal| refusal == 0), "a closing of the {} store: {kept:?}", store.name);
     let both = [What::Closing { collected, most }, What::Singles { images }];
     cases.extend(both.map(|what| Case { store: store.clone(), what, passes: None }));
@@ -263,24 +263,24 @@ impl Case {
         match &self.what {
             What::TableLength => store.table_length(std::hint::black_box(capacities))[0],
             What::LayOut => store.lay_out(pool, table, capacities)[0],
-            What::Listing => store.listing(pool, table, 0)[0],
-            What::VersionOn { day } => store.version_on(pool, table, 0, *day)[0],
-            What::Tally => store.tally(pool, table)[0],
-            What::Restore { version, room } => store.restore(pool, table, 0, *version, &mut output[..*room])[0],
-            What::WriteStream { version } => store.write_stream(pool, table, 0, *version, output)[0],
-            What::Retire { till, version } => store.retire(pool, table, *till, *version)[0],
-            What::Backup { image } => store.backup(pool, table, 0, image)[0],
+            What::Listing => store.listing(pool, table, OWNER, 0)[0],
+            What::VersionOn { day } => store.version_on(pool, table, OWNER, 0, *day)[0],
+            What::Tally => store.tally(pool, table, OWNER)[0],
+            What::Restore { version, room } => store.restore(pool, table, OWNER, 0, *version, &mut output[..*room])[0],
+            What::WriteStream { version } => store.write_stream(pool, table, OWNER, 0, *version, output)[0],
+            What::Retire { till, version } => store.retire(pool, table, OWNER, *till, *version)[0],
+            What::Backup { image } => store.backup(pool, table, OWNER, 0, image)[0],
             What::Sha1 => {
                 std::hint::black_box(store.sha1(pool));
                 0
             }
             What::Offer { fingerprints } => {
-                store.offer(pool, table, 0, fingerprints, &mut output[..fingerprints.len() / FINGERPRINT])[0]
+                store.offer(pool, table, OWNER, 0, fingerprints, &mut output[..fingerprints.len() / FINGERPRINT])[0]
             }
-            What::Sent { sending } => store.backup_sent(pool, table, 0, sending.message())[0],
-            What::Closing { collected, .. } => store.backup_all(pool, table, collected.closing())[0],
+            What::Sent { sending } => store.backup_sent(pool, table, OWNER, 0, sending.message())[0],
+            What::Closing { collected, .. } => store.backup_all(pool, table, OWNER, collected.closing())[0],
             What::Singles { images } => {
-                let single = |(till, image): (u32, &Vec<u8>)| store.backup(pool, table, till, image)[0];
+                let single = |(till, image): (u32, &Vec<u8>)| store.backup(pool, table, OWNER, till, image)[0];
                 (0..).zip(images).map(single).fold(0, u32::max)
             }
         }

@@ -4,7 +4,7 @@
 use crate::space::{CLOSINGS, TILLS};
 use keeper::closings::{Shop, LENGTH};
 use keeper::flash::Flash;
-use lurdempos::{Capacities, Store, Tally, LONGEST_IMAGE};
+use lurdempos::{Capacities, Store, Tally, LONGEST_IMAGE, OWNER};
 use std::fmt::Write;
 use twin::Era;
 
@@ -59,7 +59,7 @@ impl Earlier {
     }
 
     fn tally(&self) -> Tally {
-        twin::tally(&self.pool, &self.table).expect("a sound store")
+        twin::tally(&self.pool, &self.table, OWNER).expect("a sound store")
     }
 }
 
@@ -71,9 +71,9 @@ pub fn report() -> String {
         for till in 0..TILLS {
             let image = tills.close(till);
             earlier.backup(till, &image);
-            store.backup(till as u32, &image).expect("there is room");
+            store.backup(OWNER, till as u32, &image).expect("there is room");
         }
-        days.push(Day { closings, before: earlier.tally(), now: store.tally().expect("a sound store") });
+        days.push(Day { closings, before: earlier.tally(), now: store.tally(OWNER).expect("a sound store") });
     }
     same_images(&earlier, &store);
     format!("{}\n{}", table(&days), next_closing(earlier, tills))
@@ -83,8 +83,11 @@ pub fn report() -> String {
 fn same_images(earlier: &Earlier, store: &Store) {
     let mut output = vec![0; LONGEST_IMAGE as usize];
     for (till, version) in (0..TILLS as u32).flat_map(|till| (1..=CLOSINGS as u32).map(move |n| (till, n))) {
-        twin::restore(&earlier.pool, &earlier.table, till, version, &mut output).expect("it is held");
-        assert!(store.image(till, version).is_ok_and(|image| image == output), "version {version} of till {till}");
+        twin::restore(&earlier.pool, &earlier.table, OWNER, till, version, &mut output).expect("it is held");
+        assert!(
+            store.image(OWNER, till, version).is_ok_and(|image| image == output),
+            "version {version} of till {till}"
+        );
     }
 }
 
@@ -108,12 +111,12 @@ fn table(days: &[Day]) -> String {
 /// What the next closing frees in a store from before, once every till has made room for it.
 fn next_closing(earlier: Earlier, mut tills: Tills) -> String {
     let mut store = Store::from_parts(earlier.pool, earlier.table).expect("a sound store");
-    (0..TILLS as u32).for_each(|till| assert!(store.retire(till, 1).is_ok(), "the oldest is held"));
-    let before = store.tally().expect("a sound store").cells;
+    (0..TILLS as u32).for_each(|till| assert!(store.retire(OWNER, till, 1).is_ok(), "the oldest is held"));
+    let before = store.tally(OWNER).expect("a sound store").cells;
     for till in 0..TILLS {
-        store.backup(till as u32, &tills.close(till)).expect("there is room");
+        store.backup(OWNER, till as u32, &tills.close(till)).expect("there is room");
     }
-    let after = store.tally().expect("a sound store").cells;
+    let after = store.tally(OWNER).expect("a sound store").cells;
     let words = format!("the next one takes it from {before} cells to {after}");
     format!("A store from before goes on after {CLOSINGS} closings: {words}.\n")
 }

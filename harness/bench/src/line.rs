@@ -3,7 +3,7 @@
 
 use crate::picture::{Chart, Curve};
 use keeper::closings::{Shop, LENGTH};
-use lurdempos::{sending, Capacities, Store};
+use lurdempos::{sending, Capacities, Store, OWNER};
 use std::fmt::Write;
 
 const CLOSINGS: usize = 64;
@@ -35,10 +35,10 @@ pub fn closings() -> Vec<Closing> {
     let mut next = |_| {
         let image = shop.close(0);
         let whole = sending(image, CAPACITIES);
-        let marks = store.offer(0, &whole.fingerprints).expect("fingerprints of an image");
+        let marks = store.offer(OWNER, 0, &whole.fingerprints).expect("fingerprints of an image");
         let lacking = whole.lacking(&marks);
-        let version = store.backup_sent(0, lacking.message()).expect("there is room");
-        assert!(store.image(0, version).is_ok_and(|kept| kept == image));
+        let version = store.backup_sent(OWNER, 0, lacking.message()).expect("there is room");
+        assert!(store.image(OWNER, 0, version).is_ok_and(|kept| kept == image));
         Closing { first: whole.fingerprints.len(), marks: marks.len(), second: lacking.to_bytes().len() }
     };
     (0..CLOSINGS).map(&mut next).collect()

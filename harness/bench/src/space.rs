@@ -2,7 +2,7 @@
 
 use crate::picture::{Chart, Curve};
 use keeper::closings::{Shop, LENGTH};
-use lurdempos::{Capacities, Store};
+use lurdempos::{Capacities, Store, OWNER};
 use std::fmt::Write;
 
 pub const TILLS: usize = 16;
@@ -38,15 +38,15 @@ pub fn days() -> Vec<Day> {
     for closings in 1..=CLOSINGS {
         for till in 0..TILLS {
             let image = shop.close(till).to_vec();
-            let version = store.backup(till as u32, &image).expect("there is room");
+            let version = store.backup(OWNER, till as u32, &image).expect("there is room");
             images.push((till as u32, version, image));
         }
-        let tally = store.tally().expect("a sound store");
+        let tally = store.tally(OWNER).expect("a sound store");
         let bytes = images.iter().map(|(_, _, image)| image.len()).sum();
         days.push(Day { closings, images: bytes, cells: tally.cells as usize, records: tally.records as usize });
     }
     for (till, version, image) in images {
-        assert!(store.image(till, version).is_ok_and(|restored| restored == image));
+        assert!(store.image(OWNER, till, version).is_ok_and(|restored| restored == image));
     }
     days
 }

@@ -5,7 +5,7 @@ use lurdempos::Proved;
 use std::fmt;
 use std::hint::black_box;
 use std::time::{Duration, Instant};
-use terms::{Calls, LONGEST_IMAGE, LONGEST_STREAM};
+use terms::{Calls, LONGEST_IMAGE, LONGEST_STREAM, OWNER};
 use twin::Twin;
 
 /// Most that the proved store may take of the twin's time, and a stream of a restore's and a pass over the image.
@@ -89,7 +89,7 @@ fn time(case: Case, rounds: usize) -> Line {
 fn restore_and_pass(version: u32, work: &mut Work) -> Duration {
     let output = &mut work.output[..LONGEST_IMAGE as usize];
     let start = Instant::now();
-    let [_, length, _] = Proved.restore(&work.pool, &work.table, 0, version, output);
+    let [_, length, _] = Proved.restore(&work.pool, &work.table, OWNER, 0, version, output);
     black_box(black_box(&output[..length as usize]).iter().map(|&byte| byte as u64).sum::<u64>());
     start.elapsed()
 }

@@ -5,11 +5,11 @@ use crate::days::{any_day, next_day};
 use crate::images::Images;
 use crate::messages::Messages;
 use crate::whole::Till;
-use crate::{Course, Keeper, Random};
+use crate::{staff, Course, Keeper, Random};
 use std::fmt;
 use terms::{
-    Capacities, Collected, Sending, BLOCK, BLOCK_BYTES, LAST_NUMBER, LONGEST_STREAM, MOST_IMAGES, SEGMENT,
-    SEGMENT_BLOCKS,
+    Capacities, Collected, Right, Rights, Sending, BLOCK, BLOCK_BYTES, LAST_NUMBER, LONGEST_STREAM, MOST_IMAGES, OWNER,
+    SEGMENT, SEGMENT_BLOCKS,
 };
 
 #[derive(Clone)]
@@ -66,6 +66,12 @@ pub enum Call {
     },
     /// Images of several tills at closing.
     All(Collected),
+    /// What the subject may do on a till from now on.
+    SetRights {
+        subject: u32,
+        till: u32,
+        rights: Rights,
+    },
 }
 
 impl fmt::Debug for Call {
@@ -91,6 +97,7 @@ impl fmt::Debug for Call {
                 let (prints, segments) = (fingerprints.len(), segments.len());
                 write!(f, "sent till {till}, length {length}, {prints} bytes, marks {marks:?}, {segments} bytes")
             }
+            Call::SetRights { subject, till, rights } => write!(f, "till {till}, user {subject} gets {rights:?}"),
             Call::All(Collected { tills, lengths, images }) => {
                 write!(f, "closing of tills {tills:?}, lengths {lengths:?}, {} bytes", images.len())
             }
@@ -104,6 +111,20 @@ impl Call {
         match self {
             Call::Backup { till, image } | Call::Dated { till, image, .. } => Call::Earlier { till, image },
             other => other,
+        }
+    }
+
+    /// The till that it names and the right that it needs there; none of a closing, whose images have each its own, and
+    /// of what is the owner's or needs no store.
+    pub fn needs(&self) -> Option<(u32, Right)> {
+        match *self {
+            Call::Listing { till } | Call::VersionOn { till, .. } => Some((till, Right::List)),
+            Call::Backup { till, .. } | Call::Dated { till, .. } => Some((till, Right::BackUp)),
+            Call::Offer { till, .. } | Call::Sent { till, .. } => Some((till, Right::BackUp)),
+            Call::Restore { till, .. } | Call::WriteStream { till, .. } => Some((till, Right::Restore)),
+            Call::Retire { till, .. } => Some((till, Right::Retire)),
+            Call::TableLength(_) | Call::LayOut(_) | Call::Earlier { .. } => None,
+            Call::Tally | Call::All(_) | Call::SetRights { .. } => None,
         }
     }
 }
@@ -159,14 +180,16 @@ pub struct List {
     habit: Habit,
     /// Whether it has backups with days.
     has_days: bool,
+    /// Whether users other than the owner make calls.
+    has_staff: bool,
     images: Images,
 }
 
 impl List {
     pub fn new(random: &mut Random, capacities: Capacities, style: Style) -> List {
         let habit = *random.pick(&[Habit::Oldest, Habit::Newest, Habit::AnyHeld, Habit::AnyHeld]);
-        let has_days = random.percent(60);
-        List { capacities, style, habit, has_days, images: Images::new(random, capacities, style.kinds) }
+        let (has_days, has_staff) = (random.percent(60), random.percent(60));
+        List { capacities, style, habit, has_days, has_staff, images: Images::new(random, capacities, style.kinds) }
     }
 
     /// The same with backups that have days.
@@ -174,7 +197,32 @@ impl List {
         List { has_days: true, ..self }
     }
 
-    pub fn next(&self, random: &mut Random, course: &Course) -> Call {
+    /// The same with calls of every user.
+    pub fn with_staff(self) -> List {
+        List { has_staff: true, ..self }
+    }
+
+    /// A call, and who makes it.
+    pub fn next(&self, random: &mut Random, course: &Course) -> (u32, Call) {
+        let call = self.call(random, course);
+        (self.user(random, course, &call), call)
+    }
+
+    /// A closing, and who makes it.
+    pub fn closing_by(&self, random: &mut Random, course: &Course) -> (u32, Call) {
+        let call = self.closing(random, course);
+        (self.user(random, course, &call), call)
+    }
+
+    fn user(&self, random: &mut Random, course: &Course, call: &Call) -> u32 {
+        if self.has_staff {
+            staff::user_for(random, course.keeper(), call)
+        } else {
+            OWNER
+        }
+    }
+
+    fn call(&self, random: &mut Random, course: &Course) -> Call {
         let keeper = course.keeper();
         let number = random.below(self.capacities.tills as usize) as u32;
         let till = &keeper.tills()[number as usize];
@@ -196,6 +244,7 @@ impl List {
             }
             33..=52 => self.sent(random, course, till_number, till, wrong),
             53..=57 => self.closing(random, course),
+            58..=62 if self.has_staff => staff::change(random, till_number),
             _ => self.backup(random, keeper, till_number, till, wrong),
         }
     }

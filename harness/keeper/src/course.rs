@@ -9,7 +9,9 @@ use crate::stock::Stock;
 use crate::words::Words;
 use crate::{Call, Keeper};
 use std::collections::BTreeSet;
-use terms::{fingerprint, Backup, Calls, Capacities, Collected, Fingerprint, Refusal, CLOSING_NUMBERS, MOST_IMAGES};
+use terms::{
+    fingerprint, Backup, Calls, Capacities, Collected, Fingerprint, Refusal, CLOSING_NUMBERS, MOST_IMAGES, OWNER, USERS,
+};
 
 /// What outputs are filled with before they are lent.
 const UNTOUCHED: u8 = 0xa5;
@@ -27,6 +29,8 @@ pub struct Course {
     /// Who makes the backups from before blank blocks were known, in the buffers of every store.
     earlier: Option<Backup>,
     keeper: Keeper,
+    /// Who makes the call at hand.
+    user: u32,
     /// Pool and table as the last accepted call left them.
     pool: Vec<u8>,
     table: Vec<u32>,
@@ -39,10 +43,10 @@ pub struct Course {
 }
 
 /// An answer's numbers, the refusal first, with zeros behind its own: a closing has the most.
-type Numbers = [u32; CLOSING_NUMBERS];
+pub type Numbers = [u32; CLOSING_NUMBERS];
 
 /// An answer as numbers, and the output that was lent.
-type Answer = (Numbers, Vec<u8>);
+pub type Answer = (Numbers, Vec<u8>);
 
 impl Course {
     /// Lays the same store out for each.
@@ -63,8 +67,19 @@ impl Course {
     fn start(capacities: Capacities, lanes: Vec<Lane>, keeper: Keeper) -> Course {
         let (pool, table) = (lanes[0].pool.clone(), lanes[0].table.clone());
         let (met, events) = (BTreeSet::new(), Events::default());
-        let mut course =
-            Course { capacities, lanes, earlier: None, keeper, pool, table, met, made: 0, accepted: 0, events };
+        let mut course = Course {
+            capacities,
+            lanes,
+            earlier: None,
+            keeper,
+            user: OWNER,
+            pool,
+            table,
+            met,
+            made: 0,
+            accepted: 0,
+            events,
+        };
         course.lanes_agree(&Call::LayOut(capacities));
         course
     }
@@ -92,16 +107,29 @@ impl Course {
         Stock::of(&self.pool, &self.table, &|segment: &[u8]| self.print(segment))
     }
 
-    /// Makes one call of all stores and compares. Answers the refusal's number and those of any call but a closing.
+    /// Makes one call of all stores as the owner and compares. Answers the refusal's number and those of any call but a
+    /// closing.
     pub fn call(&mut self, call: &Call) -> [u32; 4] {
-        let [refusal, first, second, third, ..] = self.numbers(call);
+        self.call_by(OWNER, call)
+    }
+
+    /// The same as any user, of whom some calls know nothing.
+    pub fn call_by(&mut self, user: u32, call: &Call) -> [u32; 4] {
+        let [refusal, first, second, third, ..] = self.answered(user, call).0;
         [refusal, first, second, third]
     }
 
-    /// The same with all numbers, also of a closing.
+    /// All numbers of the owner's call, also of a closing.
     pub fn numbers(&mut self, call: &Call) -> Numbers {
-        let expected = self.expected(call);
-        let mut answers: Vec<Answer> = self.lanes.iter_mut().map(|lane| answer_by(self.earlier, lane, call)).collect();
+        self.answered(OWNER, call).0
+    }
+
+    /// All numbers, and the output that was lent.
+    pub fn answered(&mut self, user: u32, call: &Call) -> Answer {
+        self.user = user;
+        let expected = self.expected(user, call);
+        let earlier = self.earlier;
+        let mut answers: Vec<Answer> = self.lanes.iter_mut().map(|lane| answer_by(earlier, lane, user, call)).collect();
         let (first, output) = answers.swap_remove(0);
         for (other, other_output) in &answers {
             assert_eq!(first, *other, "{}: answers differ", self.place(call));
@@ -126,7 +154,7 @@ impl Course {
         }
         self.lanes_agree(call);
         self.judge(call, &first, &output, expected);
-        first
+        (first, output)
     }
 
     /// The image that a message makes, or one with a day, backed up without one on a copy of the store before it: the
@@ -134,7 +162,7 @@ impl Course {
     fn as_a_full_backup(&self, call: &Call, till: u32, day: Option<u32>, image: &[u8], answer: Numbers) {
         for lane in &self.lanes {
             let (mut pool, mut table) = (self.pool.clone(), self.table.clone());
-            let full = lane.store.backup(&mut pool, &mut table, till, image);
+            let full = lane.store.backup(&mut pool, &mut table, self.user, till, image);
             assert_eq!(full, answer[..2], "{}: another answer than a full backup's", self.place(call));
             if let (0, Some(day)) = (full[0], day) {
                 let at = Words::new(&table, self.capacities).newest_day_at(till as usize);
@@ -153,7 +181,7 @@ impl Course {
             let (mut pool, mut table) = (self.pool.clone(), self.table.clone());
             for (i, (till, image)) in each(collected).into_iter().flatten().enumerate() {
                 let before = table.clone();
-                let single = lane.store.backup(&mut pool, &mut table, till, image);
+                let single = lane.store.backup(&mut pool, &mut table, self.user, till, image);
                 assert_eq!(single, [refusals[i], versions[i]], "{}: image {i} by itself", self.place(call));
                 if n == 0 && single[0] == 0 {
                     events += Events::between(&before, &table, self.capacities);
@@ -192,7 +220,7 @@ impl Course {
     }
 
     fn place(&self, call: &Call) -> String {
-        format!("call {} on {:?}, {call:?}", self.made, self.capacities.to_array())
+        format!("call {} on {:?}, user {}, {call:?}", self.made, self.capacities.to_array(), self.user)
     }
 
     /// The answer and output are what the keeper knows, which then follows the call.
@@ -224,7 +252,7 @@ impl Course {
                 assert_eq!(answer[1..4], [listing.oldest, listing.newest, listing.last], "{}", self.place(call));
             }
             Call::VersionOn { till, day } => {
-                assert_eq!(Ok(answer[1]), self.version_on(*till, *day), "{}", self.place(call));
+                assert_eq!(Ok(answer[1]), self.version_on(self.user, *till, *day), "{}", self.place(call));
             }
             Call::Tally => {
                 let cells = self.pool.chunks(self.capacities.block_bytes as usize);
@@ -233,6 +261,11 @@ impl Course {
             }
             Call::Offer { .. } => assert!(output == written, "{}: other marks", self.place(call)),
             Call::All(collected) => self.judge_closing(call, collected, answer),
+            Call::SetRights { subject, till, rights } => {
+                self.keeper.set_rights(*till, *subject, *rights);
+                let words = Words::new(&self.table, self.capacities);
+                assert!(words.has_rights_of(&self.keeper), "{}: other rights", self.place(call));
+            }
             Call::TableLength(_) | Call::LayOut(_) => {}
         }
     }
@@ -250,7 +283,7 @@ impl Course {
         let (refusals, versions) = answer[1..].split_at(MOST_IMAGES);
         let images = each(collected).expect("the lists fit");
         for (n, &(till, image)) in images.iter().enumerate() {
-            self.judge_refusal(call, refusals[n], self.backup_refusal(till, image.len()).as_ref(), true);
+            self.judge_refusal(call, refusals[n], self.backup_refusal(self.user, till, image.len()).as_ref(), true);
             self.met.insert((IN_A_CLOSING, refusals[n]));
             if refusals[n] == 0 {
                 self.keeper.file(till, None, image, true);
@@ -268,7 +301,7 @@ impl Course {
     fn restored(&self, call: &Call, till: u32, version: u32) {
         for Lane { store, pool, table } in &self.lanes {
             let mut output = vec![UNTOUCHED; self.capacities.image_bytes()];
-            let answer = store.restore(pool, table, till, version, &mut output);
+            let answer = store.restore(pool, table, OWNER, till, version, &mut output);
             assert_eq!(answer[0], 0, "{}: restore of till {till}, version {version}", self.place(call));
             self.judge_restore(call, till, version, &answer, &output);
         }
@@ -301,7 +334,7 @@ impl Course {
 
 /// Whether an accepted call changes the store.
 fn changes(call: &Call) -> bool {
-    files(call) || matches!(call, Call::Retire { .. } | Call::All(_))
+    files(call) || matches!(call, Call::Retire { .. } | Call::SetRights { .. } | Call::All(_))
 }
 
 /// Whether it files one image.
@@ -321,12 +354,15 @@ fn lane(store: Box<dyn Calls>, capacities: Capacities) -> Lane {
 fn keeper_of(store: &dyn Calls, pool: &[u8], table: &[u32], capacities: Capacities) -> Keeper {
     let mut keeper = Keeper::new(capacities.tills);
     for till in 0..capacities.tills {
-        let [0, .., last] = store.listing(pool, table, till) else { panic!("an unsound store") };
+        let [0, .., last] = store.listing(pool, table, OWNER, till) else { panic!("an unsound store") };
         keeper.begin(till, last);
         let words = Words::new(table, capacities);
+        (1..USERS).for_each(|user| keeper.set_rights(till, user, words.rights(till as usize, user)));
         for (version, day) in words.numbers(till as usize).into_iter().zip(words.days(till as usize)) {
             let mut image = vec![0; capacities.image_bytes()];
-            let [0, length, _] = store.restore(pool, table, till, version, &mut image) else { panic!("not restored") };
+            let [0, length, _] = store.restore(pool, table, OWNER, till, version, &mut image) else {
+                panic!("not restored")
+            };
             keeper.find(till, version, day, &image[..length as usize]);
         }
     }
@@ -334,41 +370,44 @@ fn keeper_of(store: &dyn Calls, pool: &[u8], table: &[u32], capacities: Capaciti
 }
 
 /// Makes one call of one store.
-pub fn answer(lane: &mut Lane, call: &Call) -> Answer {
-    answer_by(None, lane, call)
+pub fn answer(lane: &mut Lane, user: u32, call: &Call) -> Answer {
+    answer_by(None, lane, user, call)
 }
 
 /// The same with somebody who makes the earlier backups.
-fn answer_by(earlier: Option<Backup>, lane: &mut Lane, call: &Call) -> Answer {
+fn answer_by(earlier: Option<Backup>, lane: &mut Lane, user: u32, call: &Call) -> Answer {
     let Lane { store, pool, table } = lane;
     let mut output = Vec::new();
     let numbers = match call {
         Call::TableLength(capacities) => store.table_length(*capacities).to_vec(),
         Call::LayOut(capacities) => store.lay_out(pool, table, *capacities).to_vec(),
-        Call::Backup { till, image } => store.backup(pool, table, *till, image).to_vec(),
-        Call::Dated { till, day, image } => store.backup_dated(pool, table, *till, *day, image).to_vec(),
+        Call::Backup { till, image } => store.backup(pool, table, user, *till, image).to_vec(),
+        Call::Dated { till, day, image } => store.backup_dated(pool, table, user, *till, *day, image).to_vec(),
         Call::Earlier { till, image } => {
             let earlier = earlier.expect("somebody makes the earlier backups");
             earlier(pool, table, *till, image).to_vec()
         }
         Call::Restore { till, version, room } => {
             output.resize(*room, UNTOUCHED);
-            store.restore(pool, table, *till, *version, &mut output).to_vec()
+            store.restore(pool, table, user, *till, *version, &mut output).to_vec()
         }
         Call::WriteStream { till, version, room } => {
             output.resize(*room, UNTOUCHED);
-            store.write_stream(pool, table, *till, *version, &mut output).to_vec()
+            store.write_stream(pool, table, user, *till, *version, &mut output).to_vec()
         }
         Call::Offer { till, fingerprints, room } => {
             output.resize(*room, UNTOUCHED);
-            store.offer(pool, table, *till, fingerprints, &mut output).to_vec()
+            store.offer(pool, table, user, *till, fingerprints, &mut output).to_vec()
         }
-        Call::Sent { till, sending } => store.backup_sent(pool, table, *till, sending.message()).to_vec(),
-        Call::Retire { till, version } => store.retire(pool, table, *till, *version).to_vec(),
-        Call::Listing { till } => store.listing(pool, table, *till).to_vec(),
-        Call::VersionOn { till, day } => store.version_on(pool, table, *till, *day).to_vec(),
-        Call::Tally => store.tally(pool, table).to_vec(),
-        Call::All(collected) => store.backup_all(pool, table, collected.closing()).to_vec(),
+        Call::Sent { till, sending } => store.backup_sent(pool, table, user, *till, sending.message()).to_vec(),
+        Call::Retire { till, version } => store.retire(pool, table, user, *till, *version).to_vec(),
+        Call::Listing { till } => store.listing(pool, table, user, *till).to_vec(),
+        Call::VersionOn { till, day } => store.version_on(pool, table, user, *till, *day).to_vec(),
+        Call::SetRights { subject, till, rights } => {
+            store.set_rights(pool, table, user, *subject, *till, *rights).to_vec()
+        }
+        Call::Tally => store.tally(pool, table, user).to_vec(),
+        Call::All(collected) => store.backup_all(pool, table, user, collected.closing()).to_vec(),
     };
     (std::array::from_fn(|i| numbers.get(i).copied().unwrap_or(0)), output)
 }
@@ -389,6 +428,7 @@ fn letter(call: &Call) -> char {
         Call::Listing { .. } => 'i',
         Call::VersionOn { .. } => 'v',
         Call::Tally => 't',
+        Call::SetRights { .. } => 'k',
         Call::WriteStream { .. } => 's',
         Call::Offer { .. } => 'f',
         Call::Sent { .. } => 'm',

@@ -1,7 +1,7 @@
 //! Versions by their day, each case worked out by hand from the pages.
 
 use crate::trial::{letters, Trial};
-use terms::{fingerprint, Backup, Calls, Capacities, Collected, Sending};
+use terms::{fingerprint, Backup, Calls, Capacities, Collected, Sending, OWNER};
 
 /// Lookups by day on till 0, each with what it is answered.
 fn found(one: &Trial, lookups: &[(u32, [u32; 2])]) {
@@ -37,14 +37,14 @@ pub fn by_the_day(store: &dyn Calls) {
 /// A second message of which all segments follow, to a till.
 fn send(store: &dyn Calls, one: &mut Trial, till: u32, text: &str) -> [u32; 2] {
     let sending = Sending::whole(&letters(text, 64), 512, |segment| fingerprint(store.sha1(segment)));
-    store.backup_sent(&mut one.pool, &mut one.table, till, sending.message())
+    store.backup_sent(&mut one.pool, &mut one.table, OWNER, till, sending.message())
 }
 
 /// A closing of these tills, an image of a letter for each: the versions.
 fn close(store: &dyn Calls, one: &mut Trial, tills: &[u32]) -> Vec<u32> {
     let image = [b'c'; 64];
     let collected = Collected::of(tills.iter().map(|&till| (till, &image[..])));
-    let answer = store.backup_all(&mut one.pool, &mut one.table, collected.closing());
+    let answer = store.backup_all(&mut one.pool, &mut one.table, OWNER, collected.closing());
     assert_eq!(answer[..=tills.len()], vec![0; 1 + tills.len()]);
     answer[17..][..tills.len()].to_vec()
 }
@@ -59,7 +59,7 @@ pub fn without_a_day(store: &dyn Calls) {
     assert_eq!(one.days(), [0, 0, 0, 7, 7, 7, 7, 7]);
     found(&one, &[(0, [0, 3]), (6, [0, 3]), (7, [0, 8]), (8, [0, 8])]);
     // Till 1 has a day of its own.
-    assert_eq!(store.version_on(&one.pool, &one.table, 1, 0), [0, 1]);
+    assert_eq!(store.version_on(&one.pool, &one.table, OWNER, 1, 0), [0, 1]);
     // With nothing held there is no day to take, whatever days there were.
     (1..=8).for_each(|version| assert_eq!(one.retire(version)[0], 0));
     found(&one, &[(0, [29, 0]), (7, [29, 0]), (u32::MAX, [29, 0])]);
@@ -130,9 +130,10 @@ pub fn days_that_fall(store: &dyn Calls) {
 pub fn tills_apart(store: &dyn Calls) {
     let mut one = Trial::new(store, Capacities::new(2, 4, 16, 8, 32));
     let image = letters("A", 64);
-    let dated = |one: &mut Trial, till, day| store.backup_dated(&mut one.pool, &mut one.table, till, day, &image);
+    let dated =
+        |one: &mut Trial, till, day| store.backup_dated(&mut one.pool, &mut one.table, OWNER, till, day, &image);
     assert_eq!((dated(&mut one, 0, 9), dated(&mut one, 1, 2), dated(&mut one, 1, 1)), ([0, 1], [0, 1], [28, 0]));
     assert_eq!((dated(&mut one, 0, 8), dated(&mut one, 1, 8), dated(&mut one, 2, 8)), ([28, 0], [0, 2], [3, 0]));
-    let on = |till, day| store.version_on(&one.pool, &one.table, till, day);
+    let on = |till, day| store.version_on(&one.pool, &one.table, OWNER, till, day);
     assert_eq!((on(0, 8), on(1, 8), on(1, 7), on(1, 1), on(2, 8)), ([29, 0], [0, 2], [0, 1], [29, 0], [3, 0]));
 }

@@ -15,13 +15,14 @@ fn is_blank(block: &[u8]) -> bool {
     block.iter().all(|&byte| byte == 255)
 }
 
-/// The slots have the keeper's numbers and days. The occupied cells, the cells that are not zero and the cells that direct
+/// The slots have the keeper's numbers and days, the tills its rights. The occupied cells, the cells that are not zero and the cells that direct
 /// pointers lead to are the same ones. The blocks of an image are the store's.
 pub fn inspect(pool: &[u8], table: &[u32], keeper: &Keeper) {
     let capacities = Capacities::of_table(table).expect("a sound store");
     let (words, bytes) = (Words::new(table, capacities), capacities.block_bytes as usize);
     let filled: BTreeSet<usize> =
         pool.chunks(bytes).enumerate().filter(|(_, cell)| !is_null(cell)).map(|(n, _)| n).collect();
+    assert!(words.has_rights_of(keeper), "rights");
     let mut led_to = BTreeSet::new();
     for (n, till) in keeper.tills().iter().enumerate() {
         assert!(words.numbers(n).iter().eq(till.held.keys()), "numbers of till {n}");

@@ -1,6 +1,7 @@
 //! What the stores are tried with: the page's keeper of whole images, random images and calls to feed it, and the
 //! course that puts one list of calls to several stores and the keeper and compares all they answer and leave.
 
+pub mod apart;
 pub mod blanks;
 pub mod calls;
 pub mod closings;
@@ -16,12 +17,14 @@ mod expected;
 pub mod flash;
 pub mod images;
 pub mod inspect;
+pub mod keys;
 pub mod lookups;
 pub mod messages;
 pub mod retires;
 pub mod sent;
 pub mod settings;
 pub mod sketch;
+pub mod staff;
 pub mod stock;
 pub mod together;
 pub mod trial;

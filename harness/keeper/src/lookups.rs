@@ -1,7 +1,7 @@
 //! Which versions were there once, each case worked out by hand from the pages.
 
 use crate::trial::Trial;
-use terms::{Calls, Capacities};
+use terms::{Calls, Capacities, OWNER};
 
 /// A store with till 0, whose versions come and go, and till 1, which never has one.
 struct Shop<'a> {
@@ -15,11 +15,11 @@ impl Shop<'_> {
         let Trial { pool, table, .. } = &mut self.trial;
         for &version in numbers {
             for room in [0, 1_024] {
-                let restored = self.store.restore(pool, table, till, version, &mut vec![0; room]);
-                let written = self.store.write_stream(pool, table, till, version, &mut vec![0; room]);
+                let restored = self.store.restore(pool, table, OWNER, till, version, &mut vec![0; room]);
+                let written = self.store.write_stream(pool, table, OWNER, till, version, &mut vec![0; room]);
                 assert_eq!((restored, written), ([refusal, 0, 0], [refusal, 0]), "till {till}, version {version}");
             }
-            let retired = self.store.retire(pool, table, till, version);
+            let retired = self.store.retire(pool, table, OWNER, till, version);
             assert_eq!(retired, [refusal, 0], "till {till}, version {version}");
         }
     }

@@ -3,7 +3,7 @@
 
 use crate::collision;
 use crate::trial::{letters, Trial};
-use terms::{fingerprint, Backup, Calls, Capacities, Sending};
+use terms::{fingerprint, Backup, Calls, Capacities, Sending, OWNER};
 
 /// Two tills, images of four segments.
 const CAPACITIES: Capacities = Capacities::new(2, 9, 32, 8, 64);
@@ -66,7 +66,7 @@ impl<'a> Line<'a> {
     fn marks(&self, image: &[u8]) -> Vec<u8> {
         let fingerprints = self.whole(image).fingerprints;
         let mut marks = vec![9; fingerprints.len() / 20];
-        assert_eq!(self.store.offer(&self.trial.pool, &self.trial.table, 1, &fingerprints, &mut marks), [0]);
+        assert_eq!(self.store.offer(&self.trial.pool, &self.trial.table, OWNER, 1, &fingerprints, &mut marks), [0]);
         marks
     }
 
@@ -78,7 +78,7 @@ impl<'a> Line<'a> {
     fn send(&mut self, sending: &Sending) -> [u32; 2] {
         let Trial { pool, table, .. } = &mut self.trial;
         let before = (pool.clone(), table.clone());
-        let answer = self.store.backup_sent(pool, table, 1, sending.message());
+        let answer = self.store.backup_sent(pool, table, OWNER, 1, sending.message());
         assert!(answer[0] == 0 || (answer[1] == 0 && before == (pool.clone(), table.clone())), "altered");
         answer
     }
@@ -92,7 +92,8 @@ impl<'a> Line<'a> {
     /// Till 1's version.
     fn image(&self, version: u32) -> Vec<u8> {
         let mut image = vec![0; CAPACITIES.image_bytes()];
-        let [refusal, length, _] = self.store.restore(&self.trial.pool, &self.trial.table, 1, version, &mut image);
+        let [refusal, length, _] =
+            self.store.restore(&self.trial.pool, &self.trial.table, OWNER, 1, version, &mut image);
         assert_eq!(refusal, 0);
         image.truncate(length as usize);
         image
@@ -162,7 +163,7 @@ pub fn nineteen(store: &dyn Calls) {
         let image = [&image[..], &vec![0; length - 1_024]].concat();
         let (sent, had) = (one.with(&image, &[0, 0, 1]), one.with(&image, &[0, 0, 0]));
         assert_eq!((one.send(&sent)[0], one.send(&had)[0]), (0, 0), "{length}");
-        let last = one.store.listing(&one.trial.pool, &one.trial.table, 1)[2];
+        let last = one.store.listing(&one.trial.pool, &one.trial.table, OWNER, 1)[2];
         assert!(one.image(last) == image && one.image(last - 1) == image, "{length}");
     }
 }
@@ -229,7 +230,7 @@ pub fn two_with_one_fingerprint(store: &dyn Calls) {
     assert_eq!(sent(&mut one, &[y, x, x], &[0, 1, 0]), image(&[x, x, x]));
     assert_eq!(sent(&mut one, &[x, y, x], &[0, 1, 0]), image(&[x, y, y]));
     // A full backup goes by bytes: y, of which record 1 has lost nothing, is not x.
-    assert_eq!(one.store.backup(&mut one.trial.pool, &mut one.trial.table, 1, &image(&[y, y])), [0, 5]);
+    assert_eq!(one.store.backup(&mut one.trial.pool, &mut one.trial.table, OWNER, 1, &image(&[y, y])), [0, 5]);
     assert_eq!(one.image(5), image(&[y, y]));
 }
 
@@ -246,15 +247,15 @@ pub fn every_size(store: &dyn Calls, bytes: u32, blocks: u32) {
     let whole = Sending::whole(&image, segment, print);
     for expected in [[0, 1, 0, 0], [1, 1, 1, 1]] {
         let mut marks = [9; 4];
-        assert_eq!(store.offer(&one.pool, &one.table, 0, &whole.fingerprints, &mut marks), [0]);
+        assert_eq!(store.offer(&one.pool, &one.table, OWNER, 0, &whole.fingerprints, &mut marks), [0]);
         assert_eq!(marks, expected, "{bytes} x {blocks}");
         let sending = whole.lacking(&marks);
         assert_eq!(sending.segments.len(), if expected[0] == 0 { 2 * segment } else { 0 });
-        assert_eq!(store.backup_sent(&mut one.pool, &mut one.table, 0, sending.message())[0], 0);
+        assert_eq!(store.backup_sent(&mut one.pool, &mut one.table, OWNER, 0, sending.message())[0], 0);
     }
     for version in [1, 2] {
         let mut output = vec![0; image.len()];
-        assert_eq!(store.restore(&one.pool, &one.table, 0, version, &mut output)[..2], [0, image.len() as u32]);
+        assert_eq!(store.restore(&one.pool, &one.table, OWNER, 0, version, &mut output)[..2], [0, image.len() as u32]);
         assert!(output == image, "{bytes} x {blocks}");
     }
 }

@@ -1,6 +1,6 @@
 //! Any sound stores, most of them such as no list of calls leads to: records of equal content, cells in any order,
 //! direct pointers where indirect ones would do, cells of 255s beside blank positions, numbers that begin anywhere and
-//! have gaps, days that fall.
+//! have gaps, days that fall, any rights.
 
 use crate::Random;
 use terms::{Capacities, LAST_NUMBER};
@@ -33,6 +33,8 @@ struct Version {
 /// A till's versions stand newest first while they are made.
 struct Till {
     last: u32,
+    /// Four bits for each user but the owner.
+    rights: u32,
     versions: Vec<Version>,
 }
 
@@ -93,7 +95,7 @@ impl Sketch {
             versions.push(Version { day: days.pop().unwrap_or(0), ..version });
             above = number;
         }
-        Till { last, versions }
+        Till { last, rights: draw_rights(random), versions }
     }
 
     fn draw_version(&self, random: &mut Random, number: u32, newer: Option<&Version>) -> Version {
@@ -191,7 +193,7 @@ impl Sketch {
         let mut words = self.capacities.header().to_vec();
         for till in &self.tills {
             let held = till.versions.len();
-            words.extend([till.last, held as u32, 0, 0]);
+            words.extend([till.last, held as u32, till.rights, 0]);
             for version in till.versions.iter().rev() {
                 words.extend([version.number, version.length as u32, version.day]);
                 words.extend(version.pointers.iter().map(pointer_word));
@@ -202,6 +204,12 @@ impl Sketch {
         self.records.iter().for_each(|record| words.extend(record_words(record)));
         words
     }
+}
+
+/// A till's rights: none, as before there were users; all; or any.
+fn draw_rights(random: &mut Random) -> u32 {
+    let any = random.number() as u32;
+    *random.pick(&[0, u32::MAX, any, any]) & 0x0fff_ffff
 }
 
 /// A till's days, the oldest version's first: all 0, as before there were days; rising, as calls leave them; or any.

@@ -1,7 +1,7 @@
 //! All tills at closing, several images in one call, each case worked out by hand from the pages.
 
 use crate::trial::{letters, Trial};
-use terms::{Calls, Capacities, Closing, Collected, MOST_IMAGES};
+use terms::{Calls, Capacities, Closing, Collected, MOST_IMAGES, OWNER};
 
 /// A box, and the tills that close.
 struct Shop<'a> {
@@ -20,7 +20,7 @@ impl<'a> Shop<'a> {
     /// A closing that is accepted as a whole: what each image was answered. Places past the last one are 0.
     fn close(&mut self, images: &[(u32, Vec<u8>)]) -> Answers {
         let collected = Collected::of(images.iter().map(|(till, image)| (*till, &image[..])));
-        let answer = self.store.backup_all(&mut self.trial.pool, &mut self.trial.table, collected.closing());
+        let answer = self.store.backup_all(&mut self.trial.pool, &mut self.trial.table, OWNER, collected.closing());
         let (refusals, versions) = answer[1..].split_at(MOST_IMAGES);
         let mut each: Answers = refusals.iter().zip(versions).map(|(&refusal, &version)| [refusal, version]).collect();
         let past = each.split_off(images.len());
@@ -38,7 +38,7 @@ impl<'a> Shop<'a> {
     fn refused(&mut self, closing: Closing) -> u32 {
         let Trial { pool, table, .. } = &mut self.trial;
         let before = (pool.clone(), table.clone());
-        let answer = self.store.backup_all(pool, table, closing);
+        let answer = self.store.backup_all(pool, table, OWNER, closing);
         assert!(answer[1..].iter().all(|&field| field == 0), "{answer:?}");
         assert!(before == (pool.clone(), table.clone()), "altered though refused with {}", answer[0]);
         answer[0]
@@ -48,7 +48,7 @@ impl<'a> Shop<'a> {
     fn shown(&self, till: u32, version: u32) -> (String, u32) {
         let mut image = vec![0; 1_024];
         let Trial { pool, table, .. } = &self.trial;
-        let [refusal, length, hops] = self.store.restore(pool, table, till, version, &mut image);
+        let [refusal, length, hops] = self.store.restore(pool, table, OWNER, till, version, &mut image);
         assert_eq!(refusal, 0, "till {till}, version {version}");
         (image[..length as usize].chunks(64).map(|block| block[0] as char).collect(), hops)
     }

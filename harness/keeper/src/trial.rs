@@ -1,7 +1,7 @@
 //! One store under test, with its buffers. Its images are letters: a letter is a block filled with it, a dot a null
 //! block and a hash a blank one.
 
-use terms::{Backup, Calls, Capacities};
+use terms::{Backup, Calls, Capacities, OWNER};
 
 #[derive(Clone)]
 pub struct Trial<'a> {
@@ -49,17 +49,17 @@ impl<'a> Trial<'a> {
     }
 
     pub fn backup_of(&mut self, till: u32, image: &[u8]) -> [u32; 2] {
-        self.store.backup(&mut self.pool, &mut self.table, till, image)
+        self.store.backup(&mut self.pool, &mut self.table, OWNER, till, image)
     }
 
     /// Backs letters up with a day.
     pub fn file_on(&mut self, day: u32, text: &str) -> [u32; 2] {
         let image = letters(text, self.capacities.block_bytes);
-        self.store.backup_dated(&mut self.pool, &mut self.table, 0, day, &image)
+        self.store.backup_dated(&mut self.pool, &mut self.table, OWNER, 0, day, &image)
     }
 
     pub fn version_on(&self, day: u32) -> [u32; 2] {
-        self.store.version_on(&self.pool, &self.table, 0, day)
+        self.store.version_on(&self.pool, &self.table, OWNER, 0, day)
     }
 
     /// The word of each slot of till 0, also of those not in use, that has the day.
@@ -79,7 +79,7 @@ impl<'a> Trial<'a> {
     }
 
     pub fn restore(&self, version: u32, output: &mut [u8]) -> [u32; 3] {
-        self.store.restore(&self.pool, &self.table, 0, version, output)
+        self.store.restore(&self.pool, &self.table, OWNER, 0, version, output)
     }
 
     /// A version's image, in letters, and the longest chain.
@@ -94,15 +94,15 @@ impl<'a> Trial<'a> {
     }
 
     pub fn retire(&mut self, version: u32) -> [u32; 2] {
-        self.store.retire(&mut self.pool, &mut self.table, 0, version)
+        self.store.retire(&mut self.pool, &mut self.table, OWNER, 0, version)
     }
 
     pub fn listing(&self) -> [u32; 4] {
-        self.store.listing(&self.pool, &self.table, 0)
+        self.store.listing(&self.pool, &self.table, OWNER, 0)
     }
 
     pub fn tally(&self) -> [u32; 4] {
-        self.store.tally(&self.pool, &self.table)
+        self.store.tally(&self.pool, &self.table, OWNER)
     }
 
     /// What each cell holds: its letter, or a dot.

@@ -1,17 +1,28 @@
 //! The page's keeper of whole images.
 
 use std::collections::BTreeMap;
-use terms::{Listing, Refusal};
+use terms::{Listing, Refusal, Right, Rights, OWNER, USERS};
 
-/// For each till the last number given and the held versions, each a whole image.
+/// For each till the last number given, the held versions, each a whole image, and what each user may do.
 pub struct Keeper {
     tills: Vec<Till>,
 }
 
-#[derive(Clone, Default)]
+#[derive(Clone)]
 pub struct Till {
     pub last: u32,
     pub held: BTreeMap<u32, Kept>,
+    /// Of each user; the owner has all.
+    rights: [Rights; USERS as usize],
+}
+
+impl Default for Till {
+    /// As laid out: only the owner has rights.
+    fn default() -> Till {
+        let mut rights = [Rights::NONE; USERS as usize];
+        rights[OWNER as usize] = Rights::ALL;
+        Till { last: 0, held: BTreeMap::new(), rights }
+    }
 }
 
 /// A held version.
@@ -37,6 +48,18 @@ impl Keeper {
 
     pub fn till(&self, till: u32) -> Option<&Till> {
         self.tills.get(till as usize)
+    }
+
+    /// The till of this number for a user who has the right on it, or 3, 22 or 23, in this order.
+    pub fn admitted(&self, user: u32, till: u32, right: Right) -> Result<&Till, Refusal> {
+        let till = self.till(till).ok_or(Refusal::NoSuchTill)?;
+        let rights = till.rights.get(user as usize).ok_or(Refusal::UnknownUser)?;
+        rights.has(right).then_some(till).ok_or(Refusal::NoRight)
+    }
+
+    /// An accepted change of rights. Only here do those of a user alter.
+    pub fn set_rights(&mut self, till: u32, subject: u32, rights: Rights) {
+        self.tills[till as usize].rights[subject as usize] = rights;
     }
 
     /// A till whose last number was this one.
@@ -75,6 +98,11 @@ impl Keeper {
 }
 
 impl Till {
+    /// What a user may do, if there is such a user.
+    pub fn rights(&self, user: u32) -> Option<Rights> {
+        self.rights.get(user as usize).copied()
+    }
+
     pub fn oldest(&self) -> u32 {
         self.held.first_key_value().map_or(0, |(&number, _)| number)
     }

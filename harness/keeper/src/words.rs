@@ -1,7 +1,9 @@
 //! A table's words as docs/FORMAT.md has them, for looking things up in a sound store.
 
+use crate::whole::Till;
+use crate::Keeper;
 use std::collections::BTreeSet;
-use terms::Capacities;
+use terms::{Capacities, Rights, USERS};
 
 /// What a pointer word says.
 #[derive(Clone, Copy, Debug, PartialEq, Eq)]
@@ -42,6 +44,17 @@ impl<'a> Words<'a> {
 
     fn till_at(&self, till: usize) -> usize {
         8 + till * (4 + self.versions * (3 + self.blocks))
+    }
+
+    /// What the table says that a user may do on a till.
+    pub fn rights(&self, till: usize, user: u32) -> Rights {
+        Rights::of_word(self.table[self.till_at(till) + 2], user)
+    }
+
+    /// Whether the table has the keeper's rights of every user on every till.
+    pub fn has_rights_of(&self, keeper: &Keeper) -> bool {
+        let same = |n, till: &Till| (0..USERS).all(|user| till.rights(user) == Some(self.rights(n, user)));
+        keeper.tills().iter().enumerate().all(|(n, till)| same(n, till))
     }
 
     /// The numbers in a till's slots that are in use, the oldest first.

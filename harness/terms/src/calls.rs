@@ -1,31 +1,66 @@
 //! The calls with answers as bare numbers, so that one test can be put to the proved store and to the twin.
 
-use crate::{Capacities, Closing, Listing, Message, Refusal, Restored, Tally, CLOSING_NUMBERS};
+use crate::{Capacities, Closing, Listing, Message, Refusal, Restored, Rights, Tally, CLOSING_NUMBERS};
 
-/// The calls on lent buffers. An answer is the refusal's number, 0 if the call is accepted, then the page's fields.
+/// The calls on lent buffers. Every call on a store but laying out names its user behind the table. An answer is the
+/// refusal's number, 0 if the call is accepted, then the page's fields.
 pub trait Calls {
     fn name(&self) -> &'static str;
     fn table_length(&self, capacities: Capacities) -> [u32; 2];
     fn lay_out(&self, pool: &mut [u8], table: &mut [u32], capacities: Capacities) -> [u32; 1];
-    fn backup(&self, pool: &mut [u8], table: &mut [u32], till: u32, image: &[u8]) -> [u32; 2];
+    fn backup(&self, pool: &mut [u8], table: &mut [u32], user: u32, till: u32, image: &[u8]) -> [u32; 2];
     /// A backup with a day. Every other one takes the day of the till's newest held version, or 0 if none is held.
-    fn backup_dated(&self, pool: &mut [u8], table: &mut [u32], till: u32, day: u32, image: &[u8]) -> [u32; 2];
+    fn backup_dated(
+        &self,
+        pool: &mut [u8],
+        table: &mut [u32],
+        user: u32,
+        till: u32,
+        day: u32,
+        image: &[u8],
+    ) -> [u32; 2];
     /// Files several images, each as a backup does. Answers the refusal of the whole, then each image's refusal, then each
     /// image's version, in as many places as a closing can have images.
-    fn backup_all(&self, pool: &mut [u8], table: &mut [u32], closing: Closing) -> [u32; CLOSING_NUMBERS];
-    fn restore(&self, pool: &[u8], table: &[u32], till: u32, version: u32, output: &mut [u8]) -> [u32; 3];
-    fn retire(&self, pool: &mut [u8], table: &mut [u32], till: u32, version: u32) -> [u32; 2];
-    fn listing(&self, pool: &[u8], table: &[u32], till: u32) -> [u32; 4];
+    fn backup_all(&self, pool: &mut [u8], table: &mut [u32], user: u32, closing: Closing) -> [u32; CLOSING_NUMBERS];
+    fn restore(&self, pool: &[u8], table: &[u32], user: u32, till: u32, version: u32, output: &mut [u8]) -> [u32; 3];
+    fn retire(&self, pool: &mut [u8], table: &mut [u32], user: u32, till: u32, version: u32) -> [u32; 2];
+    fn listing(&self, pool: &[u8], table: &[u32], user: u32, till: u32) -> [u32; 4];
     /// The newest held version of a till that is not after a day.
-    fn version_on(&self, pool: &[u8], table: &[u32], till: u32, day: u32) -> [u32; 2];
-    fn tally(&self, pool: &[u8], table: &[u32]) -> [u32; 4];
-    fn write_stream(&self, pool: &[u8], table: &[u32], till: u32, version: u32, output: &mut [u8]) -> [u32; 2];
+    fn version_on(&self, pool: &[u8], table: &[u32], user: u32, till: u32, day: u32) -> [u32; 2];
+    fn tally(&self, pool: &[u8], table: &[u32], user: u32) -> [u32; 4];
+    /// Sets the four rights of a user, the subject, on a till. The pool is only looked at.
+    fn set_rights(
+        &self,
+        pool: &[u8],
+        table: &mut [u32],
+        user: u32,
+        subject: u32,
+        till: u32,
+        rights: Rights,
+    ) -> [u32; 1];
+    fn write_stream(
+        &self,
+        pool: &[u8],
+        table: &[u32],
+        user: u32,
+        till: u32,
+        version: u32,
+        output: &mut [u8],
+    ) -> [u32; 2];
     /// Reads a stream into an image. It needs no store.
     fn read_stream(&self, stream: &[u8], output: &mut [u8]) -> [u32; 2];
     /// Marks with 1, else 0, each segment that the store has, by their fingerprints.
-    fn offer(&self, pool: &[u8], table: &[u32], till: u32, fingerprints: &[u8], marks: &mut [u8]) -> [u32; 1];
+    fn offer(
+        &self,
+        pool: &[u8],
+        table: &[u32],
+        user: u32,
+        till: u32,
+        fingerprints: &[u8],
+        marks: &mut [u8],
+    ) -> [u32; 1];
     /// Files the image that a message and the store make together.
-    fn backup_sent(&self, pool: &mut [u8], table: &mut [u32], till: u32, message: Message) -> [u32; 2];
+    fn backup_sent(&self, pool: &mut [u8], table: &mut [u32], user: u32, till: u32, message: Message) -> [u32; 2];
     /// The five words of a message's SHA-1. It needs no store.
     fn sha1(&self, message: &[u8]) -> [u32; 5];
     /// A turn of a record of tills, marks of those waiting and last till, which stands apart from any store. Answers the
@@ -33,7 +68,7 @@ pub trait Calls {
     fn turn(&self, record: [u32; 3]) -> [u32; 6];
 }
 
-/// A backup alone, such as one by an earlier rule.
+/// A backup alone, such as one by an earlier rule, when there were no users.
 pub type Backup = fn(&mut [u8], &mut [u32], u32, &[u8]) -> [u32; 2];
 
 /// An accepted answer as bare numbers.

@@ -4,12 +4,14 @@ mod calls;
 mod capacities;
 mod closing;
 mod refusal;
+mod rights;
 mod sending;
 
 pub use calls::{numbers, Backup, Calls, Fields};
 pub use capacities::{Capacities, BASE, BLOCK_BYTES, LONGEST_IMAGE, SEGMENT_BLOCKS};
 pub use closing::{Closing, Collected, Each, CLOSING_NUMBERS, MOST_IMAGES};
 pub use refusal::Refusal;
+pub use rights::{Right, Rights, OWNER, USERS};
 pub use sending::{fingerprint, Fingerprint, Message, Sending, FINGERPRINT, LONGEST_MESSAGE, MOST_SEGMENTS};
 
 /// Bytes of a block of the page's measures.

@@ -21,6 +21,8 @@ pub enum Refusal {
     NoLongerHeld = 18,
     OtherSegment = 19,
     NoSegment = 20,
+    UnknownUser = 22,
+    NoRight = 23,
     StreamSize = 24,
     StreamLength = 25,
     StreamBits = 26,
@@ -30,7 +32,7 @@ pub enum Refusal {
 }
 
 impl Refusal {
-    pub const ALL: [Refusal; 20] = [
+    pub const ALL: [Refusal; 22] = [
         Refusal::Capacity,
         Refusal::Lengths,
         Refusal::NoSuchTill,
@@ -45,6 +47,8 @@ impl Refusal {
         Refusal::NoLongerHeld,
         Refusal::OtherSegment,
         Refusal::NoSegment,
+        Refusal::UnknownUser,
+        Refusal::NoRight,
         Refusal::StreamSize,
         Refusal::StreamLength,
         Refusal::StreamBits,
@@ -84,6 +88,8 @@ impl Refusal {
                 "a sent segment with another fingerprint, or a sent or had one with a byte other than zero after the length"
             }
             Refusal::NoSegment => "a segment neither sent nor had",
+            Refusal::UnknownUser => "an unknown user, or a change to user 0's rights",
+            Refusal::NoRight => "a missing right",
             Refusal::StreamSize => "a stream too short or too long",
             Refusal::StreamLength => "a stream with a length of 0 or above 65,536",
             Refusal::StreamBits => {
@@ -113,7 +119,7 @@ mod tests {
         for refusal in Refusal::ALL {
             assert_eq!(Refusal::from_number(refusal.number()), Some(refusal));
         }
-        for number in [0, 6, 7, 8, 9, 13, 15, 21, 23, 30, u32::MAX] {
+        for number in [0, 6, 7, 8, 9, 13, 15, 21, 30, u32::MAX] {
             assert_eq!(Refusal::from_number(number), None);
         }
     }

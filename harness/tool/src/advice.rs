@@ -4,18 +4,28 @@ use crate::arguments::Named;
 use crate::calendar;
 use crate::names::{quoted, shown};
 use crate::words::{bytes, counted};
-use crate::{image, numbers, table, Failure};
+use crate::{image, numbers, rights, table, Failure};
 use lurdempos::{
-    Capacities, Listing, Message, Refusal, Store, FINGERPRINT, LAST_NUMBER, LONGEST_IMAGE, MOST_IMAGES, MOST_SEGMENTS,
+    Capacities, Listing, Message, Refusal, Right, Store, FINGERPRINT, LAST_NUMBER, LONGEST_IMAGE, MOST_IMAGES,
+    MOST_SEGMENTS, OWNER, USERS,
 };
 use std::collections::HashSet;
 use std::path::Path;
+
+/// Who makes a call, and on which till.
+#[derive(Clone, Copy)]
+pub struct By {
+    pub user: u32,
+    pub till: u32,
+}
 
 /// A call on a sound store that was refused.
 pub struct Call<'a> {
     pub file: &'a Path,
     pub store: &'a Store,
-    pub till: u32,
+    pub by: By,
+    /// The right that it needs.
+    pub right: Right,
     /// The version named, 0 if the call names none.
     pub version: u32,
     /// The day named, 0 if the call names none.
@@ -26,27 +36,32 @@ pub struct Call<'a> {
 
 impl<'a> Call<'a> {
     /// A call that names a till and no more.
-    pub fn of_till(file: &'a Path, store: &'a Store, till: u32) -> Call<'a> {
-        Call { file, store, till, version: 0, day: 0, image: &[] }
+    pub fn of_till(file: &'a Path, store: &'a Store, by: By, right: Right) -> Call<'a> {
+        Call { file, store, by, right, version: 0, day: 0, image: &[] }
     }
 
-    /// The number of a version that the command line names.
+    /// The number of a version that the command line names. To find the newest, or one by its day, needs the right to
+    /// list.
     pub fn number(&self, version: Named) -> Result<u32, Failure> {
+        let By { user, till } = self.by;
+        let listed = Call { right: Right::List, ..*self };
         match version {
             Named::Number(number) => Ok(number),
-            Named::Newest => self.store.listing(self.till).map(|listing| listing.newest),
+            Named::Newest => {
+                let listing = self.store.listing(user, till).map_err(|refusal| listed.refused(refusal))?;
+                Ok(listing.newest)
+            }
             Named::OnDay(day) => {
-                let found = self.store.version_on(self.till, day);
-                return found.map_err(|refusal| Call { day, ..*self }.refused(refusal));
+                let found = self.store.version_on(user, till, day);
+                found.map_err(|refusal| Call { day, ..listed }.refused(refusal))
             }
         }
-        .map_err(|refusal| self.refused(refusal))
     }
 
     /// A version's image, with its number.
     pub fn image_of(&self, version: Named) -> Result<(u32, Vec<u8>), Failure> {
         let version = self.number(version)?;
-        let image = self.store.image(self.till, version);
+        let image = self.store.image(self.by.user, self.by.till, version);
         image.map(|image| (version, image)).map_err(|refusal| Call { version, ..*self }.refused(refusal))
     }
 
@@ -57,6 +72,8 @@ impl<'a> Call<'a> {
             Refusal::TillFull => self.till_full(),
             Refusal::NumbersSpent => self.numbers_spent(),
             Refusal::NoRecord | Refusal::NoRun => self.no_room(refusal),
+            Refusal::UnknownUser => return unknown_user(self.by.user),
+            Refusal::NoRight => self.no_right(),
             Refusal::NeverGiven => self.never_given(),
             Refusal::NoLongerHeld => self.no_longer_held(),
             Refusal::EarlierDay => self.earlier_day(),
@@ -72,7 +89,7 @@ impl<'a> Call<'a> {
 
     /// The same for a till's second message, where the till must offer its fingerprints again.
     pub fn message_refused(&self, refusal: Refusal, name: &str) -> Failure {
-        let again = format!("`lurdempos offer {} {} FINGERPRINTS OUT`", quoted(self.file), self.till);
+        let again = format!("`lurdempos offer {} {} FINGERPRINTS OUT`", quoted(self.file), self.by.till);
         let (here, advice) = match refusal {
             Refusal::TillFull => {
                 let advice =
@@ -92,10 +109,23 @@ impl<'a> Call<'a> {
         Failure::refused(refusal, here, advice)
     }
 
+    /// The owner can give it.
+    fn no_right(&self) -> (String, String) {
+        let By { user, till } = self.by;
+        let (file, right) = (quoted(self.file), rights::word(self.right));
+        let here = format!("user {user} has not the right {right} on till {till}");
+        (
+            here,
+            format!(
+                "if user {user} should have it, the owner gives it: `lurdempos grant {file} {till} {user} {right}`."
+            ),
+        )
+    }
+
     fn no_such_till(&self) -> (String, String) {
         let here = match self.store.capacities().tills {
-            1 => format!("there is no till {}, this store has till 0 alone", self.till),
-            tills => format!("there is no till {}, this store has tills 0 to {}", self.till, tills - 1),
+            1 => format!("there is no till {}, this store has till 0 alone", self.by.till),
+            tills => format!("there is no till {}, this store has tills 0 to {}", self.by.till, tills - 1),
         };
         (here, format!("see what it holds with `lurdempos list {}`.", quoted(self.file)))
     }
@@ -111,19 +141,19 @@ impl<'a> Call<'a> {
     }
 
     fn till_full(&self) -> (String, String) {
-        let here = format!("till {} holds {} already", self.till, self.store.capacities().versions);
+        let here = format!("till {} holds {} already", self.by.till, self.store.capacities().versions);
         let retire = self.retire_oldest();
         (here, format!("retire its oldest first: `{retire}`; `backup --rotate` does both in one."))
     }
 
     fn numbers_spent(&self) -> (String, String) {
-        let here = format!("till {} can give no number after {LAST_NUMBER}", self.till);
+        let here = format!("till {} can give no number after {LAST_NUMBER}", self.by.till);
         (here, "go on in a new store, made with `lurdempos init`; this one still restores.".into())
     }
 
     /// The number is mistyped; or the till has no version, and so no newest one.
     fn never_given(&self) -> (String, String) {
-        let (till, version, held, choose) = (self.till, self.version, self.held(), self.choose());
+        let (till, version, held, choose) = (self.by.till, self.version, self.held(), self.choose());
         let Listing { newest, last, .. } = self.listing();
         if last == 0 {
             (format!("till {till} holds no version, and has given no number yet"), format!("{choose}."))
@@ -139,14 +169,14 @@ impl<'a> Call<'a> {
     }
 
     fn no_longer_held(&self) -> (String, String) {
-        let (till, version, held, choose) = (self.till, self.version, self.held(), self.choose());
+        let (till, version, held, choose) = (self.by.till, self.version, self.held(), self.choose());
         let here = format!("version {version} was given and is retired; till {till} holds {held}");
         (here, format!("{choose}; a retired version is in older copies of the file only."))
     }
 
     /// The day is mistyped, or that of the newest version is.
     fn earlier_day(&self) -> (String, String) {
-        let (file, till, newest) = (quoted(self.file), self.till, self.listing().newest);
+        let (file, till, newest) = (quoted(self.file), self.by.till, self.listing().newest);
         let [asked, beaten] = [self.day, table::day(self.store, till, newest)].map(calendar::shown);
         let here = format!("{asked} is before {beaten} of version {newest}, the newest that till {till} holds");
         let advice = format!(
@@ -158,7 +188,7 @@ impl<'a> Call<'a> {
 
     /// The day is mistyped, or what was held then is retired.
     fn none_so_early(&self) -> (String, String) {
-        let (till, choose, numbers) = (self.till, self.choose(), table::numbers(self.store, self.till));
+        let (till, choose, numbers) = (self.by.till, self.choose(), table::numbers(self.store, self.by.till));
         let dated = numbers.iter().map(|&number| (table::day(self.store, till, number), number));
         let Some((day, version)) = dated.min() else {
             return (format!("till {till} holds no version"), format!("{choose}."));
@@ -181,7 +211,7 @@ impl<'a> Call<'a> {
 
     /// What the till holds.
     fn held(&self) -> String {
-        match &table::numbers(self.store, self.till)[..] {
+        match &table::numbers(self.store, self.by.till)[..] {
             [] => "no version".into(),
             [only] => format!("version {only} alone"),
             held => numbers::shown(held),
@@ -190,7 +220,7 @@ impl<'a> Call<'a> {
 
     /// Where there is a version to choose.
     fn choose(&self) -> String {
-        let (file, till) = (quoted(self.file), self.till);
+        let (file, till) = (quoted(self.file), self.by.till);
         match self.listing().newest {
             0 => format!("see what is held with `lurdempos list {file}`"),
             _ => format!("choose one that `lurdempos list {file} {till}` shows"),
@@ -207,7 +237,7 @@ impl<'a> Call<'a> {
             }
             _ => (counted(cells, "cell"), "--cells", cells == Capacities::LARGEST.cells),
         };
-        if self.store.tally().is_ok_and(|tally| tally.cells == 0) {
+        if self.store.tally(OWNER).is_ok_and(|tally| tally.cells == 0) {
             let need = Need::of(self.image, self.store.capacities());
             let here = format!("even when the store is empty, this image alone takes more than its {what}");
             let advice = format!(
@@ -225,11 +255,30 @@ impl<'a> Call<'a> {
     }
 
     fn retire_oldest(&self) -> String {
-        format!("lurdempos retire {} {} {}", quoted(self.file), self.till, self.listing().oldest)
+        format!("lurdempos retire {} {} {}", quoted(self.file), self.by.till, self.listing().oldest)
     }
 
+    /// What the advice tells of the till, whoever asks: who has the file can read it all.
     fn listing(&self) -> Listing {
-        self.store.listing(self.till).unwrap_or_default()
+        self.store.listing(OWNER, self.by.till).unwrap_or_default()
+    }
+}
+
+/// There are as many users in every store.
+pub fn unknown_user(user: u32) -> Failure {
+    let here = format!("there is no user {user}, a store has users 0 to {}", USERS - 1);
+    Failure::refused(Refusal::UnknownUser, here, "see that --user has the right number; 0 is the owner.".into())
+}
+
+/// A call that is the owner's alone.
+pub fn of_the_owner(refusal: Refusal, file: &Path, user: u32) -> Failure {
+    match refusal {
+        Refusal::UnknownUser => unknown_user(user),
+        Refusal::NoRight => {
+            let here = format!("this is for the owner, user 0, and not for user {user}");
+            Failure::refused(refusal, here, "ask the owner; no right that can be given is enough for it.".into())
+        }
+        _ => unsound(refusal, file),
     }
 }
 

@@ -2,8 +2,9 @@
 
 use crate::calendar::{self, NoDay};
 use crate::names::{quoted, shown};
-use crate::syntax::{Argument, Command, Opt, Takes, DAY};
+use crate::syntax::{Argument, Command, Opt, Takes, DAY, USER};
 use crate::{streams, Failure};
+use lurdempos::OWNER;
 use std::ffi::{OsStr, OsString};
 use std::os::unix::ffi::OsStrExt;
 use std::path::Path;
@@ -194,6 +195,11 @@ impl Arguments {
                     .wrong(&format!("--day has to be a number in plain digits, or a date as 2026-03-31, not `{text}`")))
             }
         }
+    }
+
+    /// Who makes the call: the owner, unless another user is named.
+    pub fn user(&self) -> Result<u32, Failure> {
+        Ok(self.option_number(USER.name)?.unwrap_or(OWNER))
     }
 
     /// An option's number, if the option is given.

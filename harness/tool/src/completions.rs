@@ -3,6 +3,9 @@
 use crate::commands::COMMANDS;
 use crate::syntax::{Command, Opt, Takes};
 
+/// What a right can be: as the words on a command line have it.
+const RIGHTS: &str = "right";
+
 /// What a version can be besides a number.
 const VERSIONS: &str = "newest";
 
@@ -50,6 +53,7 @@ fn kind(takes: Takes) -> &'static str {
         Takes::Folder => "folder",
         Takes::Version => VERSIONS,
         Takes::TillAndFile => "pair",
+        Takes::Right => RIGHTS,
         Takes::Anything => "any",
     }
 }
@@ -75,8 +79,8 @@ const TAIL: &str = r#"    if [[ $files == *" $before "* ]]; then
     done
     # A day stands in a version's place.
     [[ " ${COMP_WORDS[*]} " == *' --day '* ]] && kinds=(${kinds[@]/newest/})
-    # A pair can come again. An equals sign is a word of its own to bash; what follows it is the file.
-    if [[ ${#kinds[@]} != 0 && ${kinds[-1]} == pair ]] && ((place >= ${#kinds[@]})); then place=$((${#kinds[@]} - 1)); fi
+    # Pairs and rights can come again. An equals sign is a word of its own to bash; what follows it is the file.
+    if [[ ${#kinds[@]} != 0 && ${kinds[-1]} == @(pair|right) ]] && ((place >= ${#kinds[@]})); then place=$((${#kinds[@]} - 1)); fi
     case ${kinds[place]} in
     pair)
         if [[ $word == = ]]; then word=''; elif [[ $before != = ]]; then return; fi
@@ -85,6 +89,7 @@ const TAIL: &str = r#"    if [[ $files == *" $before "* ]]; then
         ;;
     file) compopt -o filenames 2> /dev/null; mapfile -t COMPREPLY < <(compgen -f -- "$word") ;;
     folder) compopt -o filenames 2> /dev/null; mapfile -t COMPREPLY < <(compgen -d -- "$word") ;;
+    right) COMPREPLY=($(compgen -W 'list backup restore retire all' -- "$word")) ;;
     newest) COMPREPLY=($(compgen -W newest -- "$word")) ;;
     esac
 }

@@ -32,6 +32,7 @@ mod patience;
 mod picture;
 mod ranges;
 mod reply;
+mod rights;
 mod salvage;
 mod shared;
 mod signals;

@@ -45,6 +45,7 @@ pub enum Takes {
     Version,
     /// A till and a file, with an equals sign between them.
     TillAndFile,
+    Right,
     Anything,
 }
 
@@ -64,6 +65,9 @@ pub const FORCE: Opt = Opt::flag("--force", "replace the output even if it is a 
 /// The option of commands that look a version up by its day.
 pub const DAY: Opt =
     Opt::with("--day", "D", "in VERSION's place: the newest version not after the day D, a number or a date");
+
+/// The option of every command that makes a call in somebody's name.
+pub const USER: Opt = Opt::with("--user", "N", "make the call as user N, 0 to 7 (default 0, the owner)");
 
 /// The options of commands that can be tried out.
 pub const DRY_RUN: Opt = Opt::flag("--dry-run", "change nothing; tell what would come of it, with the cells in use");
@@ -87,10 +91,16 @@ impl Argument {
         Argument { name, needed: false, repeated: true, instead: "", takes }
     }
 
+    /// One that stands once or several times.
+    pub const fn several(name: &'static str, takes: Takes) -> Argument {
+        Argument { repeated: true, ..Argument::needed(name, takes) }
+    }
+
     /// As a usage line shows it.
     fn shown(&self) -> String {
         match (self.needed, self.repeated) {
-            (true, _) => self.name.into(),
+            (true, false) => self.name.into(),
+            (true, true) => format!("{}...", self.name),
             (false, false) => format!("[{}]", self.name),
             (false, true) => format!("[{}...]", self.name),
         }

@@ -1,7 +1,7 @@
 //! What the words of a sound store's table say about each version and each record (docs/FORMAT.md). Only for stores
 //! that the library has found sound; what the library answers itself is asked of it.
 
-use lurdempos::{Capacities, Store};
+use lurdempos::{Capacities, Rights, Store};
 
 /// Words before the tills.
 pub const HEADER_WORDS: usize = 8;
@@ -20,6 +20,11 @@ pub struct Layout {
 impl Layout {
     pub fn till(self, till: usize) -> usize {
         HEADER_WORDS + till * (TILL_WORDS + self.capacities.versions as usize * self.slot_words())
+    }
+
+    /// The word of what users 1 to 7 may do on a till.
+    pub fn rights(self, till: usize) -> usize {
+        self.till(till) + 2
     }
 
     pub fn slot(self, till: usize, slot: usize) -> usize {
@@ -117,6 +122,13 @@ impl Version {
     pub fn chain(&self) -> u32 {
         self.traced.iter().map(|block| block.hops).max().unwrap_or(0)
     }
+}
+
+/// What a user may do on a till; nothing if there is no such till.
+pub fn rights(store: &Store, till: u32, user: u32) -> Rights {
+    let capacities = store.capacities();
+    let word = store.table().get(Layout { capacities }.rights(till as usize)).filter(|_| till < capacities.tills);
+    word.map_or(Rights::NONE, |&word| Rights::of_word(word, user))
 }
 
 /// How many versions a till holds.

@@ -2,7 +2,7 @@
 
 mod common;
 use common::{file_of, form_1_of, letters, Bench};
-use lurdempos::{Capacities, Store};
+use lurdempos::{Capacities, Store, OWNER};
 use std::fs;
 
 /// Every command on the file `s`.
@@ -53,7 +53,7 @@ fn cannot_be_read(bytes: &[u8], words: &str) {
 
 fn good() -> Vec<u8> {
     let mut store = Store::new(Capacities::new(2, 4, 16, 8, 64)).unwrap();
-    store.backup(0, &letters("ABCDEFGH")).unwrap();
+    store.backup(OWNER, 0, &letters("ABCDEFGH")).unwrap();
     file_of(store.pool(), store.table())
 }
 

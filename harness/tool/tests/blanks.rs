@@ -3,7 +3,7 @@
 
 mod common;
 use common::{file_of, kept_file, letters, salvaged, Bench, Held};
-use lurdempos::{Capacities, Store};
+use lurdempos::{Capacities, Store, OWNER};
 use twin::Era;
 
 /// What the file was made with: till, image, and the version that was retired after it.
@@ -33,7 +33,7 @@ fn made_before() -> (Vec<u8>, Vec<u32>) {
     for (till, image, retired) in history() {
         twin::backup_by(Era::BeforeBlanks, &mut pool, &mut table, till, &image).unwrap();
         if let Some(version) = retired {
-            twin::retire(&mut pool, &mut table, till, version).unwrap();
+            twin::retire(&mut pool, &mut table, OWNER, till, version).unwrap();
         }
     }
     (pool, table)
@@ -49,7 +49,7 @@ fn all_come_back(bench: &Bench, held: &[Held]) {
 /// A step on the tool's file and on the library's store, which are the same after it.
 fn backed_up(bench: &Bench, store: &mut Store, held: &mut Vec<Held>, till: u32, image: Vec<u8>) {
     bench.fed(&format!("backup s {till} -"), &image).accepted();
-    let version = store.backup(till, &image).unwrap();
+    let version = store.backup(OWNER, till, &image).unwrap();
     held.push((till, version, image));
     assert!(bench.read("s") == file_of(store.pool(), store.table()), "version {version} of till {till}");
     all_come_back(bench, held);
@@ -104,7 +104,7 @@ fn a_file_from_before_goes_on() {
     // Version 2 goes, and version 1 takes over what it had: pointers to version 4's, which are blank.
     for (till, version) in [(0, 2), (0, 4), (1, 2)] {
         bench.run(&format!("retire s {till} {version}")).accepted();
-        store.retire(till, version).unwrap();
+        store.retire(OWNER, till, version).unwrap();
         held.retain(|one| (one.0, one.1) != (till, version));
         assert!(bench.read("s") == file_of(store.pool(), store.table()));
         all_come_back(&bench, &held);

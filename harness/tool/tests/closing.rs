@@ -2,7 +2,7 @@
 
 mod common;
 use common::{file_of, letters, Bench, Random};
-use lurdempos::{Capacities, Store};
+use lurdempos::{Capacities, Store, OWNER};
 use std::fs;
 use std::os::unix::fs::MetadataExt;
 
@@ -267,7 +267,7 @@ fn as_the_library_has_it() {
         let words: String = (0..count).map(|n| format!(" {}=image{n}", images[n].0)).collect();
         let run = bench.run(&format!("closing s{words}"));
         let lent: Vec<(u32, &[u8])> = images.iter().map(|(till, image)| (*till, &image[..])).collect();
-        let each = store.backup_all(&lent).unwrap();
+        let each = store.backup_all(OWNER, &lent).unwrap();
         assert_eq!(run.status, Some(each.iter().any(Result::is_err) as i32), "{run:?}");
         for (line, (answer, (till, image))) in run.out.lines().zip(each.iter().zip(&images)) {
             let told = match answer {
@@ -281,12 +281,13 @@ fn as_the_library_has_it() {
         assert_eq!((run.out.lines().count(), bench.read("s")), (count, file_of(store.pool(), store.table())));
         let till = random.below(4);
         bench.run(&format!("retire s {till} --keep 2")).accepted();
-        while let Ok(listing) = store.listing(till as u32) {
-            let held = (listing.oldest..=listing.newest).filter(|&version| store.image(till as u32, version).is_ok());
+        while let Ok(listing) = store.listing(OWNER, till as u32) {
+            let held =
+                (listing.oldest..=listing.newest).filter(|&version| store.image(OWNER, till as u32, version).is_ok());
             if held.count() <= 2 {
                 break;
             }
-            store.retire(till as u32, listing.oldest).unwrap();
+            store.retire(OWNER, till as u32, listing.oldest).unwrap();
         }
     }
     assert!(kept > 30 && refused > 30, "{kept} kept, {refused} refused");

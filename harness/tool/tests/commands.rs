@@ -2,7 +2,7 @@
 
 mod common;
 use common::{file_of, letters, Bench};
-use lurdempos::{Capacities, Store};
+use lurdempos::{Capacities, Store, OWNER};
 
 #[test]
 fn init_lays_out_an_empty_store() {
@@ -40,7 +40,7 @@ fn a_day_at_the_box() {
         bench.write("image", letters(text));
         let kept = bench.run("backup s 0 image");
         assert_eq!(kept.accepted().out, format!("till 0: version {} kept, 512 bytes\n", n + 1));
-        store.backup(0, &letters(text)).unwrap();
+        store.backup(OWNER, 0, &letters(text)).unwrap();
         assert_eq!(bench.read("s"), file_of(store.pool(), store.table()));
     }
     bench
@@ -52,7 +52,7 @@ fn a_day_at_the_box() {
     assert_eq!(restored.accepted().out, "till 0: version 1 restored to out, 512 bytes, longest chain 3\n");
     assert_eq!(bench.read("out"), letters("ABCDEFGH"));
     assert_eq!(bench.run("retire s 0 1").accepted().out, "till 0: version 1 retired, 512 bytes\n");
-    store.retire(0, 1).unwrap();
+    store.retire(OWNER, 0, 1).unwrap();
     assert_eq!(bench.read("s"), file_of(store.pool(), store.table()));
     bench.run("tally s").accepted().says("cells           9 of 32 occupied\n");
     bench.run("check s").accepted().says("s: sound, 1 till x 4 versions of up to 1024 bytes, 8 records, 32 cells\n");
@@ -108,9 +108,9 @@ fn any_version_goes() {
     let texts = ["ABCDEFGH", "ABCDEFGZ", "ABCDEFGH", "ABCDEFGH"];
     texts.iter().for_each(|text| assert_eq!(bench.fed("backup s 0 -", &letters(text)).status, Some(0)));
     let mut store = Store::new(Capacities::new(2, 4, 16, 8, 64)).unwrap();
-    texts.iter().for_each(|text| assert!(store.backup(0, &letters(text)).is_ok()));
+    texts.iter().for_each(|text| assert!(store.backup(OWNER, 0, &letters(text)).is_ok()));
     assert_eq!(bench.run("retire s 0 3").accepted().out, "till 0: version 3 retired, 512 bytes\n");
-    assert_eq!(store.retire(0, 3), Ok(512));
+    assert_eq!(store.retire(OWNER, 0, 3), Ok(512));
     assert_eq!(bench.read("s"), file_of(store.pool(), store.table()));
     let listed = "till 0: versions 1 to 2, 4\n  \
                     version   bytes  longest chain  direct  indirect  null  blank\n        \
@@ -166,18 +166,18 @@ fn chains_are_the_librarys() {
     for _ in 0..30 {
         let image: Vec<u8> = (0..1 + random.below(32)).flat_map(|_| [random.below(9) as u8; 64]).collect();
         let till = random.below(3) as u32;
-        let (kept, answer) = (bench.fed(&format!("backup s {till} -"), &image), store.backup(till, &image));
+        let (kept, answer) = (bench.fed(&format!("backup s {till} -"), &image), store.backup(OWNER, till, &image));
         assert_eq!(kept.status == Some(0), answer.is_ok(), "{kept:?}");
         let (till, version) = (random.below(3) as u32, random.below(40) as u32);
-        let (gone, answer) = (bench.run(&format!("retire s {till} {version}")), store.retire(till, version));
+        let (gone, answer) = (bench.run(&format!("retire s {till} {version}")), store.retire(OWNER, till, version));
         assert_eq!(gone.status == Some(0), answer.is_ok(), "{gone:?}");
     }
     assert_eq!(bench.read("s"), file_of(store.pool(), store.table()));
     let listed = bench.run("list s --json").out;
     for till in 0..3 {
-        let numbers = store.listing(till).unwrap();
+        let numbers = store.listing(OWNER, till).unwrap();
         for version in numbers.oldest..=numbers.newest {
-            let Ok(restored) = store.restore(till, version, &mut [0; 2048]) else { continue };
+            let Ok(restored) = store.restore(OWNER, till, version, &mut [0; 2048]) else { continue };
             let (undated, length, hops) = ("\"day\": 0, \"date\": null", restored.length, restored.hops);
             let line = format!("{{\"version\": {version}, {undated}, \"bytes\": {length}, \"chain\": {hops},");
             let part = listed.split("{\"till\": ").find(|part| part.starts_with(&format!("{till},"))).unwrap();

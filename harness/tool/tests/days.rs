@@ -1,8 +1,8 @@
 //! Versions by their day: kept with one, found by one, listed, carried along.
 
 mod common;
-use common::{file_of, kept_file, letters, Bench};
-use lurdempos::{Capacities, Store};
+use common::{file_of, kept_file, letters, refused, Bench};
+use lurdempos::{Capacities, Store, OWNER};
 
 /// The store `s`, whose till 0 has three versions, the first without a day, and some images.
 fn shop(name: &str) -> Bench {
@@ -14,14 +14,6 @@ fn shop(name: &str) -> Bench {
     bench.run("backup s 0 b --day 2026-03-28").accepted();
     bench.run("backup s 0 c --day 20543").accepted();
     bench
-}
-
-/// Refused with this number and these words, and nothing altered.
-fn refused(bench: &Bench, line: &str, number: u32, words: &[&str]) {
-    let before = (bench.names(), bench.read("s"));
-    let run = bench.run(line);
-    run.fails(1, &[&format!("lurdempos: refused, {number}: "), "Here: ", "What to do: "]).fails(1, words);
-    assert_eq!((bench.names(), bench.read("s")), before, "{line} altered something");
 }
 
 #[test]
@@ -40,7 +32,7 @@ fn kept_with_a_day() {
     // The file is the one that the library leaves.
     let mut store = Store::new(Capacities::new(2, 4, 16, 8, 64)).unwrap();
     for (day, text) in [(0, "ABCDEFGH"), (20_540, "ABCDEFGZ"), (20_543, "A.CDEFGZ"), (20_543, "Q")] {
-        store.backup_dated(0, day, &letters(text)).unwrap();
+        store.backup_dated(OWNER, 0, day, &letters(text)).unwrap();
     }
     let (pool, table) = store.into_parts();
     let bench = shop("days-kept-again");
@@ -223,7 +215,7 @@ fn grown_with_days() {
     assert_eq!(days("larger"), days("s"));
     bench.run("list larger 0").accepted().says("  20540 (2026-03-28)\n").says("  20543 (2026-03-31)\n").says("  -\n");
     let mut store = Store::new(Capacities::new(2, 4, 16, 8, 64)).unwrap();
-    [7, 8, 9].iter().for_each(|&day| assert!(store.backup_dated(1, day, &letters("AB")).is_ok()));
+    [7, 8, 9].iter().for_each(|&day| assert!(store.backup_dated(OWNER, 1, day, &letters("AB")).is_ok()));
     let (pool, mut table) = store.into_parts();
     // The first slot of till 1, of 19 words.
     let at = 8 + (4 + 4 * 19) + 4 + 2;

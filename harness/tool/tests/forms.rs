@@ -3,7 +3,7 @@
 
 mod common;
 use common::{file_of, form_1_of, kept_file, letters, Bench};
-use lurdempos::{Capacities, Store};
+use lurdempos::{Capacities, Store, OWNER};
 
 /// What `form1-versions.lur` was made with: till, image, and the version that was retired before it.
 fn history() -> Vec<(u32, Vec<u8>, Option<u32>)> {
@@ -19,9 +19,9 @@ fn store_with(history: &[(u32, Vec<u8>, Option<u32>)]) -> Store {
     let mut store = Store::new(Capacities::new(3, 4, 16, 24, 96)).unwrap();
     for (till, image, retired) in history {
         if let Some(version) = retired {
-            store.retire(*till, *version).unwrap();
+            store.retire(OWNER, *till, *version).unwrap();
         }
-        store.backup(*till, image).unwrap();
+        store.backup(OWNER, *till, image).unwrap();
     }
     store
 }
@@ -53,7 +53,7 @@ fn one_with_versions_is_read_and_becomes_form_2() {
         assert_eq!(bench.read("s"), old, "{line} is no change");
     }
     bench.fed("backup s 1 -", &letters("ABC")).accepted();
-    store.backup(1, &letters("ABC")).unwrap();
+    store.backup(OWNER, 1, &letters("ABC")).unwrap();
     assert_eq!(bench.read("s"), file_of(store.pool(), store.table()), "form 2, with checksums");
     for (till, version, at) in held {
         assert!(bench.run(&format!("restore s {till} {version} -")).accepted().bytes == history[at].1);

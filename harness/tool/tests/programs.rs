@@ -189,7 +189,7 @@ fn completions_for_bash() {
     std::fs::create_dir(bench.path("folder")).unwrap();
     let completions = bench.run("--completions").accepted().out.clone();
     bench.write("completions", completions);
-    assert_eq!(offered(&bench, &["lurdempos", "re"]), ["restore", "retire"]);
+    assert_eq!(offered(&bench, &["lurdempos", "re"]), ["restore", "retire", "revoke"]);
     assert!(offered(&bench, &["lurdempos", ""]).len() > 14);
     assert_eq!(offered(&bench, &["lurdempos", "help", "t"]), ["tally"]);
     assert_eq!(offered(&bench, &["lurdempos", "backup", "--r"]), ["--rotate"]);
@@ -214,6 +214,15 @@ fn completions_for_bash() {
     assert_eq!(offered(&bench, &["lurdempos", "map", "s", "--output", "ot"]), ["other"]);
     assert_eq!(offered(&bench, &["lurdempos", "export-all", "s", ""]), ["folder"]);
     assert!(offered(&bench, &["lurdempos", "tally", "--"]).contains(&"--json".to_string()));
+    // Rights can come again.
+    let rights = ["all", "backup", "list", "restore", "retire"];
+    for words in
+        [&["s", "0", "3", ""][..], &["s", "0", "3", "list", ""], &["--user", "0", "s", "0", "3", "list", "all", ""]]
+    {
+        assert_eq!(offered(&bench, &[&["lurdempos", "grant"], words].concat()), rights);
+    }
+    assert_eq!(offered(&bench, &["lurdempos", "revoke", "s", "0", "3", "re"]), ["restore", "retire"]);
+    assert!(offered(&bench, &["lurdempos", "grant", "s", "0", ""]).is_empty());
     // A name stays one name.
     bench.write("my shop * .lur", "");
     bench.write("my *", "");

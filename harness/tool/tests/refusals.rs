@@ -1,19 +1,8 @@
 //! Each refusal that the tool can meet: its number, its words, what to do, exit status 1, and nothing altered.
 
 mod common;
-use common::{file_of, form_1_of, letters, Bench};
-use lurdempos::{Capacities, Store};
-
-/// Refused with this number and these words; the folder stays as it is.
-fn refused(bench: &Bench, line: &str, number: u32, words: &[&str]) {
-    let before: Vec<(String, Vec<u8>)> =
-        bench.names().into_iter().map(|name| (name.clone(), bench.read(&name))).collect();
-    let run = bench.run(line);
-    run.fails(1, &[&format!("lurdempos: refused, {number}: "), "Here: ", "What to do: "]).fails(1, words);
-    let after: Vec<(String, Vec<u8>)> =
-        bench.names().into_iter().map(|name| (name.clone(), bench.read(&name))).collect();
-    assert!(before == after, "{line} altered something");
-}
+use common::{file_of, form_1_of, letters, refused, Bench};
+use lurdempos::{Capacities, Store, OWNER};
 
 #[test]
 fn capacities_1() {
@@ -215,7 +204,7 @@ fn unsound_10() {
     bench.write("image", "x");
     let (mut pool, table) = {
         let mut store = Store::new(Capacities::new(2, 4, 16, 8, 64)).unwrap();
-        store.backup(0, &letters("ABC")).unwrap();
+        store.backup(OWNER, 0, &letters("ABC")).unwrap();
         store.into_parts()
     };
     assert_eq!(bench.read("s"), file_of(&pool, &table));

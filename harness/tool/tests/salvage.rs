@@ -2,7 +2,7 @@
 
 mod common;
 use common::{file_of, form_1_of, kept_file, letters, salvage_at_random, salvage_heads, salvaged, Bench, Held};
-use lurdempos::{Capacities, Store};
+use lurdempos::{Capacities, Store, OWNER};
 
 const TEXTS: [(u32, &str); 5] =
     [(0, "ABCDEFGH"), (1, "ABCDEFGHXY"), (0, "ABCDEFGZ"), (1, "AB.#EFGHXY"), (1, "QRSTUVWX.YZ")];
@@ -21,7 +21,7 @@ fn held() -> Vec<Held> {
 fn store() -> Store {
     let mut store = Store::new(Capacities::new(2, 4, 16, 16, 256)).unwrap();
     for (till, text) in TEXTS {
-        store.backup(till, &letters(text)).unwrap();
+        store.backup(OWNER, till, &letters(text)).unwrap();
     }
     store
 }

@@ -2,7 +2,7 @@
 
 mod common;
 use common::{file_of, form_1_of, kept_file, salvage_at_random, salvage_heads, salvaged, Bench, Held};
-use lurdempos::{Capacities, Store, BLOCK_BYTES, SEGMENT_BLOCKS};
+use lurdempos::{Capacities, Store, BLOCK_BYTES, OWNER, SEGMENT_BLOCKS};
 
 /// Bytes of a block, blocks of a segment, rebuild percentage: the largest with the least, the least with the largest.
 const SETTINGS: [[u32; 3]; 2] = [[512, 16, 0], [64, 4, 100]];
@@ -51,7 +51,7 @@ fn held(settings: [u32; 3]) -> Vec<Held> {
 fn store(settings: [u32; 3]) -> Store {
     let mut store = Store::new(capacities(settings)).unwrap();
     for (till, _, image) in held(settings) {
-        store.backup(till, &image).unwrap();
+        store.backup(OWNER, till, &image).unwrap();
     }
     store
 }
@@ -85,7 +85,7 @@ fn the_file_is_the_librarys() {
         restored(&bench, "s", &held(settings));
         for version in 1..=3 {
             bench.run(&format!("retire s 0 {version}")).accepted();
-            store.retire(0, version).unwrap();
+            store.retire(OWNER, 0, version).unwrap();
             assert!(bench.read("s") == file_of(store.pool(), store.table()));
         }
         let left: Vec<_> = held(settings).into_iter().filter(|(till, version, _)| *till == 1 || *version > 3).collect();
@@ -100,7 +100,7 @@ fn words_and_fields_go_by_the_store() {
         let ([bytes, blocks, percent], store) = (settings, store(settings));
         let words = format!("blocks of {bytes} bytes, segments of {blocks} blocks, rebuild at {percent} percent\n");
         bench.run("check s").accepted().says(&format!("of up to {} bytes, 64 records, 600 cells, {words}", 40 * bytes));
-        let cells = store.tally().unwrap().cells;
+        let cells = store.tally(OWNER).unwrap().cells;
         let tallied = bench.run("tally s");
         let line = format!(" as whole images, {} bytes in cells\nsettings          {words}", bytes * cells);
         tallied.accepted().says(&line);
@@ -121,7 +121,7 @@ fn lists_and_maps_are_the_librarys() {
         let bench = bench_with_store("list", settings);
         let (store, listed) = (store(settings), bench.run("list s --json").out);
         for (till, version, image) in held(settings) {
-            let hops = store.restore(till, version, &mut vec![0; 40 * 512]).unwrap().hops;
+            let hops = store.restore(OWNER, till, version, &mut vec![0; 40 * 512]).unwrap().hops;
             let (undated, length) = ("\"day\": 0, \"date\": null", image.len());
             let line = format!("{{\"version\": {version}, {undated}, \"bytes\": {length}, \"chain\": {hops},");
             let part = listed.split("{\"till\": ").find(|part| part.starts_with(&format!("{till},"))).unwrap();
@@ -132,7 +132,7 @@ fn lists_and_maps_are_the_librarys() {
             let line = part.lines().find(|one| one.contains(&line)).unwrap();
             assert!(line.contains(&format!("\"null\": {null}, \"blank\": {blank}}}")), "{line}");
         }
-        let tally = store.tally().unwrap();
+        let tally = store.tally(OWNER).unwrap();
         let numbers = bench.run("map s --json");
         numbers.accepted().says(&format!("\"cells\": 600, \"free\": {},", 600 - tally.cells));
         numbers.says(&format!("\"records\": {{\"of\": 64, \"in_use\": {},", tally.records));

@@ -2,7 +2,7 @@
 
 mod common;
 use common::{file_of, letters, Bench};
-use lurdempos::{Capacities, Store};
+use lurdempos::{Capacities, Store, OWNER};
 use std::os::unix::fs::PermissionsExt;
 
 /// A store whose till 0 holds four versions, as many as it can.
@@ -52,9 +52,9 @@ fn keeping_so_many() {
     assert_eq!(bench.run("retire s 0 --keep 1").accepted().out, "till 0: versions 1 to 3 retired, 1536 bytes\n");
     let mut store = Store::new(Capacities::new(2, 4, 16, 8, 64)).unwrap();
     for text in ["ABCDEFGH", "ABCDEFGZ", "A.CDEFGZ", "ABCDEFGH"] {
-        store.backup(0, &letters(text)).unwrap();
+        store.backup(OWNER, 0, &letters(text)).unwrap();
     }
-    (1..=3).for_each(|version| assert_eq!(store.retire(0, version), Ok(512)));
+    (1..=3).for_each(|version| assert_eq!(store.retire(OWNER, 0, version), Ok(512)));
     assert_eq!(bench.read("s"), file_of(store.pool(), store.table()));
     assert_eq!(bench.run("retire s 0 --keep=0").accepted().out, "till 0: version 4 retired, 512 bytes\n");
     assert_eq!(bench.run("retire s 1 --keep 0").accepted().out, "till 1: no version retired\n");

@@ -3,7 +3,7 @@
 mod common;
 use common::Bench;
 
-const COMMANDS: [&str; 21] = [
+const COMMANDS: [&str; 24] = [
     "init",
     "backup",
     "closing",
@@ -21,6 +21,9 @@ const COMMANDS: [&str; 21] = [
     "offer",
     "sent",
     "backup-sent",
+    "rights",
+    "grant",
+    "revoke",
     "export-all",
     "grow",
     "salvage",

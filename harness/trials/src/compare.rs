@@ -3,28 +3,29 @@
 use keeper::collected::misfit;
 use keeper::course::{answer, Lane};
 use keeper::messages::Messages;
+use keeper::staff::any_rights;
 use keeper::stock::Stock;
 use keeper::trial::letters;
 use keeper::words::Words;
 use keeper::{Call, Random};
 use lurdempos::Proved;
 use std::collections::BTreeSet;
-use terms::{Capacities, Collected, LONGEST_STREAM};
+use terms::{Capacities, Collected, LONGEST_STREAM, OWNER, USERS};
 use twin::{fingerprint_of, Twin};
 
 /// What one round of calls was answered.
 pub type Refusals = BTreeSet<u32>;
 
-/// Puts each call to both stores, each time on a fresh copy. Answers the refusals met, after making sure that 10 is
+/// Puts each call of a user to both stores, each time on a fresh copy. Answers the refusals met, after making sure that 10 is
 /// said by every call or by none, and by the twin's own check.
-pub fn compare(pool: &[u8], table: &[u32], calls: &[Call]) -> Refusals {
+pub fn compare(pool: &[u8], table: &[u32], calls: &[(u32, Call)]) -> Refusals {
     let mut proved = Lane { store: Box::new(Proved), pool: pool.to_vec(), table: table.to_vec() };
     let mut plain = Lane { store: Box::new(Twin), pool: pool.to_vec(), table: table.to_vec() };
     let mut refusals = Refusals::new();
     let sound = twin::is_sound(pool, table);
-    for call in calls {
-        let (said, expected) = (answer(&mut proved, call), answer(&mut plain, call));
-        assert!(said == expected, "{call:?}: proved store {:?}, twin {:?}", said.0, expected.0);
+    for (user, call) in calls {
+        let (said, expected) = (answer(&mut proved, *user, call), answer(&mut plain, *user, call));
+        assert!(said == expected, "user {user}, {call:?}: proved store {:?}, twin {:?}", said.0, expected.0);
         assert_eq!(said.0[0] == 10, !sound, "{call:?}: verdict");
         assert!(proved.pool == plain.pool && proved.table == plain.table, "{call:?}: buffers differ");
         if said.0[0] != 0 {
@@ -39,8 +40,15 @@ pub fn compare(pool: &[u8], table: &[u32], calls: &[Call]) -> Refusals {
     refusals
 }
 
-/// One call of each sort that reads a store, for this sound one.
-pub fn each_call(random: &mut Random, pool: &[u8], table: &[u32]) -> Vec<Call> {
+/// One call of each sort that reads a store, for this sound one, by the owner and by anybody.
+pub fn each_call(random: &mut Random, pool: &[u8], table: &[u32]) -> Vec<(u32, Call)> {
+    let calls = each_sort(random, pool, table);
+    let anybody: Vec<u32> = calls.iter().map(|_| random.below(USERS as usize + 2) as u32).collect();
+    let by_anybody = anybody.into_iter().zip(calls.clone());
+    calls.into_iter().map(|call| (OWNER, call)).chain(by_anybody).collect()
+}
+
+fn each_sort(random: &mut Random, pool: &[u8], table: &[u32]) -> Vec<Call> {
     let capacities = Capacities::of_table(table).expect("a sound store");
     let till = random.below(capacities.tills as usize) as u32;
     let held = Words::new(table, capacities).numbers(till as usize);
@@ -66,6 +74,7 @@ pub fn each_call(random: &mut Random, pool: &[u8], table: &[u32]) -> Vec<Call> {
         Call::Offer { till, fingerprints, room },
         Call::Sent { till, sending: messages.sent(random, &image, false) },
         Call::All(all),
+        Call::SetRights { subject: random.between(1, 7) as u32, till, rights: any_rights(random) },
         Call::Dated { till, day, image: image.clone() },
         Call::Backup { till, image },
     ]

@@ -9,7 +9,7 @@ pub fn damage(random: &mut Random, pool: &mut [u8], table: &mut [u32], capacitie
     let at = table.len() - size * capacities.records as usize;
     let (here, there) = (random.below(table.len()), random.below(table.len()));
     let (cell, other) = (block * random.below(pool.len() / block), block * random.below(pool.len() / block));
-    match random.below(22) {
+    match random.below(23) {
         0 => table[here] ^= 1 << random.below(32),
         1 => table[here] = random.edge(),
         2 => table[here] = table[there],
@@ -31,6 +31,7 @@ pub fn damage(random: &mut Random, pool: &mut [u8], table: &mut [u32], capacitie
         18 => point_blank(random, &mut table[..at]),
         19 => shorten(random, &mut table[..at], block),
         20 => redate(random, &mut table[..at]),
+        21 => entitle(random, &mut table[..at]),
         _ => swap_cells(random, pool, &mut table[at..], capacities),
     }
 }
@@ -98,6 +99,19 @@ fn redate(random: &mut Random, words: &mut [u32]) {
         let day = &mut words[4 + random.below(versions) * (3 + blocks) + 2];
         let any = random.number() as u32;
         *day = *random.pick(&[1, any, u32::MAX, day.wrapping_add(1), day.wrapping_sub(1)]);
+    }
+}
+
+/// A till's word of rights, or the word behind it, gets any bits: sound where the users 1 to 7 alone have some.
+fn entitle(random: &mut Random, words: &mut [u32]) {
+    let Some((words, _)) = numbers_of(random, words) else { return };
+    let (any, bit) = (random.number() as u32, 1 << random.below(32));
+    match random.below(8) {
+        0 => words[3] = bit,
+        1 => words[2] = any,
+        2 => words[2] = *random.pick(&[1 << 28, (1 << 28) - 1, u32::MAX, any >> 4 | 1 << 28]),
+        3 | 4 => words[2] ^= bit,
+        _ => words[2] = any >> 4,
     }
 }
 

@@ -37,8 +37,8 @@ pub fn run_from_before(
     let list = List::new(&mut random, capacities, style);
     let mut course = Course::new(capacities, stores()).with_earlier(twin::earlier);
     for n in 1..=calls {
-        let call = list.next(&mut random, &course);
-        course.call(&before.made(&mut random, n, calls, call));
+        let (user, call) = list.next(&mut random, &course);
+        course.call_by(user, &before.made(&mut random, n, calls, call));
         if n % look == 0 {
             let (pool, table) = course.buffers();
             inspect(pool, table, course.keeper());

@@ -136,7 +136,7 @@ fn four_versions(measures: [u32; 3]) -> Trial<'static> {
 }
 
 /// Whether both stores find it sound, with the same answers to every call.
-fn found_sound(one: &Trial, calls: &[Call]) -> bool {
+fn found_sound(one: &Trial, calls: &[(u32, Call)]) -> bool {
     let refusals = compare(&one.pool, &one.table, calls);
     assert!(!refusals.contains(&10) || refusals == BTreeSet::from([10]), "{refusals:?}");
     !refusals.contains(&10)

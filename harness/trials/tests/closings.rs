@@ -11,7 +11,7 @@ use keeper::trial::Trial;
 use keeper::{together, Call, Course, Random};
 use lurdempos::Proved;
 use std::collections::BTreeMap;
-use terms::{Calls, Capacities, Collected, BLOCK_BYTES, SEGMENT_BLOCKS};
+use terms::{Calls, Capacities, Collected, BLOCK_BYTES, OWNER, SEGMENT_BLOCKS};
 use trials::compare::compare;
 use trials::{history, seed, stores, times};
 use twin::{earlier, Twin};
@@ -66,8 +66,8 @@ fn restore_all(course: &mut Course) {
 type Met = BTreeMap<(char, u32), usize>;
 
 /// Makes a closing and counts what it was answered.
-fn close(course: &mut Course, met: &mut Met, closing: &Call) {
-    let answer = course.numbers(closing);
+fn close(course: &mut Course, met: &mut Met, user: u32, closing: &Call) {
+    let answer = course.answered(user, closing).0;
     *met.entry(('a', answer[0])).or_default() += 1;
     if let (0, Call::All(collected)) = (answer[0], closing) {
         answer[1..][..collected.tills.len()].iter().for_each(|&refusal| *met.entry(('c', refusal)).or_default() += 1);
@@ -118,13 +118,14 @@ fn closings_of_every_kind() {
             if closing {
                 make_room(&mut random, &mut course, capacities.versions as usize);
             }
-            let call = if closing { list.closing(&mut random, &course) } else { list.next(&mut random, &course) };
+            let (user, call) =
+                if closing { list.closing_by(&mut random, &course) } else { list.next(&mut random, &course) };
             match before.made(&mut random, n, 120, call) {
                 Call::All(collected) => {
                     twice += has_a_till_twice(&collected) as usize;
-                    close(&mut course, &mut met, &Call::All(collected));
+                    close(&mut course, &mut met, user, &Call::All(collected));
                 }
-                call => drop(course.call(&call)),
+                call => drop(course.call_by(user, &call)),
             }
         }
         restore_all(&mut course);
@@ -161,8 +162,8 @@ fn closings_to_any_store() {
         let list = List::new(&mut random, capacities, Style { retires: 20, kinds: 4 });
         let mut course = Course::from_store(&pool, &table, stores());
         for _ in 0..4 {
-            let closing = list.closing(&mut random, &course);
-            close(&mut course, &mut met, &closing);
+            let (user, closing) = list.closing_by(&mut random, &course);
+            close(&mut course, &mut met, user, &closing);
         }
         restore_all(&mut course);
     }
@@ -183,7 +184,7 @@ fn two_stores() -> [(Trial<'static>, u32); 2] {
 fn said(one: &Trial, unsound: u32, collected: Collected) -> u32 {
     let expected = if each(&collected).is_some() { 0 } else { 4 };
     let expected = if unsound == 0 { expected } else { unsound };
-    let said = compare(&one.pool, &one.table, &[Call::All(collected.clone())]);
+    let said = compare(&one.pool, &one.table, &[(OWNER, Call::All(collected.clone()))]);
     assert!(said.contains(&expected), "{collected:?}: {said:?}");
     expected
 }

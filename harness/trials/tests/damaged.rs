@@ -51,7 +51,8 @@ fn any_sound_stores() {
         let list = List::new(&mut random, capacities, Style { retires: 30, kinds: 4 });
         let mut course = Course::from_store(&pool, &table, stores());
         for _ in 0..12 {
-            course.call(&list.next(&mut random, &course));
+            let (user, call) = list.next(&mut random, &course);
+            course.call_by(user, &call);
         }
         inspect(course.buffers().0, course.buffers().1, course.keeper());
         met.extend(course.met.into_iter().map(|(_, number)| number));

@@ -8,7 +8,7 @@ use keeper::sketch::sound_store;
 use keeper::trial::{letters, Trial};
 use keeper::{dated, Call, Course, Random};
 use std::collections::{BTreeMap, BTreeSet};
-use terms::{Calls, Capacities, Sending};
+use terms::{Calls, Capacities, Sending, OWNER};
 use trials::compare::{compare, each_call};
 use trials::{history, seed, stores, times};
 use twin::{earlier, fingerprint_of, Twin};
@@ -81,8 +81,8 @@ fn look_up_all(course: &mut Course, till: u32, met: &mut Met) {
 /// Makes a call and counts what it was: a backup with a day by where that lies, one of any other kind where there is a
 /// day to take, a retire of the newest.
 fn go_on(random: &mut Random, course: &mut Course, list: &List, capacities: Capacities, met: &mut Met) {
-    let call = match random.below(8) {
-        0 => list.closing(random, course),
+    let (user, call) = match random.below(8) {
+        0 => (OWNER, list.closing(random, course)),
         _ => list.next(random, course),
     };
     let newest = |till: u32| course.keeper().till(till).map_or(0, |till| till.newest_day());
@@ -98,7 +98,7 @@ fn go_on(random: &mut Random, course: &mut Course, list: &List, capacities: Capa
         }
         _ => "",
     };
-    let refusal = course.call(&call)[0];
+    let refusal = course.call_by(user, &call)[0];
     if refusal == 0 || kind == "earlier" && refusal == 28 {
         *met.entry(kind).or_default() += 1;
     }
@@ -116,8 +116,8 @@ fn lists_with_days() {
         let mut course = Course::new(capacities, stores()).with_earlier(earlier);
         let before = [Before::Never, Before::FirstThird, Before::Half][round % 3];
         for n in 0..40 {
-            let call = list.next(&mut random, &course);
-            course.call(&before.made(&mut random, n, 40, call));
+            let (user, call) = list.next(&mut random, &course);
+            course.call_by(user, &before.made(&mut random, n, 40, call));
         }
         for n in 0..120 {
             go_on(&mut random, &mut course, &list, capacities, &mut met);

@@ -2,7 +2,7 @@
 
 use keeper::trial::{self, Trial};
 use std::collections::BTreeSet;
-use terms::{Calls, Capacities, Closing, Refusal, Sending, BASE, BLOCK_BYTES, SEGMENT_BLOCKS};
+use terms::{Calls, Capacities, Closing, Refusal, Right, Rights, Sending, BASE, BLOCK_BYTES, OWNER, SEGMENT_BLOCKS};
 use trials::stores;
 use twin::fingerprint_of;
 
@@ -90,7 +90,7 @@ fn with(store: &dyn Calls, good: Capacities, n: usize, value: u32, expected: u32
 fn backups(store: &dyn Calls) -> Vec<(u32, u32)> {
     let mut cases = Vec::new();
     let mut one = Trial::new(store, Capacities::new(1, 2, 16, 2, 9));
-    let make = |one: &mut Trial, till, image: &[u8]| store.backup(&mut one.pool, &mut one.table, till, image)[0];
+    let make = |one: &mut Trial, till, image: &[u8]| store.backup(&mut one.pool, &mut one.table, OWNER, till, image)[0];
     one.table[5] = 1;
     cases.push((make(&mut one, 1, &[]), 10));
     one.table[5] = 0;
@@ -101,7 +101,7 @@ fn backups(store: &dyn Calls) -> Vec<(u32, u32)> {
     cases.push((make(&mut one, 0, &[]), 4));
     cases.push((make(&mut one, 0, &[1; 1_025]), 4));
     cases.push((make(&mut one, 0, &letters("ABCDEFGHI")), 11));
-    cases.push((store.retire(&mut one.pool, &mut one.table, 0, 65_534)[0], 0));
+    cases.push((store.retire(&mut one.pool, &mut one.table, OWNER, 0, 65_534)[0], 0));
     cases.push((make(&mut one, 0, &letters("ABCDEFGHI")), 12));
     let mut one = Trial::new(store, Capacities::new(2, 4, 16, 2, 9));
     cases.push((make(&mut one, 0, &letters("ABCDEFGH")), 0));
@@ -121,7 +121,7 @@ fn dated(store: &dyn Calls) -> Vec<(u32, u32)> {
     let mut one = Trial::new(store, Capacities::new(2, 2, 16, 2, 9));
     let make = |one: &mut Trial, till, day, image: &[u8]| {
         let before = (one.pool.clone(), one.table.clone());
-        let answer = store.backup_dated(&mut one.pool, &mut one.table, till, day, image);
+        let answer = store.backup_dated(&mut one.pool, &mut one.table, OWNER, till, day, image);
         let stays = answer[1] == 0 && before == (one.pool.clone(), one.table.clone());
         assert!(answer[0] == 0 || stays, "altered though refused with {}", answer[0]);
         answer[0]
@@ -144,7 +144,7 @@ fn dated(store: &dyn Calls) -> Vec<(u32, u32)> {
     for day in [0, 7, 8, u32::MAX] {
         cases.extend([(make(&mut one, 0, day, &large), 11), (make(&mut one, 0, day, &[]), 4)]);
     }
-    cases.push((store.retire(&mut one.pool, &mut one.table, 0, 65_534)[0], 0));
+    cases.push((store.retire(&mut one.pool, &mut one.table, OWNER, 0, 65_534)[0], 0));
     for day in [0, 7, 8, u32::MAX] {
         cases.extend([(make(&mut one, 0, day, &large), 12), (make(&mut one, 0, day, &[]), 4)]);
     }
@@ -174,7 +174,7 @@ fn dated_without_room(store: &dyn Calls, make: impl Fn(&mut Trial, u32, u32, &[u
 fn days(store: &dyn Calls) -> Vec<(u32, u32)> {
     let mut one = Trial::new(store, Capacities::new(2, 4, 16, 8, 32));
     let on = |one: &Trial, till, day| {
-        let [refusal, version] = store.version_on(&one.pool, &one.table, till, day);
+        let [refusal, version] = store.version_on(&one.pool, &one.table, OWNER, till, day);
         assert_eq!(refusal == 0, version != 0, "a version and a refusal, or neither");
         refusal
     };
@@ -192,8 +192,8 @@ fn days(store: &dyn Calls) -> Vec<(u32, u32)> {
         cases.push((on(&one, till, day), 10));
     }
     cases.extend([
-        (store.version_on(&[], &[], 0, 0)[0], 10),
-        (store.version_on(&one.pool, &one.table[..7], 9, 0)[0], 10),
+        (store.version_on(&[], &[], OWNER, 0, 0)[0], 10),
+        (store.version_on(&one.pool, &one.table[..7], OWNER, 9, 0)[0], 10),
     ]);
     cases
 }
@@ -202,7 +202,7 @@ fn days(store: &dyn Calls) -> Vec<(u32, u32)> {
 fn others(store: &dyn Calls) -> Vec<(u32, u32)> {
     let mut one = Trial::of_page(store, 32);
     for image in ["ABCDEFGH", "ABCDEFGZ", "A"] {
-        store.backup(&mut one.pool, &mut one.table, 0, &letters(image));
+        store.backup(&mut one.pool, &mut one.table, OWNER, 0, &letters(image));
     }
     let mut cases = Vec::new();
     let mut output = vec![0; 512];
@@ -223,37 +223,37 @@ fn others(store: &dyn Calls) -> Vec<(u32, u32)> {
         (0, 0, 17, 17),
     ] {
         let in_no_room = if restored == 0 { 5 } else { restored };
-        cases.push((store.restore(&one.pool, &one.table, till, version, &mut [])[0], in_no_room));
-        cases.push((store.restore(&one.pool, &one.table, till, version, &mut output[..64])[0], restored));
-        cases.push((store.retire(&mut one.pool, &mut one.table, till, version)[0], retired));
-        cases.push((store.listing(&one.pool, &one.table, till)[0], if till == 0 { 0 } else { 3 }));
+        cases.push((store.restore(&one.pool, &one.table, OWNER, till, version, &mut [])[0], in_no_room));
+        cases.push((store.restore(&one.pool, &one.table, OWNER, till, version, &mut output[..64])[0], restored));
+        cases.push((store.retire(&mut one.pool, &mut one.table, OWNER, till, version)[0], retired));
+        cases.push((store.listing(&one.pool, &one.table, OWNER, till)[0], if till == 0 { 0 } else { 3 }));
     }
     one.pool[64 * 31] = 1;
-    cases.push((store.restore(&one.pool, &one.table, 1, 0, &mut [])[0], 10));
-    cases.push((store.retire(&mut one.pool, &mut one.table, 1, 0)[0], 10));
-    cases.push((store.listing(&one.pool, &one.table, 1)[0], 10));
-    cases.push((store.tally(&one.pool, &one.table)[0], 10));
-    cases.push((store.tally(&[], &[])[0], 10));
-    cases.push((store.tally(&one.pool, &one.table[..7])[0], 10));
+    cases.push((store.restore(&one.pool, &one.table, OWNER, 1, 0, &mut [])[0], 10));
+    cases.push((store.retire(&mut one.pool, &mut one.table, OWNER, 1, 0)[0], 10));
+    cases.push((store.listing(&one.pool, &one.table, OWNER, 1)[0], 10));
+    cases.push((store.tally(&one.pool, &one.table, OWNER)[0], 10));
+    cases.push((store.tally(&[], &[], OWNER)[0], 10));
+    cases.push((store.tally(&one.pool, &one.table[..7], OWNER)[0], 10));
     cases
 }
 
 /// Writing a stream 10, 3, 17 or 18, 5; reading one 24, 25, 5, then 24 and 26 in its order.
 fn streams(store: &dyn Calls) -> Vec<(u32, u32)> {
     let mut one = Trial::of_page(store, 32);
-    store.backup(&mut one.pool, &mut one.table, 0, &letters("A"));
+    store.backup(&mut one.pool, &mut one.table, OWNER, 0, &letters("A"));
     let (mut stream, mut cases) = (vec![0; 70], Vec::new());
     let mut write = |one: &Trial, asked: &[(u32, u32, usize, u32)]| {
         for &(till, version, room, expected) in asked {
             let output = &mut stream[..room];
-            cases.push((store.write_stream(&one.pool, &one.table, till, version, output)[0], expected));
+            cases.push((store.write_stream(&one.pool, &one.table, OWNER, till, version, output)[0], expected));
         }
     };
     write(&one, &[(1, 0, 0, 3), (u32::MAX, 1, 70, 3), (0, 0, 0, 17), (0, 2, 70, 17), (0, u32::MAX, 0, 17)]);
     write(&one, &[(0, 1, 68, 5), (0, 1, 69, 0)]);
     one.retire(1);
     write(&one, &[(1, 1, 0, 3), (0, 1, 0, 18), (0, 1, 70, 18), (0, 2, 0, 17), (0, 0, 70, 17)]);
-    cases.push((store.write_stream(&[], &[], 1, 0, &mut [])[0], 10));
+    cases.push((store.write_stream(&[], &[], OWNER, 1, 0, &mut [])[0], 10));
     let mut read = |stream: &[u8], room: usize, expected| {
         cases.push((store.read_stream(stream, &mut vec![0; room])[0], expected));
     };
@@ -276,7 +276,7 @@ fn offers(store: &dyn Calls) -> Vec<(u32, u32)> {
     let mut one = Trial::new(store, Capacities::new(2, 2, 17, 4, 20));
     let offer = |one: &Trial, till: u32, prints: usize, count: usize| {
         let mut marks = vec![9; count];
-        let [refusal] = store.offer(&one.pool, &one.table, till, &vec![1; prints], &mut marks);
+        let [refusal] = store.offer(&one.pool, &one.table, OWNER, till, &vec![1; prints], &mut marks);
         assert!(marks.iter().all(|&mark| mark == if refusal == 0 { 0 } else { 9 }), "marks after {refusal}");
         refusal
     };
@@ -338,7 +338,7 @@ fn messages(store: &dyn Calls) -> Vec<(u32, u32)> {
     let mut one = Trial::new(store, Capacities::new(2, 2, 17, 2, 9));
     let make = |one: &mut Trial, till, sending: &Sending| {
         let before = (one.pool.clone(), one.table.clone());
-        let answer = store.backup_sent(&mut one.pool, &mut one.table, till, sending.message());
+        let answer = store.backup_sent(&mut one.pool, &mut one.table, OWNER, till, sending.message());
         let stays = answer[1] == 0 && before == (one.pool.clone(), one.table.clone());
         assert!(answer[0] == 0 || stays, "altered though refused with {}", answer[0]);
         answer[0]
@@ -359,7 +359,7 @@ fn messages(store: &dyn Calls) -> Vec<(u32, u32)> {
         cases.push((make(&mut one, 2, sending), 3));
     }
     misfits().iter().for_each(|sending| cases.push((make(&mut one, 0, sending), 4)));
-    cases.push((store.retire(&mut one.pool, &mut one.table, 0, 65_534)[0], 0));
+    cases.push((store.retire(&mut one.pool, &mut one.table, OWNER, 0, 65_534)[0], 0));
     [&small, &other, &unknown].into_iter().for_each(|sending| cases.push((make(&mut one, 0, sending), 12)));
 
     // Eight cells are left, and one record: 19 and 20 of a later segment come before 14 and 16 of an earlier one.
@@ -422,12 +422,33 @@ fn closings(store: &dyn Calls) -> Vec<(u32, u32)> {
         one.pool[64 * 8] = byte;
         for (tills, lengths, bytes, expected) in LISTS {
             let (before, images) = ((one.pool.clone(), one.table.clone()), &vec![7; bytes]);
-            let answer = store.backup_all(&mut one.pool, &mut one.table, Closing { tills, lengths, images });
+            let answer = store.backup_all(&mut one.pool, &mut one.table, OWNER, Closing { tills, lengths, images });
             let stays = answer[1..].iter().all(|&field| field == 0) && before == (one.pool.clone(), one.table.clone());
             assert!(answer[0] == 0 || stays, "altered though refused with {}", answer[0]);
             cases.push((answer[0], if byte == 0 { expected } else { 10 }));
         }
     }
+    cases
+}
+
+/// A change of rights 10, 3, 22, 23; the tally 10, 22, 23; what keeper::keys has of every call, in brief.
+fn users(store: &dyn Calls) -> Vec<(u32, u32)> {
+    let mut one = Trial::new(store, Capacities::new(2, 4, 16, 8, 32));
+    let rights = Rights::only(Right::List);
+    let mut cases = Vec::new();
+    let asked = [(9, 9, 2, 3), (8, 1, 0, 22), (0, 0, 0, 22), (1, 0, 0, 22), (1, 8, 0, 22), (1, 1, 0, 23), (0, 1, 0, 0)];
+    for (user, subject, till, expected) in asked {
+        let Trial { pool, table, .. } = &mut one;
+        let [refusal] = store.set_rights(pool, table, user, subject, till, rights);
+        cases.push((refusal, expected));
+    }
+    for (user, till, expected) in [(1, 0, 0), (1, 1, 23), (2, 0, 23), (8, 0, 22), (8, 2, 3), (0, 1, 0)] {
+        cases.push((store.listing(&one.pool, &one.table, user, till)[0], expected));
+    }
+    cases.extend([(0, 0), (1, 23), (8, 22)].map(|(user, said)| (store.tally(&one.pool, &one.table, user)[0], said)));
+    one.table[TILL + 3] = 1;
+    cases.push((store.set_rights(&one.pool, &mut one.table, 9, 9, 9, rights)[0], 10));
+    cases.push((store.tally(&one.pool, &one.table, 9)[0], 10));
     cases
 }
 
@@ -450,6 +471,7 @@ fn every_number() {
     met.extend(numbers(closings));
     met.extend(numbers(dated));
     met.extend(numbers(days));
+    met.extend(numbers(users));
     met.extend(numbers(turns));
     let all: BTreeSet<u32> = Refusal::ALL.iter().map(|refusal| refusal.number()).chain([0]).collect();
     assert_eq!(met, all);

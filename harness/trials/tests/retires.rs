@@ -63,7 +63,8 @@ fn emptied_in_every_order() {
         let list = List::new(&mut random, capacities, Style { retires: 0, ..style });
         let mut course = Course::new(capacities, stores());
         for _ in 0..60 {
-            course.call(&list.next(&mut random, &course));
+            let (user, call) = list.next(&mut random, &course);
+            course.call_by(user, &call);
         }
         let order = [Order::NewestFirst, Order::OldestFirst, Order::Any][round % 3];
         for till in 0..capacities.tills {

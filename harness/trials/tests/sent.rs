@@ -10,7 +10,7 @@ use keeper::trial::{letters, Trial};
 use keeper::{sent, Call, Course, Random};
 use lurdempos::Proved;
 use std::collections::BTreeMap;
-use terms::{Calls, Capacities, Refusal, Sending, BLOCK_BYTES, SEGMENT_BLOCKS};
+use terms::{Calls, Capacities, Refusal, Sending, BLOCK_BYTES, OWNER, SEGMENT_BLOCKS};
 use trials::compare::compare;
 use trials::{history, seed, stores, times};
 use twin::{earlier, fingerprint_of, Twin};
@@ -87,7 +87,7 @@ fn exchange(course: &mut Course, till: u32, image: &[u8], segment: usize) -> (u3
     let (fingerprints, room) = (whole.fingerprints.clone(), whole.marks.len());
     let mut marks = vec![9; room];
     let (pool, table) = course.buffers();
-    assert_eq!(Proved.offer(pool, table, till, &fingerprints, &mut marks), [0]);
+    assert_eq!(Proved.offer(pool, table, OWNER, till, &fingerprints, &mut marks), [0]);
     assert_eq!(course.call(&Call::Offer { till, fingerprints, room })[0], 0);
     let sending = whole.lacking(&marks);
     let bytes = sending.segments.len();
@@ -134,13 +134,13 @@ fn tills_that_do_it_right() {
         let mut course = Course::new(capacities, stores()).with_earlier(earlier);
         let before = [Before::Never, Before::FirstThird, Before::Half][round % 3];
         for n in 0..200 {
-            let call = list.next(&mut random, &course);
+            let (user, call) = list.next(&mut random, &course);
             match before.made(&mut random, n, 200, call) {
                 Call::Backup { till, image } if till < capacities.tills && fits_in(&image, capacities) => {
                     let (refusal, _) = exchange(&mut course, till, &image, capacities.segment_bytes());
                     *met.entry(refusal).or_default() += 1;
                 }
-                call => drop(course.call(&call)),
+                call => drop(course.call_by(user, &call)),
             }
         }
         inspect(course.buffers().0, course.buffers().1, course.keeper());
@@ -177,7 +177,7 @@ fn every_small_message() {
             true => stock.assembled(&sending, &fingerprint_of).map_or_else(Refusal::number, |_| 0),
             false => 4,
         };
-        let said = compare(&one.pool, &one.table, &[Call::Sent { till: 0, sending }]);
+        let said = compare(&one.pool, &one.table, &[(OWNER, Call::Sent { till: 0, sending })]);
         assert!(said.contains(&expected) || expected == 0 && said.is_subset(&[14, 16].into()), "{choice}: {said:?}");
         *met.entry(expected).or_default() += 1;
     }
@@ -196,10 +196,10 @@ fn messages_to_any_store() {
         let list = List::new(&mut random, capacities, Style { retires: 20, kinds: 4 });
         let mut course = Course::from_store(&pool, &table, stores());
         for _ in 0..40 {
-            let call = list.next(&mut random, &course);
+            let (user, call) = list.next(&mut random, &course);
             if matches!(call, Call::Offer { .. } | Call::Sent { .. }) {
                 let letter = if matches!(call, Call::Offer { .. }) { 'f' } else { 'm' };
-                *met.entry((letter, course.call(&call)[0])).or_default() += 1;
+                *met.entry((letter, course.call_by(user, &call)[0])).or_default() += 1;
             }
         }
         inspect(course.buffers().0, course.buffers().1, course.keeper());

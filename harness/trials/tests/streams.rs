@@ -3,7 +3,7 @@
 use keeper::Random;
 use lurdempos::Proved;
 use std::collections::BTreeMap;
-use terms::{Calls, Capacities, BLOCK, LONGEST_IMAGE, LONGEST_STREAM, SEGMENT};
+use terms::{Calls, Capacities, BLOCK, LONGEST_IMAGE, LONGEST_STREAM, OWNER, SEGMENT};
 use trials::{seed, times};
 use twin::{stream_of, Twin};
 
@@ -62,15 +62,15 @@ fn store_with(random: &mut Random, image: &[u8]) -> (Vec<u8>, Vec<u32>) {
     let [0, words] = Proved.table_length(capacities) else { panic!("no length") };
     let (mut pool, mut table) = (vec![0; capacities.pool_bytes()], vec![0; words as usize]);
     assert_eq!(Proved.lay_out(&mut pool, &mut table, capacities), [0]);
-    assert_eq!(Proved.backup(&mut pool, &mut table, 0, image), [0, 1]);
+    assert_eq!(Proved.backup(&mut pool, &mut table, OWNER, 0, image), [0, 1]);
     (pool, table)
 }
 
 /// Both writers answer alike and leave the same output.
 fn write(pool: &[u8], table: &[u32], room: usize) -> ([u32; 2], Vec<u8>) {
     let (mut output, mut plain) = (vec![UNTOUCHED; room], vec![UNTOUCHED; room]);
-    let answer = Proved.write_stream(pool, table, 0, 1, &mut output);
-    assert_eq!(answer, Twin.write_stream(pool, table, 0, 1, &mut plain));
+    let answer = Proved.write_stream(pool, table, OWNER, 0, 1, &mut output);
+    assert_eq!(answer, Twin.write_stream(pool, table, OWNER, 0, 1, &mut plain));
     assert!(output == plain, "outputs differ");
     (answer, output)
 }

@@ -1,12 +1,12 @@
 //! The twin's calls with answers as bare numbers.
 
 use crate::Era;
-use terms::{numbers, Calls, Capacities, Closing, Message, CLOSING_NUMBERS};
+use terms::{numbers, Calls, Capacities, Closing, Message, Rights, CLOSING_NUMBERS};
 
 /// The twin, where a test can be put to more than one store.
 pub struct Twin;
 
-/// A backup as it was made before blank blocks were known.
+/// A backup as it was made before blank blocks were known, and before there were users.
 pub fn earlier(pool: &mut [u8], table: &mut [u32], till: u32, image: &[u8]) -> [u32; 2] {
     numbers(crate::backup_by(Era::BeforeBlanks, pool, table, till, image))
 }
@@ -24,52 +24,88 @@ impl Calls for Twin {
         numbers(crate::lay_out(pool, table, capacities))
     }
 
-    fn backup(&self, pool: &mut [u8], table: &mut [u32], till: u32, image: &[u8]) -> [u32; 2] {
-        numbers(crate::backup(pool, table, till, image))
+    fn backup(&self, pool: &mut [u8], table: &mut [u32], user: u32, till: u32, image: &[u8]) -> [u32; 2] {
+        numbers(crate::backup(pool, table, user, till, image))
     }
 
-    fn backup_dated(&self, pool: &mut [u8], table: &mut [u32], till: u32, day: u32, image: &[u8]) -> [u32; 2] {
-        numbers(crate::backup_dated(pool, table, till, day, image))
+    fn backup_dated(
+        &self,
+        pool: &mut [u8],
+        table: &mut [u32],
+        user: u32,
+        till: u32,
+        day: u32,
+        image: &[u8],
+    ) -> [u32; 2] {
+        numbers(crate::backup_dated(pool, table, user, till, day, image))
     }
 
-    fn backup_all(&self, pool: &mut [u8], table: &mut [u32], closing: Closing) -> [u32; CLOSING_NUMBERS] {
-        numbers(crate::backup_all(pool, table, closing))
+    fn backup_all(&self, pool: &mut [u8], table: &mut [u32], user: u32, closing: Closing) -> [u32; CLOSING_NUMBERS] {
+        numbers(crate::backup_all(pool, table, user, closing))
     }
 
-    fn restore(&self, pool: &[u8], table: &[u32], till: u32, version: u32, output: &mut [u8]) -> [u32; 3] {
-        numbers(crate::restore(pool, table, till, version, output))
+    fn restore(&self, pool: &[u8], table: &[u32], user: u32, till: u32, version: u32, output: &mut [u8]) -> [u32; 3] {
+        numbers(crate::restore(pool, table, user, till, version, output))
     }
 
-    fn retire(&self, pool: &mut [u8], table: &mut [u32], till: u32, version: u32) -> [u32; 2] {
-        numbers(crate::retire(pool, table, till, version))
+    fn retire(&self, pool: &mut [u8], table: &mut [u32], user: u32, till: u32, version: u32) -> [u32; 2] {
+        numbers(crate::retire(pool, table, user, till, version))
     }
 
-    fn listing(&self, pool: &[u8], table: &[u32], till: u32) -> [u32; 4] {
-        numbers(crate::listing(pool, table, till))
+    fn listing(&self, pool: &[u8], table: &[u32], user: u32, till: u32) -> [u32; 4] {
+        numbers(crate::listing(pool, table, user, till))
     }
 
-    fn version_on(&self, pool: &[u8], table: &[u32], till: u32, day: u32) -> [u32; 2] {
-        numbers(crate::version_on(pool, table, till, day))
+    fn version_on(&self, pool: &[u8], table: &[u32], user: u32, till: u32, day: u32) -> [u32; 2] {
+        numbers(crate::version_on(pool, table, user, till, day))
     }
 
-    fn tally(&self, pool: &[u8], table: &[u32]) -> [u32; 4] {
-        numbers(crate::tally(pool, table))
+    fn tally(&self, pool: &[u8], table: &[u32], user: u32) -> [u32; 4] {
+        numbers(crate::tally(pool, table, user))
     }
 
-    fn write_stream(&self, pool: &[u8], table: &[u32], till: u32, version: u32, output: &mut [u8]) -> [u32; 2] {
-        numbers(crate::write_stream(pool, table, till, version, output))
+    fn set_rights(
+        &self,
+        pool: &[u8],
+        table: &mut [u32],
+        user: u32,
+        subject: u32,
+        till: u32,
+        rights: Rights,
+    ) -> [u32; 1] {
+        numbers(crate::set_rights(pool, table, user, subject, till, rights))
+    }
+
+    fn write_stream(
+        &self,
+        pool: &[u8],
+        table: &[u32],
+        user: u32,
+        till: u32,
+        version: u32,
+        output: &mut [u8],
+    ) -> [u32; 2] {
+        numbers(crate::write_stream(pool, table, user, till, version, output))
     }
 
     fn read_stream(&self, stream: &[u8], output: &mut [u8]) -> [u32; 2] {
         numbers(crate::read_stream(stream, output))
     }
 
-    fn offer(&self, pool: &[u8], table: &[u32], till: u32, fingerprints: &[u8], marks: &mut [u8]) -> [u32; 1] {
-        numbers(crate::offer(pool, table, till, fingerprints, marks))
+    fn offer(
+        &self,
+        pool: &[u8],
+        table: &[u32],
+        user: u32,
+        till: u32,
+        fingerprints: &[u8],
+        marks: &mut [u8],
+    ) -> [u32; 1] {
+        numbers(crate::offer(pool, table, user, till, fingerprints, marks))
     }
 
-    fn backup_sent(&self, pool: &mut [u8], table: &mut [u32], till: u32, message: Message) -> [u32; 2] {
-        numbers(crate::backup_sent(pool, table, till, message))
+    fn backup_sent(&self, pool: &mut [u8], table: &mut [u32], user: u32, till: u32, message: Message) -> [u32; 2] {
+        numbers(crate::backup_sent(pool, table, user, till, message))
     }
 
     fn sha1(&self, message: &[u8]) -> [u32; 5] {

@@ -1,11 +1,12 @@
 //! All tills at closing: several images in one call, each filed as a backup of its own.
 
+use crate::users::By;
 use crate::{backup_in, sound, New};
 use terms::{Closing, Each, Refusal, MOST_IMAGES};
 
-/// Files each image in turn and answers what became of it; a refused one does not stop the later ones. The store is
+/// Files each image of a user in turn and answers what became of it; a refused one does not stop the later ones. The store is
 /// checked once, since a backup leaves it sound.
-pub fn backup_all(pool: &mut [u8], table: &mut [u32], closing: Closing) -> Result<Each, Refusal> {
+pub fn backup_all(pool: &mut [u8], table: &mut [u32], user: u32, closing: Closing) -> Result<Each, Refusal> {
     let mut found = sound::check(pool, table)?;
     if !fits(closing) {
         return Err(Refusal::ImageLength);
@@ -14,7 +15,7 @@ pub fn backup_all(pool: &mut [u8], table: &mut [u32], closing: Closing) -> Resul
     let file = |(&till, &length): (&u32, &u32)| {
         let image;
         (image, left) = left.split_at(length as usize);
-        backup_in(&mut found, pool, table, till, New::now(image))
+        backup_in(&mut found, pool, table, By { user, till }, New::now(image))
     };
     Ok(closing.tills.iter().zip(closing.lengths).map(file).collect())
 }

@@ -6,6 +6,8 @@ use terms::{Capacities, Refusal};
 
 pub const HEADER: usize = 8;
 pub const TILL_HEAD: usize = 4;
+/// The word of a till's head that has what users 1 to 7 may do.
+pub const RIGHTS: usize = 2;
 pub const SLOT_HEAD: usize = 3;
 pub const RECORD_HEAD: usize = 3;
 
@@ -110,6 +112,11 @@ impl<'a> TillWords<'a> {
 
     pub fn held(&self) -> usize {
         self.words[1] as usize
+    }
+
+    /// What users 1 to 7 may do, four bits for each.
+    pub fn rights(&self) -> u32 {
+        self.words[RIGHTS]
     }
 
     /// The numbers held, rising.

@@ -18,6 +18,7 @@ mod sweep;
 mod take_over;
 mod trace;
 mod turn;
+mod users;
 
 pub use bare::{earlier, Twin};
 pub use closing::backup_all;
@@ -30,8 +31,10 @@ pub use sent::{backup_sent, offer};
 pub use sha1::{fingerprint_of, sha1};
 use sound::Found;
 pub use stream::{read_stream, stream_of, write_stream};
-use terms::{Capacities, Listing, Refusal, Restored, Tally, LAST_NUMBER};
+use terms::{Capacities, Listing, Refusal, Restored, Right, Tally, LAST_NUMBER, OWNER};
 use trace::End;
+pub use users::set_rights;
+use users::{owned, By};
 
 /// Words of the table that these capacities need.
 pub fn table_length(capacities: Capacities) -> Result<usize, Refusal> {
@@ -56,16 +59,17 @@ pub fn is_sound(pool: &[u8], table: &[u32]) -> bool {
 }
 
 /// Oldest and newest held number of a till, and the last given.
-pub fn listing(pool: &[u8], table: &[u32], till: u32) -> Result<Listing, Refusal> {
+pub fn listing(pool: &[u8], table: &[u32], user: u32, till: u32) -> Result<Listing, Refusal> {
     let layout = sound::check(pool, table)?.layout;
-    let till = layout.till_of(table, layout.till(till)?);
+    let till = layout.till_of(table, By { user, till }.with(Right::List, &layout, table)?);
     let [oldest, newest] = [till.numbers().next(), till.numbers().last()].map(|number| number.unwrap_or(0));
     Ok(Listing { oldest, newest, last: till.last() })
 }
 
-/// Occupied cells, records in use, sum of all counts.
-pub fn tally(pool: &[u8], table: &[u32]) -> Result<Tally, Refusal> {
+/// Occupied cells, records in use, sum of all counts; for the owner.
+pub fn tally(pool: &[u8], table: &[u32], user: u32) -> Result<Tally, Refusal> {
     let layout = sound::check(pool, table)?.layout;
+    owned(user)?;
     Ok(layout.records_of(table).iter().fold(Tally::default(), |sum, words| Tally {
         cells: sum.cells + words[0].count_ones(),
         records: sum.records + (words[0] != 0) as u32,
@@ -74,13 +78,14 @@ pub fn tally(pool: &[u8], table: &[u32]) -> Result<Tally, Refusal> {
 }
 
 /// Files an image as a till's next version and answers its number.
-pub fn backup(pool: &mut [u8], table: &mut [u32], till: u32, image: &[u8]) -> Result<u32, Refusal> {
-    backup_by(Era::WithBlanks, pool, table, till, image)
+pub fn backup(pool: &mut [u8], table: &mut [u32], user: u32, till: u32, image: &[u8]) -> Result<u32, Refusal> {
+    backup_in(&mut sound::check(pool, table)?, pool, table, By { user, till }, New::now(image))
 }
 
-/// The same by the rule of an era.
+/// The same by the rule of an era, as the owner makes it: an earlier one had no users.
 pub fn backup_by(era: Era, pool: &mut [u8], table: &mut [u32], till: u32, image: &[u8]) -> Result<u32, Refusal> {
-    backup_in(&mut sound::check(pool, table)?, pool, table, till, New { era, ..New::now(image) })
+    let by = By { user: OWNER, till };
+    backup_in(&mut sound::check(pool, table)?, pool, table, by, New { era, ..New::now(image) })
 }
 
 /// An image that is to be filed.
@@ -99,8 +104,8 @@ impl New<'_> {
 }
 
 /// A backup in a store that was found sound. What was found then goes for the store that is left.
-fn backup_in(found: &mut Found, pool: &mut [u8], table: &mut [u32], till: u32, new: New) -> Result<u32, Refusal> {
-    let till = found.layout.till(till)?;
+fn backup_in(found: &mut Found, pool: &mut [u8], table: &mut [u32], by: By, new: New) -> Result<u32, Refusal> {
+    let till = by.with(Right::BackUp, &found.layout, table)?;
     if new.image.is_empty() || new.image.len() > found.layout.bytes * found.layout.blocks {
         return Err(Refusal::ImageLength);
     }
@@ -159,9 +164,16 @@ fn file(
 }
 
 /// Writes a held version's image to the output.
-pub fn restore(pool: &[u8], table: &[u32], till: u32, version: u32, output: &mut [u8]) -> Result<Restored, Refusal> {
+pub fn restore(
+    pool: &[u8],
+    table: &[u32],
+    user: u32,
+    till: u32,
+    version: u32,
+    output: &mut [u8],
+) -> Result<Restored, Refusal> {
     let layout = sound::check(pool, table)?.layout;
-    let till = layout.till_of(table, layout.till(till)?);
+    let till = layout.till_of(table, By { user, till }.with(Right::Restore, &layout, table)?);
     let slot = till.slot_with(version)?;
     let length = till.length(slot);
     let output = output.get_mut(..length).ok_or(Refusal::ShortOutput)?;
@@ -180,9 +192,9 @@ pub fn restore(pool: &[u8], table: &[u32], till: u32, version: u32, output: &mut
 }
 
 /// Takes a held version away and answers its length.
-pub fn retire(pool: &mut [u8], table: &mut [u32], till: u32, version: u32) -> Result<u32, Refusal> {
+pub fn retire(pool: &mut [u8], table: &mut [u32], user: u32, till: u32, version: u32) -> Result<u32, Refusal> {
     let Found { layout, mut occupied } = sound::check(pool, table)?;
-    let till = layout.till(till)?;
+    let till = By { user, till }.with(Right::Retire, &layout, table)?;
     let before = layout.till_of(table, till);
     let slot = before.slot_with(version)?;
     let (length, held) = (before.length(slot), before.held());

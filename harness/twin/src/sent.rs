@@ -3,15 +3,23 @@
 use crate::layout::{ones, Layout, Record};
 use crate::rows::{is_blank, Blocks, Records};
 use crate::sha1::fingerprint_of;
+use crate::users::By;
 use crate::{file, room_in, sound, New};
 use std::borrow::Cow;
 use std::collections::HashMap;
-use terms::{Fingerprint, Message, Refusal, FINGERPRINT};
+use terms::{Fingerprint, Message, Refusal, Right, FINGERPRINT};
 
 /// Marks with 1, else 0, each fingerprint that the all-zero segment has, or a whole record that can match.
-pub fn offer(pool: &[u8], table: &[u32], till: u32, fingerprints: &[u8], marks: &mut [u8]) -> Result<(), Refusal> {
+pub fn offer(
+    pool: &[u8],
+    table: &[u32],
+    user: u32,
+    till: u32,
+    fingerprints: &[u8],
+    marks: &mut [u8],
+) -> Result<(), Refusal> {
     let layout = sound::check(pool, table)?.layout;
-    layout.till(till)?;
+    By { user, till }.with(Right::BackUp, &layout, table)?;
     let most = layout.blocks.div_ceil(layout.positions);
     if !(1..=most).contains(&marks.len()) || fingerprints.len() != FINGERPRINT * marks.len() {
         return Err(Refusal::ImageLength);
@@ -24,9 +32,9 @@ pub fn offer(pool: &[u8], table: &[u32], till: u32, fingerprints: &[u8], marks: 
 }
 
 /// Puts an image together from what was sent and what the box has, files it and answers its number.
-pub fn backup_sent(pool: &mut [u8], table: &mut [u32], till: u32, message: Message) -> Result<u32, Refusal> {
+pub fn backup_sent(pool: &mut [u8], table: &mut [u32], user: u32, till: u32, message: Message) -> Result<u32, Refusal> {
     let mut found = sound::check(pool, table)?;
-    let till = found.layout.till(till)?;
+    let till = By { user, till }.with(Right::BackUp, &found.layout, table)?;
     if !fits(message, &found.layout) {
         return Err(Refusal::ImageLength);
     }

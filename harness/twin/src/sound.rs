@@ -4,6 +4,7 @@ use crate::layout::{Layout, Pointer, Record, TillWords, POSITIONS, RECORD_HEAD, 
 use crate::rows::{is_null, Blocks, Records};
 use crate::runs::Occupied;
 use crate::trace::{trace, End};
+use crate::users::is_word_of_rights;
 use terms::{Capacities, Refusal, LAST_NUMBER};
 
 /// What a call learns from the check of a sound store.
@@ -81,11 +82,11 @@ fn cells_fit(cells: Blocks, occupied: &Occupied) -> bool {
     })
 }
 
-/// Numbers, which rise up to the last given, lengths, pointers and zero words of one till.
+/// Numbers, which rise up to the last given, rights, lengths, pointers and zero words of one till.
 fn till(words: &[u32], layout: &Layout, owed: &mut Owed) -> Option<()> {
     let (head, slots) = words.split_first_chunk::<TILL_HEAD>()?;
-    let [last, held, 0, 0] = *head else { return None };
-    holds(last <= LAST_NUMBER && held as usize <= layout.versions)?;
+    let [last, held, rights, 0] = *head else { return None };
+    holds(last <= LAST_NUMBER && held as usize <= layout.versions && is_word_of_rights(rights))?;
     let (used, unused) = slots.split_at(held as usize * layout.slot_words());
     holds(empty(unused))?;
     let (mut above, mut newer): (u32, &[u32]) = (last + 1, &[]);

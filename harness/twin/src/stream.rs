@@ -23,9 +23,16 @@ pub fn stream_of(image: &[u8]) -> Vec<u8> {
 }
 
 /// Writes a held version's stream to the output and answers the stream's length.
-pub fn write_stream(pool: &[u8], table: &[u32], till: u32, version: u32, output: &mut [u8]) -> Result<u32, Refusal> {
+pub fn write_stream(
+    pool: &[u8],
+    table: &[u32],
+    user: u32,
+    till: u32,
+    version: u32,
+    output: &mut [u8],
+) -> Result<u32, Refusal> {
     let mut image = vec![0; LONGEST_IMAGE as usize];
-    let restored = crate::restore(pool, table, till, version, &mut image)?;
+    let restored = crate::restore(pool, table, user, till, version, &mut image)?;
     let stream = stream_of(&image[..restored.length as usize]);
     output.get_mut(..stream.len()).ok_or(Refusal::ShortOutput)?.copy_from_slice(&stream);
     Ok(stream.len() as u32)

@@ -18,8 +18,8 @@ fn history_from_before(seed: u64, capacities: Capacities, style: Style, calls: u
     let list = List::new(&mut random, capacities, style);
     let mut course = Course::new(capacities, vec![Box::new(Twin)]).with_earlier(earlier);
     for n in 0..calls {
-        let call = list.next(&mut random, &course);
-        course.call(&before.made(&mut random, n, calls, call));
+        let (user, call) = list.next(&mut random, &course);
+        course.call_by(user, &before.made(&mut random, n, calls, call));
         if n % 50 == 0 {
             inspect(course.buffers().0, course.buffers().1, course.keeper());
             days_never_fall(course.buffers().1);

@@ -2,7 +2,7 @@
 //! the refusal first.
 
 use crate::raw;
-use terms::{Calls, Capacities, Closing, Message, CLOSING_NUMBERS, MOST_IMAGES};
+use terms::{Calls, Capacities, Closing, Message, Rights, CLOSING_NUMBERS, MOST_IMAGES};
 
 /// The proved store. Slices that are lent are valid for as long as a call lasts, lengths are theirs, and the lent
 /// buffers do not overlap, since one that is written is lent to nobody else: this is all that the archive asks for.
@@ -34,24 +34,34 @@ impl Calls for Proved {
         [answer.refusal]
     }
 
-    fn backup(&self, pool: &mut [u8], table: &mut [u32], till: u32, image: &[u8]) -> [u32; 2] {
-        let (bytes, words) = (pool.len(), table.len());
-        let (pool, table) = (pool.as_mut_ptr(), table.as_mut_ptr());
-        // SAFETY: all three are slices, the first two lent for writing to this call alone.
-        let answer = unsafe { raw::lurdempos_backup(pool, bytes, table, words, till, image.as_ptr(), image.len()) };
-        [answer.refusal, answer.version]
-    }
-
-    fn backup_dated(&self, pool: &mut [u8], table: &mut [u32], till: u32, day: u32, image: &[u8]) -> [u32; 2] {
+    fn backup(&self, pool: &mut [u8], table: &mut [u32], user: u32, till: u32, image: &[u8]) -> [u32; 2] {
         let (bytes, words) = (pool.len(), table.len());
         let (pool, table) = (pool.as_mut_ptr(), table.as_mut_ptr());
         // SAFETY: all three are slices, the first two lent for writing to this call alone.
         let answer =
-            unsafe { raw::lurdempos_backup_dated(pool, bytes, table, words, till, day, image.as_ptr(), image.len()) };
+            unsafe { raw::lurdempos_backup(pool, bytes, table, words, user, till, image.as_ptr(), image.len()) };
         [answer.refusal, answer.version]
     }
 
-    fn backup_all(&self, pool: &mut [u8], table: &mut [u32], closing: Closing) -> [u32; CLOSING_NUMBERS] {
+    fn backup_dated(
+        &self,
+        pool: &mut [u8],
+        table: &mut [u32],
+        user: u32,
+        till: u32,
+        day: u32,
+        image: &[u8],
+    ) -> [u32; 2] {
+        let (bytes, words) = (pool.len(), table.len());
+        let (pool, table) = (pool.as_mut_ptr(), table.as_mut_ptr());
+        // SAFETY: all three are slices, the first two lent for writing to this call alone.
+        let answer = unsafe {
+            raw::lurdempos_backup_dated(pool, bytes, table, words, user, till, day, image.as_ptr(), image.len())
+        };
+        [answer.refusal, answer.version]
+    }
+
+    fn backup_all(&self, pool: &mut [u8], table: &mut [u32], user: u32, closing: Closing) -> [u32; CLOSING_NUMBERS] {
         let Closing { tills, lengths, images } = closing;
         let (bytes, words) = (pool.len(), table.len());
         let (pool, table) = (pool.as_mut_ptr(), table.as_mut_ptr());
@@ -59,7 +69,7 @@ impl Calls for Proved {
         let raw::BackupAllAnswer { refusal, refusals, versions } = unsafe {
             let (named, told, sent) = (tills.len(), lengths.len(), images.len());
             let (tills, lengths, images) = (tills.as_ptr(), lengths.as_ptr(), images.as_ptr());
-            raw::lurdempos_backup_all(pool, bytes, table, words, tills, named, lengths, told, images, sent)
+            raw::lurdempos_backup_all(pool, bytes, table, words, user, tills, named, lengths, told, images, sent)
         };
         let mut numbers = [refusal; CLOSING_NUMBERS];
         numbers[1..=MOST_IMAGES].copy_from_slice(&refusals);
@@ -67,51 +77,79 @@ impl Calls for Proved {
         numbers
     }
 
-    fn restore(&self, pool: &[u8], table: &[u32], till: u32, version: u32, output: &mut [u8]) -> [u32; 3] {
+    fn restore(&self, pool: &[u8], table: &[u32], user: u32, till: u32, version: u32, output: &mut [u8]) -> [u32; 3] {
         let room = output.len();
         let output = output.as_mut_ptr();
         // SAFETY: all three are slices, the output lent for writing to this call alone.
         let answer = unsafe {
             let (bytes, words) = (pool.len(), table.len());
-            raw::lurdempos_restore(pool.as_ptr(), bytes, table.as_ptr(), words, till, version, output, room)
+            raw::lurdempos_restore(pool.as_ptr(), bytes, table.as_ptr(), words, user, till, version, output, room)
         };
         [answer.refusal, answer.length, answer.hops]
     }
 
-    fn retire(&self, pool: &mut [u8], table: &mut [u32], till: u32, version: u32) -> [u32; 2] {
+    fn retire(&self, pool: &mut [u8], table: &mut [u32], user: u32, till: u32, version: u32) -> [u32; 2] {
         let (bytes, words) = (pool.len(), table.len());
         let (pool, table) = (pool.as_mut_ptr(), table.as_mut_ptr());
         // SAFETY: both parts are slices, lent for writing to this call alone.
-        let answer = unsafe { raw::lurdempos_retire(pool, bytes, table, words, till, version) };
+        let answer = unsafe { raw::lurdempos_retire(pool, bytes, table, words, user, till, version) };
         [answer.refusal, answer.length]
     }
 
-    fn listing(&self, pool: &[u8], table: &[u32], till: u32) -> [u32; 4] {
+    fn listing(&self, pool: &[u8], table: &[u32], user: u32, till: u32) -> [u32; 4] {
         // SAFETY: both parts are slices, lent for reading.
-        let answer = unsafe { raw::lurdempos_listing(pool.as_ptr(), pool.len(), table.as_ptr(), table.len(), till) };
+        let answer =
+            unsafe { raw::lurdempos_listing(pool.as_ptr(), pool.len(), table.as_ptr(), table.len(), user, till) };
         [answer.refusal, answer.oldest, answer.newest, answer.last]
     }
 
-    fn version_on(&self, pool: &[u8], table: &[u32], till: u32, day: u32) -> [u32; 2] {
+    fn version_on(&self, pool: &[u8], table: &[u32], user: u32, till: u32, day: u32) -> [u32; 2] {
         let (bytes, words) = (pool.len(), table.len());
         // SAFETY: both parts are slices, lent for reading.
-        let answer = unsafe { raw::lurdempos_version_on(pool.as_ptr(), bytes, table.as_ptr(), words, till, day) };
+        let answer = unsafe { raw::lurdempos_version_on(pool.as_ptr(), bytes, table.as_ptr(), words, user, till, day) };
         [answer.refusal, answer.version]
     }
 
-    fn tally(&self, pool: &[u8], table: &[u32]) -> [u32; 4] {
+    fn tally(&self, pool: &[u8], table: &[u32], user: u32) -> [u32; 4] {
         // SAFETY: both parts are slices, lent for reading.
-        let answer = unsafe { raw::lurdempos_tally(pool.as_ptr(), pool.len(), table.as_ptr(), table.len()) };
+        let answer = unsafe { raw::lurdempos_tally(pool.as_ptr(), pool.len(), table.as_ptr(), table.len(), user) };
         [answer.refusal, answer.cells, answer.records, answer.counts]
     }
 
-    fn write_stream(&self, pool: &[u8], table: &[u32], till: u32, version: u32, output: &mut [u8]) -> [u32; 2] {
+    fn set_rights(
+        &self,
+        pool: &[u8],
+        table: &mut [u32],
+        user: u32,
+        subject: u32,
+        till: u32,
+        rights: Rights,
+    ) -> [u32; 1] {
+        let Rights { list, back_up, restore, retire } = rights;
+        let (bytes, words) = (pool.len(), table.len());
+        let (pool, table) = (pool.as_ptr(), table.as_mut_ptr());
+        // SAFETY: both parts are slices, the table lent for writing to this call alone.
+        let answer = unsafe {
+            raw::lurdempos_set_rights(pool, bytes, table, words, user, subject, till, list, back_up, restore, retire)
+        };
+        [answer.refusal]
+    }
+
+    fn write_stream(
+        &self,
+        pool: &[u8],
+        table: &[u32],
+        user: u32,
+        till: u32,
+        version: u32,
+        output: &mut [u8],
+    ) -> [u32; 2] {
         let room = output.len();
         let output = output.as_mut_ptr();
         // SAFETY: all three are slices, the output lent for writing to this call alone.
         let answer = unsafe {
             let (bytes, words) = (pool.len(), table.len());
-            raw::lurdempos_write_stream(pool.as_ptr(), bytes, table.as_ptr(), words, till, version, output, room)
+            raw::lurdempos_write_stream(pool.as_ptr(), bytes, table.as_ptr(), words, user, till, version, output, room)
         };
         [answer.refusal, answer.length]
     }
@@ -123,19 +161,27 @@ impl Calls for Proved {
         [answer.refusal, answer.length]
     }
 
-    fn offer(&self, pool: &[u8], table: &[u32], till: u32, fingerprints: &[u8], marks: &mut [u8]) -> [u32; 1] {
+    fn offer(
+        &self,
+        pool: &[u8],
+        table: &[u32],
+        user: u32,
+        till: u32,
+        fingerprints: &[u8],
+        marks: &mut [u8],
+    ) -> [u32; 1] {
         let (prints, count) = (fingerprints.len(), marks.len());
         let (fingerprints, marks) = (fingerprints.as_ptr(), marks.as_mut_ptr());
         // SAFETY: all four are slices, the marks lent for writing to this call alone.
         let answer = unsafe {
             let (bytes, words) = (pool.len(), table.len());
             let (pool, table) = (pool.as_ptr(), table.as_ptr());
-            raw::lurdempos_offer(pool, bytes, table, words, till, fingerprints, prints, marks, count)
+            raw::lurdempos_offer(pool, bytes, table, words, user, till, fingerprints, prints, marks, count)
         };
         [answer.refusal]
     }
 
-    fn backup_sent(&self, pool: &mut [u8], table: &mut [u32], till: u32, message: Message) -> [u32; 2] {
+    fn backup_sent(&self, pool: &mut [u8], table: &mut [u32], user: u32, till: u32, message: Message) -> [u32; 2] {
         let Message { length, fingerprints, marks, segments } = message;
         let (bytes, words) = (pool.len(), table.len());
         let (pool, table) = (pool.as_mut_ptr(), table.as_mut_ptr());
@@ -148,6 +194,7 @@ impl Calls for Proved {
                 bytes,
                 table,
                 words,
+                user,
                 till,
                 length,
                 fingerprints,

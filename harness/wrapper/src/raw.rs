@@ -77,6 +77,13 @@ pub struct TallyAnswer {
     pub counts: u32,
 }
 
+/// Of a change of rights.
+#[repr(C)]
+#[derive(Clone, Copy, Debug, PartialEq, Eq)]
+pub struct SetRightsAnswer {
+    pub refusal: u32,
+}
+
 /// Of a writing of a stream.
 #[repr(C)]
 #[derive(Clone, Copy, Debug, PartialEq, Eq)]
@@ -169,6 +176,7 @@ extern "C" {
         pool_len: usize,
         table: *mut u32,
         table_len: usize,
+        user: u32,
         till: u32,
         image: *const u8,
         image_len: usize,
@@ -179,6 +187,7 @@ extern "C" {
         pool_len: usize,
         table: *mut u32,
         table_len: usize,
+        user: u32,
         till: u32,
         day: u32,
         image: *const u8,
@@ -190,6 +199,7 @@ extern "C" {
         pool_len: usize,
         table: *mut u32,
         table_len: usize,
+        user: u32,
         tills: *const u32,
         tills_len: usize,
         lengths: *const u32,
@@ -203,6 +213,7 @@ extern "C" {
         pool_len: usize,
         table: *const u32,
         table_len: usize,
+        user: u32,
         till: u32,
         version: u32,
         output: *mut u8,
@@ -214,6 +225,7 @@ extern "C" {
         pool_len: usize,
         table: *mut u32,
         table_len: usize,
+        user: u32,
         till: u32,
         version: u32,
     ) -> RetireAnswer;
@@ -223,6 +235,7 @@ extern "C" {
         pool_len: usize,
         table: *const u32,
         table_len: usize,
+        user: u32,
         till: u32,
     ) -> ListingAnswer;
 
@@ -231,17 +244,39 @@ extern "C" {
         pool_len: usize,
         table: *const u32,
         table_len: usize,
+        user: u32,
         till: u32,
         day: u32,
     ) -> VersionOnAnswer;
 
-    pub fn lurdempos_tally(pool: *const u8, pool_len: usize, table: *const u32, table_len: usize) -> TallyAnswer;
+    pub fn lurdempos_tally(
+        pool: *const u8,
+        pool_len: usize,
+        table: *const u32,
+        table_len: usize,
+        user: u32,
+    ) -> TallyAnswer;
+
+    pub fn lurdempos_set_rights(
+        pool: *const u8,
+        pool_len: usize,
+        table: *mut u32,
+        table_len: usize,
+        user: u32,
+        subject: u32,
+        till: u32,
+        list: bool,
+        back_up: bool,
+        restore: bool,
+        retire: bool,
+    ) -> SetRightsAnswer;
 
     pub fn lurdempos_write_stream(
         pool: *const u8,
         pool_len: usize,
         table: *const u32,
         table_len: usize,
+        user: u32,
         till: u32,
         version: u32,
         output: *mut u8,
@@ -260,6 +295,7 @@ extern "C" {
         pool_len: usize,
         table: *const u32,
         table_len: usize,
+        user: u32,
         till: u32,
         fingerprints: *const u8,
         fingerprints_len: usize,
@@ -272,6 +308,7 @@ extern "C" {
         pool_len: usize,
         table: *mut u32,
         table_len: usize,
+        user: u32,
         till: u32,
         length: u32,
         fingerprints: *const u8,

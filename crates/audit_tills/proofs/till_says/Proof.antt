@@ -17,11 +17,6 @@ use Rattle.audit_tills.proofs.Slots.{used-fit, slots-fit}
 use borrow.Author.Needs.{needs}
 use Rattle.audit_tills.proofs.till_says.Statement.{statement}
 use Rattle.audit_tills.proofs.till_says.Tie as tie
-use Rattle.audit_tills.proofs.till_says.Reads as reads
-use Rattle.audit_tills.proofs.till_says.Lts as lts
-use Rattle.audit_tills.proofs.numbers_rise.Reads as numbers-rise-reads
-use Rattle.audit_tills.proofs.slots_say.Reads as slots-say-reads
-use Rattle.audit_words.proofs.zeros.Reads as zeros-reads
 
 used : (c : tie.Else1) → getD (c .before .before .before .before .before .before .before .args .till .now) 1 0 * (3 + c .before .before .before .before .before .before .before .args .blocks) ≤ c .before .before .before .before .before .before .before .args .versions * (3 + c .before .before .before .before .before .before .before .args .blocks)
 used c = used-fit (c .before .before .before .before .before .before .before .args .versions) (c .before .before .before .before .before .before .before .args .blocks) _ (c .if1 .left)
@@ -53,25 +48,17 @@ returns c = (is-not (λ t. omega (arith, t .few)), λ e. absurd (clash refl e))
 returns-2 : tie.Need-returns-2
 returns-2 c = (is-not (λ t. omega (arith, t .most)), λ e. absurd (clash refl e))
 
--- src/lib.rt:149:28
-sub-zeros : tie.Need-sub-zeros
-sub-zeros c = search needs
+shared-slice-read-if3 : tie.Need-shared-slice-read-if3
+shared-slice-read-if3 c = search needs
 
--- src/lib.rt:149:28
-part-zeros-start : tie.Need-part-zeros-start
-part-zeros-start c = search needs
-
--- src/lib.rt:149:28
-part-zeros-end : tie.Need-part-zeros-end
-part-zeros-end c = search needs
-
--- src/lib.rt:149:9
-zeros-requires : tie.Need-zeros-requires
-zeros-requires c κs = search needs
-
--- src/lib.rt:150:9
 returns-3 : tie.Need-returns-3
-returns-3 c = (is-not (λ t. answer-no (c .before .zeros .ensures) (c .if3 .taken) (t .zeros)), λ e. absurd (clash refl e))
+returns-3 c = (is-not (λ t. omega (arith, c .if3 .taken, t .rights)), λ e. absurd (clash refl e))
+
+shared-slice-read-if4 : tie.Need-shared-slice-read-if4
+shared-slice-read-if4 c = search needs
+
+returns-4 : tie.Need-returns-4
+returns-4 c = (is-not (λ t. omega (arith, c .if4 .taken, t .zero)), λ e. absurd (clash refl e))
 
 -- src/lib.rt:152:22
 sub-numbers-rise : tie.Need-sub-numbers-rise
@@ -87,11 +74,11 @@ part-numbers-rise-end c = search needs
 
 -- src/lib.rt:152:9
 numbers-rise-requires : tie.Need-numbers-rise-requires
-numbers-rise-requires c κs = (search needs, search needs, search needs, slots-fit (c .before .before .before .before .before .before .before .before .before .before .before .before .args .versions) (c .before .before .before .before .before .before .before .before .before .before .before .before .args .blocks) _ (c .before .before .before .before .before .before .before .before .before .before .before .before .args .till .now) (search needs) (c .before .before .before .before .before .before .before .before .before .before .before .before .pre .3))
+numbers-rise-requires c κs = (search needs, search needs, search needs, slots-fit (c .before .before .before .before .before .before .before .before .before .before .before .before .before .args .versions) (c .before .before .before .before .before .before .before .before .before .before .before .before .before .args .blocks) _ (c .before .before .before .before .before .before .before .before .before .before .before .before .before .args .till .now) (search needs) (c .before .before .before .before .before .before .before .before .before .before .before .before .before .pre .3))
 
 -- src/lib.rt:153:9
-returns-4 : tie.Need-returns-4
-returns-4 c = (is-not (λ t. answer-no (rise (c .before .before .before .before .before .before .before .before .before .before .before .before .before .before .args .blocks) _ _ (c .before .before .before .before .before .before .before .before .before .before .before .before .before .before .args .till .now) (c .before .numbers-rise .ensures)) (c .if4 .taken) (t .rising)), λ e. absurd (clash refl e))
+returns-5 : tie.Need-returns-5
+returns-5 c = (is-not (λ t. answer-no (rise (c .before .before .before .before .before .before .before .before .before .before .before .before .before .before .before .args .blocks) _ _ (c .before .before .before .before .before .before .before .before .before .before .before .before .before .before .before .args .till .now) (c .before .numbers-rise .ensures)) (c .if5 .taken) (t .rising)), λ e. absurd (clash refl e))
 
 -- src/lib.rt:155:34
 sub-slots-say : tie.Need-sub-slots-say
@@ -108,17 +95,17 @@ part-slots-say-end c = search needs
 -- src/lib.rt:155:9
 slots-say-requires : tie.Need-slots-say-requires
 slots-say-requires c κs =
-    let a = c .before .before .before .before .before .before .before .before .before .before .before .before .before .before .before .before .args in
-    let p = c .before .before .before .before .before .before .before .before .before .before .before .before .before .before .before .before .pre in
-    (search needs, search needs, search needs, slots-fit (a .versions) (a .blocks) _ (a .till .now) (search needs) (p .3), λ k. omega (arith, used (c .before .before .before .before .before .before .before .before .before), p .3, p .4 k))
+    let a = c .before .before .before .before .before .before .before .before .before .before .before .before .before .before .before .before .before .args in
+    let p = c .before .before .before .before .before .before .before .before .before .before .before .before .before .before .before .before .before .pre in
+    (search needs, search needs, search needs, slots-fit (a .versions) (a .blocks) _ (a .till .now) (search needs) (p .3), λ k. omega (arith, used (c .before .before .before .before .before .before .before .before .before .before), p .3, p .4 k))
 
 -- src/lib.rt:156:9
 same-length : tie.Need-same-length
 same-length c = search needs
 
 -- src/lib.rt:156:9
-returns-5 : tie.Need-returns-5
-returns-5 c = (is-not (λ t. refutes (slots _ _ (c .before .before .before .before .before .before .before .before .before .before .before .before .before .before .before .before .before .before .before .before .args .blocks) _ (c .before .before .before .before .before .before .before .before .before .before .before .before .before .before .before .before .before .before .before .before .args .till .now) (c .before .before .before .slots-say .ensures .0)) (c .if5 .taken) (t .slots)), λ e. absurd (clash refl e))
+returns-6 : tie.Need-returns-6
+returns-6 c = (is-not (λ t. refutes (slots _ _ (c .before .before .before .before .before .before .before .before .before .before .before .before .before .before .before .before .before .before .before .before .before .args .blocks) _ (c .before .before .before .before .before .before .before .before .before .before .before .before .before .before .before .before .before .before .before .before .before .args .till .now) (c .before .before .before .slots-say .ensures .0)) (c .if6 .taken) (t .slots)), λ e. absurd (clash refl e))
 
 -- src/lib.rt:158:28
 add-end : tie.Need-add-end
@@ -126,50 +113,49 @@ add-end c = search needs
 
 -- src/lib.rt:158:19
 mul-end : tie.Need-mul-end
-mul-end c = omega (arith, used (c .before .before .before .before .before .before .before .before .before .before .before .before .before))
+mul-end c = omega (arith, used (c .before .before .before .before .before .before .before .before .before .before .before .before .before .before))
 
 -- src/lib.rt:158:15
 add-end-2 : tie.Need-add-end-2
-add-end-2 c = omega (arith, used (c .before .before .before .before .before .before .before .before .before .before .before .before .before))
+add-end-2 c = omega (arith, used (c .before .before .before .before .before .before .before .before .before .before .before .before .before .before))
 
 -- src/lib.rt:159:24
 mul-zeros : tie.Need-mul-zeros
-mul-zeros c = omega (arith, used (c .before .before .before .before .before .before .before .before .before .before .before .before .before))
+mul-zeros c = omega (arith, used (c .before .before .before .before .before .before .before .before .before .before .before .before .before .before))
 
 -- src/lib.rt:159:24
-sub-zeros-2 : tie.Need-sub-zeros-2
-sub-zeros-2 c = omega (arith, used (c .before .before .before .before .before .before .before .before .before .before .before .before .before))
+sub-zeros : tie.Need-sub-zeros
+sub-zeros c = omega (arith, used (c .before .before .before .before .before .before .before .before .before .before .before .before .before .before))
 
 -- src/lib.rt:159:24
-part-zeros-start-2 : tie.Need-part-zeros-start-2
-part-zeros-start-2 c = omega (arith, used (c .before .before .before .before .before .before .before .before .before .before .before .before .before))
+part-zeros-start : tie.Need-part-zeros-start
+part-zeros-start c = omega (arith, used (c .before .before .before .before .before .before .before .before .before .before .before .before .before .before))
 
 -- src/lib.rt:159:24
-part-zeros-end-2 : tie.Need-part-zeros-end-2
-part-zeros-end-2 c = search needs
+part-zeros-end : tie.Need-part-zeros-end
+part-zeros-end c = search needs
 
 -- src/lib.rt:159:5
-zeros-requires-2 : tie.Need-zeros-requires-2
-zeros-requires-2 c κs = search needs
+zeros-requires : tie.Need-zeros-requires
+zeros-requires c κs = search needs
 
 -- src/lib.rt:129:1
 same-length-2 : tie.Need-same-length-2
 same-length-2 c = search needs
 
 -- src/lib.rt:129:1
-returns-6 : tie.Need-returns-6
-returns-6 c =
-    let a = c .before .before .before .before .before .before .before .before .before .before .before .before .before .before .before .before .before .before .before .before .before .before .args in
+returns-7 : tie.Need-returns-7
+returns-7 c =
+    let a = c .before .before .before .before .before .before .before .before .before .before .before .before .before .before .before .before .before .before .before .before .before .before .before .args in
     let row = a .till .now in
-    let z = c .zeros2 .ensures ∙ ap allZero (tail-all row (4 + getD row 1 0 * (3 + a .blocks))) in
+    let z = c .zeros .ensures ∙ ap allZero (tail-all row (4 + getD row 1 0 * (3 + a .blocks))) in
     let e = c .before .before .before .before .before .slots-say .ensures in
-    let two = answer-yes (c .before .before .before .before .before .before .before .before .before .before .before .before .zeros .ensures) (c .before .before .before .before .before .before .before .before .before .before .before .if3 .left) in
-    let up = answer-yes (rise (a .blocks) _ _ row (c .before .before .before .before .before .before .before .before .before .numbers-rise .ensures)) (c .before .before .before .before .before .before .before .before .if4 .left) in (
+    let up = answer-yes (rise (a .blocks) _ _ row (c .before .before .before .before .before .before .before .before .before .numbers-rise .ensures)) (c .before .before .before .before .before .before .before .before .if5 .left) in (
       record {
-        holds = λ t. record { few = search needs; most = search needs; rising = up; zeros = two; slots = proves (slots _ _ (a .blocks) _ row (e .0)) (c .before .before .if5 .left); rest = sym z ∙ t };
+        holds = λ t. record { few = search needs; most = search needs; rising = up; rights = omega (arith, c .before .before .before .before .before .before .before .before .before .before .before .before .before .if3 .left); zero = omega (arith, c .before .before .before .before .before .before .before .before .before .before .before .if4 .left); slots = proves (slots _ _ (a .blocks) _ row (e .0)) (c .before .before .if6 .left); rest = sym z ∙ t };
         seen = λ t. z ∙ t .rest;
       },
-      λ t. rw (tail-all row 4) at (e .1 (not-false _ (c .before .before .if5 .left))),
+      λ t. rw (tail-all row 4) at (e .1 (not-false _ (c .before .before .if6 .left))),
     )
 
 pub till-says-spec : {M : Type 1} → statement M
@@ -181,29 +167,28 @@ till-says-spec =
     cast-count
     returns
     returns-2
-    sub-zeros
-    part-zeros-start
-    part-zeros-end
-    zeros-requires
+    shared-slice-read-if3
     returns-3
+    shared-slice-read-if4
+    returns-4
     sub-numbers-rise
     part-numbers-rise-start
     part-numbers-rise-end
     numbers-rise-requires
-    returns-4
+    returns-5
     sub-slots-say
     part-slots-say-start
     part-slots-say-end
     slots-say-requires
     same-length
-    returns-5
+    returns-6
     add-end
     mul-end
     add-end-2
     mul-zeros
-    sub-zeros-2
-    part-zeros-start-2
-    part-zeros-end-2
-    zeros-requires-2
+    sub-zeros
+    part-zeros-start
+    part-zeros-end
+    zeros-requires
     same-length-2
-    returns-6)
+    returns-7)

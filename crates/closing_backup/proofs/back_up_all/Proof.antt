@@ -13,7 +13,7 @@ lists-fit-requires c κs = search needs
 returns : tie.Need-returns
 returns c =
     let a = c .before .before .before .before .before .before .before .args in
-    refused-whole (now (a .pool)) (now (a .table)) (now (a .tills)) (now (a .lengths)) (now (a .images)) (c .before .before .before .before .before .before .before .pre) (sym (c .before .lists-fit .ensures) ∙ not-true _ (c .if1 .taken))
+    refused-whole (now (a .pool)) (now (a .table)) (a .user) (now (a .tills)) (now (a .lengths)) (now (a .images)) (c .before .before .before .before .before .before .before .pre) (sym (c .before .lists-fit .ensures) ∙ not-true _ (c .if1 .taken))
 
 slice-aggregate-back-up-each : tie.Need-slice-aggregate-back-up-each
 slice-aggregate-back-up-each c = search needs
@@ -33,7 +33,7 @@ same-length-2 c = search needs
 returns-2 : tie.Need-returns-2
 returns-2 c =
     let a = c .before .before .before .before .before .before .before .before .before .before .before .before .before .before .before .before .before .before .args in
-    done-whole (now (a .pool)) (now (a .table)) (now (a .tills)) (now (a .lengths)) (now (a .images)) (c .before .before .before .before .before .before .before .before .before .before .before .before .before .before .before .before .before .before .pre) (answer-yes (c .before .before .before .before .before .before .before .before .before .before .before .before .lists-fit .ensures) (c .before .before .before .before .before .before .before .before .before .before .before .if1 .left)) _ (c .before .before .before .before .before .before .back-up-each .ensures)
+    done-whole (now (a .pool)) (now (a .table)) (a .user) (now (a .tills)) (now (a .lengths)) (now (a .images)) (c .before .before .before .before .before .before .before .before .before .before .before .before .before .before .before .before .before .before .pre) (answer-yes (c .before .before .before .before .before .before .before .before .before .before .before .before .lists-fit .ensures) (c .before .before .before .before .before .before .before .before .before .before .before .if1 .left)) _ (c .before .before .before .before .before .before .back-up-each .ensures)
 
 pub back-up-all-spec : {M : Type 1} → statement M
 back-up-all-spec =

@@ -10,17 +10,17 @@ use Rattle.closing_backup.proofs.back_up_each.Statement.{statement}
 use Rattle.closing_backup.proofs.back_up_each.Tie as tie
 
 abbrev Inv-loop : tie.InvT-loop
-Inv-loop pool₀ table₀ tills lengths images refusals₀ versions₀ from₀ i₀ pool table refusals versions from i =
-    Going pool₀ table₀ tills lengths images pool table refusals versions from i × (length pool ≡ length pool₀) × (length table ≡ length table₀)
+Inv-loop pool₀ table₀ user tills lengths images refusals₀ versions₀ from₀ i₀ pool table refusals versions from i =
+    Going pool₀ table₀ user tills lengths images pool table refusals versions from i × (length pool ≡ length pool₀) × (length table ≡ length table₀)
 
 abbrev μ-loop : tie.MeasureT-loop
-μ-loop pool₀ table₀ tills lengths images refusals₀ versions₀ from₀ i₀ pool table refusals versions from i = length tills - i
+μ-loop pool₀ table₀ user tills lengths images refusals₀ versions₀ from₀ i₀ pool table refusals versions from i = length tills - i
 
 loop-holds : tie.Need-loop-holds Inv-loop μ-loop
 loop-holds c =
     let a = c .before .before .before .before .before .before .before .args in
     let p = c .before .before .before .before .before .before .before .pre in
-    (going-start _ _ _ _ _ _ _ (p .0) (fits-are (now (a .tills)) (now (a .lengths)) (now (a .images)) (p .1)) (p .2) (p .3), search needs, search needs)
+    (going-start _ _ _ _ _ _ _ _ (p .0) (fits-are (now (a .tills)) (now (a .lengths)) (now (a .images)) (p .1)) (p .2) (p .3), search needs, search needs)
 
 mul-end : tie.Need-mul-end Inv-loop μ-loop
 mul-end c = search needs
@@ -34,23 +34,23 @@ cast-end c = omega (arith, c .shared-slice-known4 .given (c .before .before .loo
 add-end : tie.Need-add-end Inv-loop μ-loop
 add-end c = omega (arith, image-in (c .before .before .loop .inv .0) (omega arith))
 
-mul-back-up : tie.Need-mul-back-up Inv-loop μ-loop
-mul-back-up c = search needs
+mul-back-up-one : tie.Need-mul-back-up-one Inv-loop μ-loop
+mul-back-up-one c = search needs
 
-shared-slice-read-back-up : tie.Need-shared-slice-read-back-up Inv-loop μ-loop
-shared-slice-read-back-up c = search needs
+shared-slice-read-back-up-one : tie.Need-shared-slice-read-back-up-one Inv-loop μ-loop
+shared-slice-read-back-up-one c = search needs
 
-sub-back-up : tie.Need-sub-back-up Inv-loop μ-loop
-sub-back-up c = omega arith
+sub-back-up-one : tie.Need-sub-back-up-one Inv-loop μ-loop
+sub-back-up-one c = omega arith
 
-part-back-up-start : tie.Need-part-back-up-start Inv-loop μ-loop
-part-back-up-start c = search needs
+part-back-up-one-start : tie.Need-part-back-up-one-start Inv-loop μ-loop
+part-back-up-one-start c = search needs
 
-part-back-up-end : tie.Need-part-back-up-end Inv-loop μ-loop
-part-back-up-end c = omega (arith, image-in (c .before .before .before .before .before .loop .inv .0) (omega arith))
+part-back-up-one-end : tie.Need-part-back-up-one-end Inv-loop μ-loop
+part-back-up-one-end c = omega (arith, image-in (c .before .before .before .before .before .loop .inv .0) (omega arith))
 
-back-up-requires : tie.Need-back-up-requires Inv-loop μ-loop
-back-up-requires c κs = c .before .before .before .before .before .before .loop .inv .0 .sound
+back-up-one-requires : tie.Need-back-up-one-requires Inv-loop μ-loop
+back-up-one-requires c κs = c .before .before .before .before .before .before .loop .inv .0 .sound
 
 mul-refusals : tie.Need-mul-refusals Inv-loop μ-loop
 mul-refusals c = search needs
@@ -72,7 +72,7 @@ loop-less c = search needs
 
 loop-again : tie.Need-loop-again Inv-loop μ-loop
 loop-again c =
-    (going-more (c .before .before .before .before .before .before .before .before .before .before .before .loop .inv .0) (omega arith) _ _ _ _ (c .before .before .before .before .back-up .ensures), omega arith, omega arith)
+    (going-more (c .before .before .before .before .before .before .before .before .before .before .before .loop .inv .0) (omega arith) _ _ _ _ (c .before .before .before .before .back-up-one .ensures), omega arith, omega arith)
 
 same-length : tie.Need-same-length Inv-loop μ-loop
 same-length c = search needs
@@ -100,12 +100,12 @@ back-up-each-spec =
     shared-slice-read-end
     cast-end
     add-end
-    mul-back-up
-    shared-slice-read-back-up
-    sub-back-up
-    part-back-up-start
-    part-back-up-end
-    back-up-requires
+    mul-back-up-one
+    shared-slice-read-back-up-one
+    sub-back-up-one
+    part-back-up-one-start
+    part-back-up-one-end
+    back-up-one-requires
     mul-refusals
     slice-write-refusals
     mul-versions

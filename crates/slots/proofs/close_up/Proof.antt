@@ -10,8 +10,8 @@ same-length : tie.Need-same-length
 same-length c = search needs
 
 returns : tie.Need-returns
-returns c = λ v last older u newer ps lo few et ep lp.
-    closed-first _ _ v last _ older u newer ps lo few et (c .before .before .before .before .if1 .taken) _ (c .before .before .drop-slot .ensures)
+returns c = λ v last rights older u newer ps lo few et ep lp.
+    closed-first _ _ v last rights _ older u newer ps lo few et (c .before .before .before .before .if1 .taken) _ (c .before .before .drop-slot .ensures)
 
 sub-put-pointers : tie.Need-sub-put-pointers
 sub-put-pointers c = search needs
@@ -28,8 +28,8 @@ same-length-2 : tie.Need-same-length-2
 same-length-2 c = search needs
 
 returns-2 : tie.Need-returns-2
-returns-2 c = λ v last older u newer ps lo few et ep lp.
-    closed-later _ _ v last _ older u newer ps lo few et (c .before .before .before .before .before .before .before .before .if1 .left) _ ep lp _ _ (c .before .before .before .before .before .before .put-pointers .ensures .0) (c .before .before .drop-slot2 .ensures)
+returns-2 c = λ v last rights older u newer ps lo few et ep lp.
+    closed-later _ _ v last rights _ older u newer ps lo few et (c .before .before .before .before .before .before .before .before .if1 .left) _ ep lp _ _ (c .before .before .before .before .before .before .put-pointers .ensures .0) (c .before .before .drop-slot2 .ensures)
 
 pub close-up-spec : {M : Type 1} → statement M
 close-up-spec =

@@ -44,8 +44,8 @@ same-length : tie.Need-same-length
 same-length c = search needs
 
 returns : tie.Need-returns
-returns c = λ v last older u newer lo few et.
-    slot-dropped _ _ _ v last older u newer lo few et _ _ (c .before .before .before .before .before .before .one-held-less .ensures) (c .before .before .shift .ensures)
+returns c = λ v last rights older u newer lo few et.
+    slot-dropped _ _ _ v last rights older u newer lo few et _ _ (c .before .before .before .before .before .before .one-held-less .ensures) (c .before .before .shift .ensures)
 
 pub drop-slot-spec : {M : Type 1} → statement M
 drop-slot-spec =

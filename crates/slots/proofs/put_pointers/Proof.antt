@@ -42,7 +42,7 @@ same-length c = search needs
 returns : tie.Need-returns
 returns c =
     let a = c .before .before .before .before .before .before in (
-      λ v last older u newer ps lo few et ep lp. pointers-put _ _ _ v last older u newer lo few et _ _ ps (a .pre .1) ep lp (c .before .before .copy-in .ensures),
+      λ v last rights older u newer ps lo few et ep lp. pointers-put _ _ _ v last rights older u newer lo few et _ _ ps (a .pre .1) ep lp (c .before .before .copy-in .ensures),
       head-still (4 + a .args .j * (3 + a .args .b) + 3) (now (a .args .till)) _ (omega arith) (omega (arith, slot-room _ _ _ (a .pre .0))),
     )
 

@@ -1,11 +1,11 @@
-use Rattle.store.proofs.Refusals.{is-sound, dated-10}
+use native.Mathlib.Omega.{arith}
+use Rattle.model.specs.Calls.{backupDatedOf}
+use Rattle.model.specs.Rights.{backupRefusal, backupAs}
+use Rattle.closing_backup.proofs.Users.{user-refused, user-served}
+use Rattle.store.proofs.Refusals.{is-sound, backup-10}
 use borrow.Author.Needs.{needs}
 use Rattle.store.proofs.backup_dated.Statement.{statement}
 use Rattle.store.proofs.backup_dated.Tie as tie
-use Rattle.store.proofs.backup_dated.Reads as reads
-use Rattle.store.proofs.backup_dated.Lts as lts
-use Rattle.audit.proofs.sound.Reads as sound-reads
-use Rattle.backup.proofs.back_up_dated.Reads as back-up-dated-reads
 
 sound-requires : tie.Need-sound-requires
 sound-requires c κs = search needs
@@ -17,10 +17,10 @@ same-length-2 : tie.Need-same-length-2
 same-length-2 c = search needs
 
 returns : tie.Need-returns
-returns c = dated-10 _ _ _ (c .before .sound .ensures) (c .if1 .taken) _ _ _
+returns c = backup-10 _ _ _ (c .before .sound .ensures) (c .if1 .taken) _ _ _ _
 
-back-up-dated-requires : tie.Need-back-up-dated-requires
-back-up-dated-requires c κs = is-sound _ _ _ (c .before .before .before .sound .ensures) (c .before .before .if1 .left)
+refusal-requires : tie.Need-refusal-requires
+refusal-requires c κs = is-sound _ _ _ (c .before .before .before .sound .ensures) (c .before .before .if1 .left)
 
 same-length-3 : tie.Need-same-length-3
 same-length-3 c = search needs
@@ -29,7 +29,21 @@ same-length-4 : tie.Need-same-length-4
 same-length-4 c = search needs
 
 returns-2 : tie.Need-returns-2
-returns-2 c = search needs
+returns-2 c = unfold backupAs backupRefusal in user-refused (backupRefusal _ _) _ _ _ (c .before .refusal .ensures) (λ q. omega (arith, q, c .if2 .taken))
+
+back-up-dated-requires : tie.Need-back-up-dated-requires
+back-up-dated-requires c κs = is-sound _ _ _ (c .before .before .before .before .before .before .before .sound .ensures) (c .before .before .before .before .before .before .if1 .left)
+
+same-length-5 : tie.Need-same-length-5
+same-length-5 c = search needs
+
+same-length-6 : tie.Need-same-length-6
+same-length-6 c = search needs
+
+returns-3 : tie.Need-returns-3
+returns-3 c =
+    unfold backupAs backupDatedOf in
+    user-served (backupRefusal _ _) _ _ _ (c .before .before .before .before .before .before .before .before .refusal .ensures) (omega (arith, c .before .before .before .before .before .before .before .if2 .left)) _ (c .before .before .before .before .back-up-dated .ensures)
 
 pub backup-dated-spec : {M : Type 1} → statement M
 backup-dated-spec =
@@ -39,7 +53,11 @@ backup-dated-spec =
     same-length
     same-length-2
     returns
-    back-up-dated-requires
+    refusal-requires
     same-length-3
     same-length-4
-    returns-2)
+    returns-2
+    back-up-dated-requires
+    same-length-5
+    same-length-6
+    returns-3)

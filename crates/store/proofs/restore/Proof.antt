@@ -1,32 +1,44 @@
+use native.Mathlib.Omega.{arith}
+use denote.Ref.{now}
+use Rattle.model.specs.Calls.{restoreRefusal}
+use Rattle.model.specs.Rights.{restoreAs}
+use Rattle.closing_backup.proofs.Users.{user-refused, user-served}
 use Rattle.store.proofs.Refusals.{is-sound, restore-10}
 use borrow.Author.Needs.{needs}
 use Rattle.store.proofs.restore.Statement.{statement}
 use Rattle.store.proofs.restore.Tie as tie
-use Rattle.store.proofs.restore.Reads as reads
-use Rattle.store.proofs.restore.Lts as lts
-use Rattle.audit.proofs.sound.Reads as sound-reads
-use Rattle.restore.proofs.restore_version.Reads as restore-version-reads
 
--- src/lib.rt:27:9
 sound-requires : tie.Need-sound-requires
 sound-requires c κs = search needs
 
--- src/lib.rt:28:9
 returns : tie.Need-returns
-returns c = restore-10 _ _ _ (c .before .sound .ensures) (c .if1 .taken) _ _ _
+returns c = restore-10 _ _ _ (c .before .sound .ensures) (c .if1 .taken) _ _ _ _
 
--- src/lib.rt:34:5
+refusal-requires : tie.Need-refusal-requires
+refusal-requires c κs = is-sound _ _ _ (c .before .sound .ensures) (c .if1 .left)
+
+returns-2 : tie.Need-returns-2
+returns-2 c = unfold restoreAs restoreRefusal in user-refused (λ n. restoreRefusal n (now (c .before .before .before .before .before .before .before .args .output))) _ _ _ (c .before .refusal .ensures) (λ q. omega (arith, q, c .if2 .taken))
+
 restore-version-requires : tie.Need-restore-version-requires
-restore-version-requires c κs = is-sound _ _ _ (c .before .before .sound .ensures) (c .before .if1 .left)
+restore-version-requires c κs = is-sound _ _ _ (c .before .before .before .before .sound .ensures) (c .before .before .before .if1 .left)
 
--- src/lib.rt:24:1
 same-length : tie.Need-same-length
 same-length c = search needs
 
--- src/lib.rt:24:1
-returns-2 : tie.Need-returns-2
-returns-2 c = search needs
+returns-3 : tie.Need-returns-3
+returns-3 c =
+    unfold restoreAs in
+    user-served (λ n. restoreRefusal n (now (c .before .before .before .before .before .before .before .before .before .before .before .args .output))) _ _ _ (c .before .before .before .before .before .refusal .ensures) (omega (arith, c .before .before .before .before .if2 .left)) _ (c .before .before .restore-version .ensures)
 
 pub restore-spec : {M : Type 1} → statement M
 restore-spec =
-    tie.close (tie.spec sound-requires returns restore-version-requires same-length returns-2)
+    tie.close
+    (tie.spec
+    sound-requires
+    returns
+    refusal-requires
+    returns-2
+    restore-version-requires
+    same-length
+    returns-3)

@@ -12,11 +12,11 @@ use Rattle.trial_closing.proofs.end_of.Reads as end-of-reads
 use Rattle.trial_closing.proofs.judge_one.Reads as judge-one-reads
 
 abbrev Inv-loop : tie.InvT-loop
-Inv-loop c tills lengths sent refusals versions images₀ notes₀ counts₀ from₀ i₀ images notes counts from i =
+Inv-loop c user tills lengths sent refusals versions images₀ notes₀ counts₀ from₀ i₀ images notes counts from i =
     (from ≤ length sent) × (length images ≡ length images₀) × (length notes ≡ length notes₀) × (length counts ≡ length counts₀)
 
 abbrev μ-loop : tie.MeasureT-loop
-μ-loop c tills lengths sent refusals versions images₀ notes₀ counts₀ from₀ i₀ images notes counts from i = length tills - i
+μ-loop c user tills lengths sent refusals versions images₀ notes₀ counts₀ from₀ i₀ images notes counts from i = length tills - i
 
 -- src/lib.rt:126:5
 loop-holds : tie.Need-loop-holds Inv-loop μ-loop
@@ -56,7 +56,7 @@ judge-one-requires c κs = search needs
 
 -- src/lib.rt:131:9
 add-i : tie.Need-add-i Inv-loop μ-loop
-add-i c = search needs
+add-i c = omega (arith, c .before .before .before .before .before .before .before .before .before .before .before .before .before .before .before .before .before .before .before .before .before .before .before .before .good)
 
 -- src/lib.rt:126:5
 loop-less : tie.Need-loop-less Inv-loop μ-loop

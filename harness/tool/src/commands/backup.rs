@@ -1,17 +1,17 @@
 //! `backup`: the next version of a till.
 
 use super::dry_run::{tried, Cells};
-use crate::advice::Call;
+use crate::advice::{By, Call};
 use crate::arguments::Arguments;
 use crate::json::Json;
 use crate::patience::Patience;
 use crate::reply::Reply;
 use crate::storefile::Change;
-use crate::syntax::{Argument, Command, Opt, Takes, DAY, DRY_RUN, FILE, TILL, WAIT};
+use crate::syntax::{Argument, Command, Opt, Takes, DAY, DRY_RUN, FILE, TILL, USER, WAIT};
 use crate::target::Target;
 use crate::words::bytes;
 use crate::{calendar, image, table, Failure};
-use lurdempos::{Refusal, Store, LONGEST_IMAGE};
+use lurdempos::{Refusal, Right, Store, LONGEST_IMAGE};
 use std::path::Path;
 
 pub static COMMAND: Command = Command {
@@ -26,17 +26,21 @@ The reply tells the number of the new version.
 A version has a day, by which `restore --day` finds it. D is a number up to 4294967295, or a date as
 2026-03-31: the days since 1970-01-01. It must not be before the day of the till's newest version. Without
 --day the version takes that one's day, or 0, which is no day, if the till holds none.
+
+Another user than the owner needs the right backup on the till; with --rotate also list and retire, and with
+--unless-same also list and restore.
 ",
     run,
 };
 
 /// The options of commands that keep an image.
-pub(super) static OPTIONS: [Opt; 6] = [
+pub(super) static OPTIONS: [Opt; 7] = [
     Opt::with(DAY.name, DAY.value, "the version's day, a number or a date; else that of the till's newest version"),
     Opt::flag("--rotate", "retire the till's oldest version first if the till is full, in the same write"),
     Opt::flag("--unless-same", "keep no new version if the till's newest has the same bytes"),
     Opt::with("--bytes", "N", "keep the image only if it has exactly N bytes"),
     DRY_RUN,
+    USER,
     WAIT,
 ];
 
@@ -53,7 +57,7 @@ struct Outcome {
 /// A backup that is asked for.
 struct Asked<'a> {
     file: &'a Path,
-    till: u32,
+    by: By,
     day: Option<u32>,
     image: &'a [u8],
     rotate: bool,
@@ -69,16 +73,17 @@ pub(super) fn keep(
     arguments: &Arguments,
     read: impl FnOnce(&Path) -> Result<Vec<u8>, Failure>,
 ) -> Result<Reply, Failure> {
-    let (file, till, day) = (arguments.store()?, arguments.number(1)?, arguments.day()?);
+    let (file, day) = (arguments.store()?, arguments.day()?);
+    let by = By { user: arguments.user()?, till: arguments.number(1)? };
     let patience = Patience::asked(arguments)?;
     let target = Target::existing(file)?;
     // Before the lock is taken: standard input may come slowly.
     let image = read(arguments.path(2)?)?;
     refuse_length(arguments, &image)?;
     let (rotate, unless_same) = (arguments.has("--rotate"), arguments.has("--unless-same"));
-    let asked = Asked { file, till, day, image: &image, rotate, unless_same };
+    let asked = Asked { file, by, day, image: &image, rotate, unless_same };
     if arguments.has("--dry-run") {
-        let (outcome, cells) = tried(file, |store| asked.keep(store))?;
+        let (outcome, cells) = tried(file, by.user, |store| asked.keep(store))?;
         return Ok(asked.reply(&outcome, Some(&cells)));
     }
     let mut change = Change::begin(&target, &patience)?;
@@ -91,48 +96,58 @@ pub(super) fn keep(
 
 impl Asked<'_> {
     fn keep(&self, store: &mut Store) -> Result<Outcome, Failure> {
-        if let Some(version) = self.same_version(store) {
+        if let Some(version) = self.same_version(store)? {
             return Ok(self.outcome(store, version, false, None));
         }
         match self.file(store) {
             Ok(version) => Ok(self.outcome(store, version, true, None)),
             Err(Refusal::TillFull) if self.rotate => self.rotate(store),
-            Err(refusal) => Err(self.refused(store, refusal)),
+            Err(refusal) => Err(self.refused(store, Right::BackUp, refusal)),
         }
     }
 
     fn file(&self, store: &mut Store) -> Result<u32, Refusal> {
         match self.day {
-            Some(day) => store.backup_dated(self.till, day, self.image),
-            None => store.backup(self.till, self.image),
+            Some(day) => store.backup_dated(self.by.user, self.by.till, day, self.image),
+            None => store.backup(self.by.user, self.by.till, self.image),
         }
     }
 
     fn outcome(&self, store: &Store, version: u32, kept: bool, retired: Option<(u32, u32)>) -> Outcome {
-        Outcome { version, day: table::day(store, self.till, version), kept, retired }
+        Outcome { version, day: table::day(store, self.by.till, version), kept, retired }
     }
 
     fn rotate(&self, store: &mut Store) -> Result<Outcome, Failure> {
-        let oldest = store.listing(self.till).map_err(|refusal| self.refused(store, refusal))?.oldest;
-        let length = store.retire(self.till, oldest).map_err(|refusal| self.refused(store, refusal))?;
-        let version = self.file(store).map_err(|refusal| self.refused(store, refusal))?;
+        let By { user, till } = self.by;
+        let listing = store.listing(user, till).map_err(|refusal| self.refused(store, Right::List, refusal))?;
+        let oldest = listing.oldest;
+        let length = store.retire(user, till, oldest).map_err(|refusal| self.refused(store, Right::Retire, refusal))?;
+        let version = self.file(store).map_err(|refusal| self.refused(store, Right::BackUp, refusal))?;
         Ok(self.outcome(store, version, true, Some((oldest, length))))
     }
 
     /// The till's newest version, if it has the same bytes and that matters.
-    fn same_version(&self, store: &Store) -> Option<u32> {
-        let newest = store.listing(self.till).ok().filter(|_| self.unless_same)?.newest;
-        store.image(self.till, newest).is_ok_and(|image| image == self.image).then_some(newest)
+    fn same_version(&self, store: &Store) -> Result<Option<u32>, Failure> {
+        let By { user, till } = self.by;
+        if !self.unless_same {
+            return Ok(None);
+        }
+        let listing = store.listing(user, till).map_err(|refusal| self.refused(store, Right::List, refusal))?;
+        match store.image(user, till, listing.newest) {
+            Ok(image) => Ok((image == self.image).then_some(listing.newest)),
+            Err(Refusal::NeverGiven) => Ok(None),
+            Err(refusal) => Err(self.refused(store, Right::Restore, refusal)),
+        }
     }
 
-    fn refused(&self, store: &Store, refusal: Refusal) -> Failure {
+    fn refused(&self, store: &Store, right: Right, refusal: Refusal) -> Failure {
         let day = self.day.unwrap_or(0);
-        Call { day, image: self.image, ..Call::of_till(self.file, store, self.till) }.refused(refusal)
+        Call { day, image: self.image, ..Call::of_till(self.file, store, self.by, right) }.refused(refusal)
     }
 
     /// In words and for programs; with cells if it was only tried.
     fn reply(&self, outcome: &Outcome, cells: Option<&Cells>) -> Reply {
-        let (till, version, day) = (self.till, outcome.version, calendar::beside(outcome.day));
+        let (till, version, day) = (self.by.till, outcome.version, calendar::beside(outcome.day));
         let would = if cells.is_some() { "would be " } else { "" };
         let room = cells.map_or(String::new(), |cells| format!("; {cells}"));
         let mut text = String::new();

@@ -1,23 +1,23 @@
 //! `backup-sent`: the next version of a till that sends only what the store lacks.
 
 use super::dry_run::{tried, Cells};
-use crate::advice::Call;
+use crate::advice::{By, Call};
 use crate::arguments::Arguments;
 use crate::json::Json;
 use crate::patience::Patience;
 use crate::reply::Reply;
 use crate::storefile::Change;
-use crate::syntax::{Argument, Command, Takes, DRY_RUN, FILE, TILL, WAIT};
+use crate::syntax::{Argument, Command, Takes, DRY_RUN, FILE, TILL, USER, WAIT};
 use crate::target::Target;
 use crate::words::bytes;
 use crate::{advice, image, Failure};
-use lurdempos::{Message, Refusal, Store, LONGEST_MESSAGE};
+use lurdempos::{Message, Refusal, Right, Store, LONGEST_MESSAGE};
 use std::path::Path;
 
 pub static COMMAND: Command = Command {
     name: "backup-sent",
     arguments: &[FILE, TILL, Argument::needed("MESSAGE", Takes::File)],
-    options: &[DRY_RUN, WAIT],
+    options: &[DRY_RUN, USER, WAIT],
     about: "keep what a till has sent as its next version",
     help: "
 MESSAGE is a file with a till's second message, or - for standard input: the image's length in four bytes,
@@ -34,21 +34,22 @@ There is no --rotate: with a version that goes, segments may go that `offer` has
 /// A message that is to be kept.
 struct Asked<'a> {
     file: &'a Path,
-    till: u32,
+    by: By,
     name: String,
     bytes: &'a [u8],
 }
 
 fn run(arguments: &Arguments) -> Result<Reply, Failure> {
-    let (file, till) = (arguments.store()?, arguments.number(1)?);
+    let file = arguments.store()?;
+    let by = By { user: arguments.user()?, till: arguments.number(1)? };
     let patience = Patience::asked(arguments)?;
     let target = Target::existing(file)?;
     // Before the lock is taken: standard input may come slowly.
     let path = arguments.path(2)?;
     let bytes = image::read_beginning(path, LONGEST_MESSAGE + 1)?;
-    let asked = Asked { file, till, name: image::name(path), bytes: &bytes };
+    let asked = Asked { file, by, name: image::name(path), bytes: &bytes };
     if arguments.has("--dry-run") {
-        let (version, cells) = tried(file, |store| asked.keep(store))?;
+        let (version, cells) = tried(file, by.user, |store| asked.keep(store))?;
         return Ok(version.reply(&asked, Some(&cells)));
     }
     let mut change = Change::begin(&target, &patience)?;
@@ -68,14 +69,16 @@ struct Kept {
 impl Asked<'_> {
     fn keep(&self, store: &mut Store) -> Result<Kept, Failure> {
         let message = Message::of_bytes(self.bytes, store.capacities().segment_bytes());
-        let version = store.backup_sent(self.till, message).map_err(|refusal| self.refused(store, message, refusal))?;
+        let By { user, till } = self.by;
+        let version =
+            store.backup_sent(user, till, message).map_err(|refusal| self.refused(store, message, refusal))?;
         let sent = message.marks.iter().filter(|&&mark| mark == 1).count();
         Ok(Kept { version, length: message.length, segments: message.marks.len(), sent })
     }
 
     fn refused(&self, store: &Store, message: Message, refusal: Refusal) -> Failure {
         // In a store without any cell in use all that the image has was sent.
-        let call = Call { image: message.segments, ..Call::of_till(self.file, store, self.till) };
+        let call = Call { image: message.segments, ..Call::of_till(self.file, store, self.by, Right::BackUp) };
         match refusal {
             Refusal::ImageLength => advice::no_message(self.file, store, &self.name, message),
             Refusal::OtherSegment | Refusal::NoSegment | Refusal::TillFull => call.message_refused(refusal, &self.name),
@@ -88,7 +91,7 @@ impl Kept {
     /// In words and for programs; with cells if it was only tried.
     fn reply(&self, asked: &Asked, cells: Option<&Cells>) -> Reply {
         let Kept { version, length, segments, sent } = *self;
-        let (till, would) = (asked.till, if cells.is_some() { "would be " } else { "" });
+        let (till, would) = (asked.by.till, if cells.is_some() { "would be " } else { "" });
         let room = cells.map_or(String::new(), |cells| format!("; {cells}"));
         let of = bytes(length as usize);
         let text =

@@ -1,7 +1,7 @@
 //! `closing`: images of several tills in one call and one write.
 
 use super::dry_run::{tried, Cells};
-use crate::advice::{self, Call};
+use crate::advice::{self, By, Call};
 use crate::arguments::Arguments;
 use crate::day::{self, Sent};
 use crate::json::Json;
@@ -9,10 +9,10 @@ use crate::names::shown;
 use crate::patience::Patience;
 use crate::reply::{warn, Reply};
 use crate::storefile::Change;
-use crate::syntax::{Argument, Command, Opt, Takes, DRY_RUN, FILE, WAIT};
+use crate::syntax::{Argument, Command, Opt, Takes, DRY_RUN, FILE, USER, WAIT};
 use crate::target::Target;
 use crate::{image, Failure};
-use lurdempos::{Refusal, Store};
+use lurdempos::{Refusal, Right, Store};
 use std::path::Path;
 
 pub static COMMAND: Command = Command {
@@ -21,6 +21,7 @@ pub static COMMAND: Command = Command {
     options: &[
         Opt::with_folder("--folder", "DAY", "in TILL=IMAGE's place: keep the images in a folder"),
         DRY_RUN,
+        USER,
         WAIT,
     ],
     about: "keep the images of several tills in one write",
@@ -46,6 +47,7 @@ reason. Make room with `lurdempos retire FILE TILL --keep N` first.
 /// A closing that is asked for.
 struct Asked<'a> {
     file: &'a Path,
+    user: u32,
     /// How many images there are; of too many not all are read.
     count: usize,
     images: &'a [Sent],
@@ -55,15 +57,15 @@ struct Asked<'a> {
 type Outcome = Result<u32, (Refusal, Failure)>;
 
 fn run(arguments: &Arguments) -> Result<Reply, Failure> {
-    let (file, named) = (arguments.store()?, day::named(arguments)?);
+    let (file, user, named) = (arguments.store()?, arguments.user()?, day::named(arguments)?);
     let patience = Patience::asked(arguments)?;
     let target = Target::existing(file)?;
     let count = named.len();
     // Before the lock is taken: standard input may come slowly.
     let images = day::read(named)?;
-    let asked = Asked { file, count, images: &images };
+    let asked = Asked { file, user, count, images: &images };
     if arguments.has("--dry-run") {
-        let (outcomes, cells) = tried(file, |store| asked.keep(store))?;
+        let (outcomes, cells) = tried(file, user, |store| asked.keep(store))?;
         return Ok(asked.reply(&outcomes, Some(&cells)));
     }
     let mut change = Change::begin(&target, &patience)?;
@@ -77,15 +79,20 @@ fn run(arguments: &Arguments) -> Result<Reply, Failure> {
 impl Asked<'_> {
     fn keep(&self, store: &mut Store) -> Result<Vec<Outcome>, Failure> {
         let images: Vec<(u32, &[u8])> = self.images.iter().map(|sent| (sent.till, &sent.image[..])).collect();
-        let each = store.backup_all(&images).map_err(|refusal| match refusal {
+        let each = store.backup_all(self.user, &images).map_err(|refusal| match refusal {
             Refusal::ImageLength => advice::too_many_images(self.count),
-            _ => Call::of_till(self.file, store, 0).refused(refusal),
+            _ => self.call(store, 0).refused(refusal),
         })?;
         let outcome = |(answer, &(till, image)): (Result<u32, Refusal>, &(u32, &[u8]))| {
-            let call = Call { image, ..Call::of_till(self.file, store, till) };
+            let call = Call { image, ..self.call(store, till) };
             answer.map_err(|refusal| (refusal, call.refused(refusal)))
         };
         Ok(each.into_iter().zip(&images).map(outcome).collect())
+    }
+
+    /// The backup of one image.
+    fn call<'a>(&'a self, store: &'a Store, till: u32) -> Call<'a> {
+        Call::of_till(self.file, store, By { user: self.user, till }, Right::BackUp)
     }
 
     /// In words and for programs; with cells if it was only tried. What is refused is told in full on standard error.

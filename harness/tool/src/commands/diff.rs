@@ -1,18 +1,19 @@
 //! `diff`: where two versions of a till differ.
 
-use crate::advice::Call;
+use crate::advice::{By, Call};
 use crate::arguments::Arguments;
 use crate::json::Json;
 use crate::reply::Reply;
-use crate::syntax::{Argument, Command, Takes, FILE, TILL};
+use crate::syntax::{Argument, Command, Takes, FILE, TILL, USER};
 use crate::words::{bytes, counted};
 use crate::{image, ranges, storefile, Failure};
+use lurdempos::Right;
 use std::ops::Range;
 
 pub static COMMAND: Command = Command {
     name: "diff",
     arguments: &[FILE, TILL, Argument::needed("VERSION", Takes::Version), Argument::needed("OTHER", Takes::Version)],
-    options: &[],
+    options: &[USER],
     about: "show in which bytes two versions differ",
     help: "
 VERSION and OTHER are numbers, or the word newest; `list` shows which day each has. Bytes are counted from 0.
@@ -31,10 +32,10 @@ struct Pair {
 }
 
 fn run(arguments: &Arguments) -> Result<Reply, Failure> {
-    let (file, till) = (arguments.store()?, arguments.number(1)?);
+    let (file, user, till) = (arguments.store()?, arguments.user()?, arguments.number(1)?);
     let (one, other) = (arguments.version(2)?, arguments.version(3)?);
     let store = storefile::read(file)?;
-    let call = Call::of_till(file, &store, till);
+    let call = Call::of_till(file, &store, By { user, till }, Right::Restore);
     let (one, other) = (call.image_of(one)?, call.image_of(other)?);
     let differing = ranges::differing(&one.1, &other.1);
     let pair = Pair { till, one, other, differing };

@@ -1,20 +1,21 @@
 //! `export`: a version as a stream, for another box.
 
-use crate::advice::Call;
+use crate::advice::{By, Call};
 use crate::arguments::Arguments;
 use crate::json::Json;
 use crate::names::shown;
 use crate::outlet::Outlet;
 use crate::reply::Reply;
 use crate::storefile::{self, Opened};
-use crate::syntax::{Argument, Command, Takes, DAY, FILE, FORCE, TILL, VERSION, WAIT};
+use crate::syntax::{Argument, Command, Takes, DAY, FILE, FORCE, TILL, USER, VERSION, WAIT};
 use crate::words::bytes;
 use crate::{calendar, table, Failure};
+use lurdempos::Right;
 
 pub static COMMAND: Command = Command {
     name: "export",
     arguments: &[FILE, TILL, VERSION, Argument::needed("OUT", Takes::File)],
-    options: &[DAY, FORCE, WAIT],
+    options: &[DAY, FORCE, USER, WAIT],
     about: "write a version as a stream, to move it to another box",
     help: "
 VERSION is a number, or the word newest; --day stands in its place, as for `restore`. OUT is a file, or - for
@@ -31,12 +32,12 @@ of all versions `export-all`.
 };
 
 fn run(arguments: &Arguments) -> Result<Reply, Failure> {
-    let (file, till) = (arguments.store()?, arguments.number(1)?);
+    let (file, user, till) = (arguments.store()?, arguments.user()?, arguments.number(1)?);
     let (version, outlet) = (arguments.version(2)?, Outlet::asked(arguments, 3, "a stream")?);
     let Opened { store, metadata, .. } = storefile::open(file)?;
-    let call = Call::of_till(file, &store, till);
+    let call = Call::of_till(file, &store, By { user, till }, Right::Restore);
     let version = call.number(version)?;
-    let written = store.stream(till, version).map_err(|refusal| Call { version, ..call }.refused(refusal))?;
+    let written = store.stream(user, till, version).map_err(|refusal| Call { version, ..call }.refused(refusal))?;
     // It begins with the image's length.
     let length = written.first_chunk().map_or(0, |&first| u32::from_le_bytes(first));
     let (to, of, as_stream) = (shown(outlet.path), bytes(length as usize), bytes(written.len()));

@@ -1,37 +1,39 @@
 //! `export-all`: every image in a folder.
 
-use crate::advice::Call;
+use crate::advice::{By, Call};
 use crate::arguments::{Arguments, Named};
 use crate::folder::NewFolder;
 use crate::json::Json;
 use crate::names::shown;
 use crate::reply::Reply;
 use crate::storefile::{self, Opened};
-use crate::syntax::{Argument, Command, Takes, FILE};
+use crate::syntax::{Argument, Command, Takes, FILE, USER};
 use crate::table::Version;
 use crate::words::{bytes, counted};
 use crate::{calendar, image, table, Failure};
+use lurdempos::Right;
 use std::os::unix::fs::MetadataExt;
 
 pub static COMMAND: Command = Command {
     name: "export-all",
     arguments: &[FILE, Argument::needed("FOLDER", Takes::Folder)],
-    options: &[],
+    options: &[USER],
     about: "write the images of all versions to a folder",
     help: "
 FOLDER must not exist yet; it is there with all images or not at all. They are called till-T-version-V.img.
+Another user than the owner needs the right restore on every till that holds a version.
 ",
     run,
 };
 
 fn run(arguments: &Arguments) -> Result<Reply, Failure> {
-    let (file, path) = (arguments.store()?, arguments.place(1)?);
+    let (file, user, path) = (arguments.store()?, arguments.user()?, arguments.place(1)?);
     let Opened { store, metadata, .. } = storefile::open(file)?;
     let folder = NewFolder::begin(path, metadata.mode())?;
     let mut written = Vec::new();
     for (till, versions) in (0..).zip(table::tills(&store)) {
         for version in versions {
-            let call = Call::of_till(file, &store, till);
+            let call = Call::of_till(file, &store, By { user, till }, Right::Restore);
             let (number, image) = call.image_of(Named::Number(version.number))?;
             let name = image::file_name(till, number);
             folder.put(&name, &image)?;

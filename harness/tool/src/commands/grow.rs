@@ -1,17 +1,18 @@
 //! `grow`: a store carried into a larger one.
 
-use super::capacities::{self, any_asked, asked, described, empty_store, possible, OPTIONS};
-use crate::advice::{self, Call};
+use super::capacities::{self, any_asked, asked, described, empty_store, possible};
+use super::tally;
+use crate::advice::{self, By, Call};
 use crate::arguments::{Arguments, Named};
 use crate::json::Json;
 use crate::names::shown;
 use crate::patience::Patience;
 use crate::reply::Reply;
-use crate::syntax::{Argument, Command, Takes};
+use crate::syntax::{Argument, Command, Opt, Takes, USER};
 use crate::table::{self, Layout};
 use crate::words::counted;
 use crate::{storefile, Failure};
-use lurdempos::{Capacities, Store};
+use lurdempos::{Capacities, Right, Rights, Store, OWNER, USERS};
 use std::path::Path;
 
 pub static COMMAND: Command = Command {
@@ -23,28 +24,43 @@ pub static COMMAND: Command = Command {
 Every version of OLD is backed up into NEW under its own number, the oldest first, with its day, and compared
 at the end. OLD is not altered; NEW must not exist yet, and gets the group and permissions of OLD. A capacity
 or setting that no option gives is OLD's; without any option the records and the cells are doubled, as far as a
-store can have them.
+store can have them. What each user may do on each till is carried too. This is for the owner.
 ",
     run,
 };
 
+/// The capacities, and who makes the calls.
+static OPTIONS: [Opt; 11] = {
+    let [a, b, c, d, e, f, g, h, i, wait] = capacities::OPTIONS;
+    [a, b, c, d, e, f, g, h, i, USER, wait]
+};
+
 fn run(arguments: &Arguments) -> Result<Reply, Failure> {
-    let (old_path, new_path) = (arguments.store()?, arguments.place(1)?);
+    let (old_path, new_path, user) = (arguments.store()?, arguments.place(1)?, arguments.user()?);
     let patience = Patience::asked(arguments)?;
     let opened = storefile::open(old_path)?;
     let old = &opened.store;
+    // Whoever carries the whole store is the owner, as whoever has its tally.
+    tally::asked(old_path, old, user)?;
     storefile::refuse_existing(new_path)?;
     let capacities = larger(arguments, old.capacities())?;
     let mut new = empty_store(arguments, capacities)?;
     let order = order(old);
     for &(till, version) in &order {
         new = numbered(new_path, new, till, version)?;
-        let (_, image) = Call::of_till(old_path, old, till).image_of(Named::Number(version))?;
-        if let Err(refusal) = new.backup(till, &image) {
-            return Err(Call { version, image: &image, ..Call::of_till(old_path, &new, till) }.refused(refusal));
+        let (_, image) =
+            Call::of_till(old_path, old, By { user, till }, Right::Restore).image_of(Named::Number(version))?;
+        if let Err(refusal) = new.backup(user, till, &image) {
+            return Err(Call {
+                version,
+                image: &image,
+                ..Call::of_till(old_path, &new, By { user, till }, Right::BackUp)
+            }
+            .refused(refusal));
         }
     }
     new = dated(new_path, old, last_numbers(new_path, old, new)?)?;
+    entitled(new_path, old, &mut new, user)?;
     compared(old, &new, &order)?;
     storefile::create(new_path, new, &patience, Some(opened.attributes()))?;
     let versions = counted(order.len() as u64, "version");
@@ -96,7 +112,7 @@ fn order(old: &Store) -> Vec<(u32, u32)> {
 
 /// The store with the till's last number set so that its next version gets this one.
 fn numbered(path: &Path, store: Store, till: u32, version: u32) -> Result<Store, Failure> {
-    let last = store.listing(till).map(|listing| listing.last).unwrap_or_default();
+    let last = store.listing(OWNER, till).map(|listing| listing.last).unwrap_or_default();
     if last + 1 == version {
         return Ok(store);
     }
@@ -106,7 +122,7 @@ fn numbered(path: &Path, store: Store, till: u32, version: u32) -> Result<Store,
 /// The last numbers of tills whose newest versions are gone.
 fn last_numbers(path: &Path, old: &Store, mut new: Store) -> Result<Store, Failure> {
     for till in 0..old.capacities().tills {
-        let [before, now] = [old, &new].map(|store| store.listing(till).map_or(0, |listing| listing.last));
+        let [before, now] = [old, &new].map(|store| store.listing(OWNER, till).map_or(0, |listing| listing.last));
         if before != now {
             new = with_last(path, new, till, before)?;
         }
@@ -135,13 +151,28 @@ fn dated(path: &Path, old: &Store, new: Store) -> Result<Store, Failure> {
     Store::from_parts(pool, table).map_err(|refusal| advice::unsound(refusal, path))
 }
 
-/// Both have the same numbers, and under each the same bytes and day.
+/// Gives every user of the new store the rights of the old one.
+fn entitled(path: &Path, old: &Store, new: &mut Store, user: u32) -> Result<(), Failure> {
+    for (till, subject) in users(old).filter(|&(till, subject)| table::rights(old, till, subject) != Rights::NONE) {
+        let given = new.set_rights(user, subject, till, table::rights(old, till, subject));
+        given.map_err(|refusal| advice::of_the_owner(refusal, path, user))?;
+    }
+    Ok(())
+}
+
+/// Every till with every user but the owner.
+fn users(store: &Store) -> impl Iterator<Item = (u32, u32)> {
+    (0..store.capacities().tills).flat_map(|till| (1..USERS).map(move |user| (till, user)))
+}
+
+/// Both have the same numbers, and under each the same bytes and day; and the same rights.
 fn compared(old: &Store, new: &Store, order: &[(u32, u32)]) -> Result<(), Failure> {
     let tills = 0..old.capacities().tills;
     let day = |store: &Store, till, version| table::day(store, till, version);
-    let same = tills.into_iter().all(|till| old.listing(till) == new.listing(till))
-        && order.iter().all(|&(till, version)| old.image(till, version) == new.image(till, version))
-        && order.iter().all(|&(till, version)| day(old, till, version) == day(new, till, version));
+    let same = tills.into_iter().all(|till| old.listing(OWNER, till) == new.listing(OWNER, till))
+        && order.iter().all(|&(till, version)| old.image(OWNER, till, version) == new.image(OWNER, till, version))
+        && order.iter().all(|&(till, version)| day(old, till, version) == day(new, till, version))
+        && users(old).all(|(till, user)| table::rights(old, till, user) == table::rights(new, till, user));
     if same {
         return Ok(());
     }

@@ -1,20 +1,20 @@
 //! `list`: the versions held.
 
 use super::capacities;
-use crate::advice::Call;
+use crate::advice::{By, Call};
 use crate::arguments::Arguments;
 use crate::json::Json;
 use crate::reply::Reply;
-use crate::syntax::{Argument, Command, Takes, FILE};
+use crate::syntax::{Argument, Command, Takes, FILE, USER};
 use crate::table::{self, Version};
 use crate::{calendar, numbers, storefile, Failure};
-use lurdempos::{Listing, Store};
+use lurdempos::{Listing, Refusal, Right, Store};
 use std::path::Path;
 
 pub static COMMAND: Command = Command {
     name: "list",
     arguments: &[FILE, Argument::optional("TILL", Takes::Anything)],
-    options: &[],
+    options: &[USER],
     about: "show the versions held",
     help: "
 Of all tills, or of one. For each version, the oldest first: its number and bytes; the longest chain,
@@ -24,6 +24,8 @@ or all 255 (blank). Numbers of versions that were retired are left out; they are
 
 If a version of the till has a day, the last column shows it, with its date if that is in the years 2000 to
 2099, and - for versions without one.
+
+Another user than the owner needs the right list; without TILL those tills are shown on which the user has it.
 ",
     run,
 };
@@ -36,10 +38,10 @@ struct Till {
 }
 
 fn run(arguments: &Arguments) -> Result<Reply, Failure> {
-    let file = arguments.store()?;
+    let (file, user) = (arguments.store()?, arguments.user()?);
     let asked = arguments.word(1).map(|_| arguments.number(1)).transpose()?;
     let store = storefile::read(file)?;
-    let tills = tills(file, &store, asked)?;
+    let tills = tills(file, &store, user, asked)?;
     let fields = Json::object([
         ("file", file.into()),
         ("tills", Json::list(&tills, fields)),
@@ -48,18 +50,23 @@ fn run(arguments: &Arguments) -> Result<Reply, Failure> {
     Ok(Reply::text(text(&tills), fields))
 }
 
-fn tills(file: &Path, store: &Store, asked: Option<u32>) -> Result<Vec<Till>, Failure> {
-    let mut tills = Vec::new();
-    let listing = |till| store.listing(till).map_err(|refusal| Call::of_till(file, store, till).refused(refusal));
+/// The till that is asked for, or all on which the user has the right; that of the first is told if there are none.
+fn tills(file: &Path, store: &Store, user: u32, asked: Option<u32>) -> Result<Vec<Till>, Failure> {
+    let refused = |till, refusal| Call::of_till(file, store, By { user, till }, Right::List).refused(refusal);
+    let listing = |till| store.listing(user, till).map_err(|refusal| refused(till, refusal));
     if let Some(till) = asked {
         listing(till)?;
     }
-    for (number, versions) in
-        (0..).zip(table::tills(store)).filter(|(number, _)| asked.is_none_or(|one| one == *number))
-    {
+    let is_asked = |till: u32| asked.is_none_or(|one| one == till);
+    let may = |till: u32| store.listing(user, till) != Err(Refusal::NoRight);
+    let mut tills = Vec::new();
+    for (number, versions) in (0..).zip(table::tills(store)).filter(|(till, _)| is_asked(*till) && may(*till)) {
         tills.push(Till { number, listing: listing(number)?, versions });
     }
-    Ok(tills)
+    match tills[..] {
+        [] => Err(refused(0, Refusal::NoRight)),
+        _ => Ok(tills),
+    }
 }
 
 fn text(tills: &[Till]) -> String {

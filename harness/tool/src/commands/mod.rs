@@ -11,6 +11,7 @@ mod dry_run;
 mod export;
 mod export_all;
 mod fingerprints;
+mod grant;
 mod grow;
 mod import;
 mod init;
@@ -19,6 +20,7 @@ mod map;
 mod offer;
 mod restore;
 mod retire;
+mod rights;
 mod salvage;
 mod sent;
 mod tally;
@@ -32,7 +34,7 @@ use crate::syntax::Command;
 use crate::{completions, help, manual, Failure};
 use std::ffi::{OsStr, OsString};
 
-pub static COMMANDS: [&Command; 21] = [
+pub static COMMANDS: [&Command; 24] = [
     &init::COMMAND,
     &backup::COMMAND,
     &closing::COMMAND,
@@ -50,6 +52,9 @@ pub static COMMANDS: [&Command; 21] = [
     &offer::COMMAND,
     &sent::COMMAND,
     &backup_sent::COMMAND,
+    &rights::COMMAND,
+    &grant::GRANT,
+    &grant::REVOKE,
     &export_all::COMMAND,
     &grow::COMMAND,
     &salvage::COMMAND,

@@ -1,21 +1,21 @@
 //! `offer`: the box's reply to a till's first message.
 
 use super::sent::OUT;
-use crate::advice::Call;
+use crate::advice::{By, Call};
 use crate::arguments::Arguments;
 use crate::json::Json;
 use crate::names::shown;
 use crate::outlet::Outlet;
 use crate::reply::Reply;
 use crate::storefile::{self, Opened};
-use crate::syntax::{Argument, Command, Takes, FILE, FORCE, TILL, WAIT};
+use crate::syntax::{Argument, Command, Takes, FILE, FORCE, TILL, USER, WAIT};
 use crate::{advice, image, Failure};
-use lurdempos::{Refusal, FINGERPRINT, MOST_SEGMENTS};
+use lurdempos::{Refusal, Right, FINGERPRINT, MOST_SEGMENTS};
 
 pub static COMMAND: Command = Command {
     name: "offer",
     arguments: &[FILE, TILL, Argument::needed("FINGERPRINTS", Takes::File), OUT],
-    options: &[FORCE, WAIT],
+    options: &[FORCE, USER, WAIT],
     about: "mark which segments of a till's image the store has",
     help: "
 FINGERPRINTS is a file with a till's first message, or - for standard input: 20 bytes, the SHA-1, for each
@@ -27,14 +27,14 @@ changed. What the till then sends goes in with `lurdempos backup-sent`.
 };
 
 fn run(arguments: &Arguments) -> Result<Reply, Failure> {
-    let (file, till) = (arguments.store()?, arguments.number(1)?);
+    let (file, user, till) = (arguments.store()?, arguments.user()?, arguments.number(1)?);
     let (path, outlet) = (arguments.path(2)?, Outlet::asked(arguments, 3, "marks")?);
     // One byte more than there can be is enough to refuse them.
     let prints = image::read_beginning(path, FINGERPRINT * MOST_SEGMENTS + 1)?;
     let Opened { store, metadata, .. } = storefile::open(file)?;
-    let marks = store.offer(till, &prints).map_err(|refusal| match refusal {
+    let marks = store.offer(user, till, &prints).map_err(|refusal| match refusal {
         Refusal::ImageLength => advice::no_fingerprints(file, &store, &image::name(path), prints.len()),
-        _ => Call::of_till(file, &store, till).refused(refusal),
+        _ => Call::of_till(file, &store, By { user, till }, Right::BackUp).refused(refusal),
     })?;
     let (segments, had) = (marks.len(), marks.iter().filter(|&&mark| mark == 1).count());
     let text = format!("till {till}: the store has {had} of {segments} segments, marked in {}\n", shown(outlet.path));

@@ -1,20 +1,21 @@
 //! `restore`: the image of a version.
 
-use crate::advice::Call;
+use crate::advice::{By, Call};
 use crate::arguments::Arguments;
 use crate::json::Json;
 use crate::names::shown;
 use crate::outlet::Outlet;
 use crate::reply::Reply;
 use crate::storefile::{self, Opened};
-use crate::syntax::{Argument, Command, Takes, DAY, FILE, FORCE, TILL, VERSION, WAIT};
+use crate::syntax::{Argument, Command, Takes, DAY, FILE, FORCE, TILL, USER, VERSION, WAIT};
 use crate::words::bytes;
 use crate::{calendar, table, Failure};
+use lurdempos::Right;
 
 pub static COMMAND: Command = Command {
     name: "restore",
     arguments: &[FILE, TILL, VERSION, Argument::needed("OUTPUT", Takes::File)],
-    options: &[DAY, FORCE, WAIT],
+    options: &[DAY, FORCE, USER, WAIT],
     about: "write a version's image to a file",
     help: "
 VERSION is a number, or the word newest. OUTPUT is a file, or - for standard output. A file that exists is
@@ -30,13 +31,13 @@ writes what the till had on that day: the newest version that is not after it. D
 };
 
 fn run(arguments: &Arguments) -> Result<Reply, Failure> {
-    let (file, till) = (arguments.store()?, arguments.number(1)?);
+    let (file, user, till) = (arguments.store()?, arguments.user()?, arguments.number(1)?);
     let (version, outlet) = (arguments.version(2)?, Outlet::asked(arguments, 3, "an image")?);
     let Opened { store, metadata, .. } = storefile::open(file)?;
-    let call = Call::of_till(file, &store, till);
+    let call = Call::of_till(file, &store, By { user, till }, Right::Restore);
     let version = call.number(version)?;
     let mut image = vec![0; store.capacities().image_bytes()];
-    let restored = store.restore(till, version, &mut image);
+    let restored = store.restore(user, till, version, &mut image);
     let restored = restored.map_err(|refusal| Call { version, ..call }.refused(refusal))?;
     image.truncate(restored.length as usize);
     let (to, length, chain) = (shown(outlet.path), bytes(image.len()), restored.hops);

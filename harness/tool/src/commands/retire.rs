@@ -1,17 +1,17 @@
 //! `retire`: a version goes, or a till's oldest ones.
 
 use super::dry_run::{tried, Cells};
-use crate::advice::Call;
+use crate::advice::{By, Call};
 use crate::arguments::Arguments;
 use crate::json::Json;
 use crate::patience::Patience;
 use crate::reply::Reply;
 use crate::storefile::Change;
-use crate::syntax::{Argument, Command, Opt, Takes, DRY_RUN, FILE, TILL, WAIT};
+use crate::syntax::{Argument, Command, Opt, Takes, DRY_RUN, FILE, TILL, USER, WAIT};
 use crate::target::Target;
 use crate::words::bytes;
 use crate::{image, numbers, table, Failure};
-use lurdempos::Store;
+use lurdempos::{Right, Store};
 use std::path::Path;
 
 pub static COMMAND: Command = Command {
@@ -20,12 +20,14 @@ pub static COMMAND: Command = Command {
     options: &[
         Opt::with("--keep", "N", "in VERSION's place: retire the oldest versions until N are left, in one write"),
         DRY_RUN,
+        USER,
         WAIT,
     ],
     about: "take a version away",
     help: "
 VERSION is the number of any version that the till holds, also of its newest. The others keep their numbers
 and images; the number that is gone is not given again. The reply tells the bytes of the image that is gone.
+Another user than the owner needs the right retire on the till, and with --keep also list.
 ",
     run,
 };
@@ -42,20 +44,21 @@ enum Which {
 type Retired = Vec<(u32, u32)>;
 
 fn run(arguments: &Arguments) -> Result<Reply, Failure> {
-    let (file, till) = (arguments.store()?, arguments.number(1)?);
+    let file = arguments.store()?;
+    let by = By { user: arguments.user()?, till: arguments.number(1)? };
     let which = which(arguments)?;
     let patience = Patience::asked(arguments)?;
     let target = Target::existing(file)?;
     if arguments.has("--dry-run") {
-        let (retired, cells) = tried(file, |store| retire(file, store, till, which))?;
-        return Ok(reply(file, till, &retired, Some(&cells)));
+        let (retired, cells) = tried(file, by.user, |store| retire(file, store, by, which))?;
+        return Ok(reply(file, by.till, &retired, Some(&cells)));
     }
     let mut change = Change::begin(&target, &patience)?;
-    let retired = retire(file, &mut change.store, till, which)?;
+    let retired = retire(file, &mut change.store, by, which)?;
     if !retired.is_empty() {
         change.finish()?;
     }
-    Ok(reply(file, till, &retired, None))
+    Ok(reply(file, by.till, &retired, None))
 }
 
 fn which(arguments: &Arguments) -> Result<Which, Failure> {
@@ -67,23 +70,24 @@ fn which(arguments: &Arguments) -> Result<Which, Failure> {
     }
 }
 
-fn retire(file: &Path, store: &mut Store, till: u32, which: Which) -> Result<Retired, Failure> {
+fn retire(file: &Path, store: &mut Store, by: By, which: Which) -> Result<Retired, Failure> {
     let mut retired = Vec::new();
-    while let Some(version) = next(file, store, till, which, retired.len())? {
-        let call = |store| Call { version, ..Call::of_till(file, store, till) };
-        let length = store.retire(till, version).map_err(|refusal| call(store).refused(refusal))?;
+    while let Some(version) = next(file, store, by, which, retired.len())? {
+        let call = |store| Call { version, ..Call::of_till(file, store, by, Right::Retire) };
+        let length = store.retire(by.user, by.till, version).map_err(|refusal| call(store).refused(refusal))?;
         retired.push((version, length));
     }
     Ok(retired)
 }
 
 /// The version that goes next, if one does.
-fn next(file: &Path, store: &Store, till: u32, which: Which, gone: usize) -> Result<Option<u32>, Failure> {
+fn next(file: &Path, store: &Store, by: By, which: Which, gone: usize) -> Result<Option<u32>, Failure> {
     match which {
         Which::Version(version) => Ok(Some(version).filter(|_| gone == 0)),
         Which::AllBut(keep) => {
-            let listing = store.listing(till).map_err(|refusal| Call::of_till(file, store, till).refused(refusal))?;
-            let held = table::held(store, till);
+            let call = Call::of_till(file, store, by, Right::List);
+            let listing = store.listing(by.user, by.till).map_err(|refusal| call.refused(refusal))?;
+            let held = table::held(store, by.till);
             Ok(Some(listing.oldest).filter(|_| held > keep))
         }
     }

@@ -1,6 +1,6 @@
 //! `sent`: a till's second message, made from an image and the marks that came back.
 
-use crate::advice::Call;
+use crate::advice::{By, Call};
 use crate::arguments::Arguments;
 use crate::json::Json;
 use crate::names::shown;
@@ -10,7 +10,7 @@ use crate::storefile::{self, Opened};
 use crate::syntax::{Argument, Command, Takes, FILE, FORCE, WAIT};
 use crate::words::{bytes, counted};
 use crate::{image, Failure};
-use lurdempos::{sending, Refusal, Store, MOST_SEGMENTS};
+use lurdempos::{sending, Refusal, Right, Store, MOST_SEGMENTS, OWNER};
 use std::path::Path;
 
 pub static COMMAND: Command = Command {
@@ -60,7 +60,10 @@ fn run(arguments: &Arguments) -> Result<Reply, Failure> {
 pub(super) fn image_for<'a>(file: &Path, store: &Store, image: &'a [u8]) -> Result<&'a [u8], Failure> {
     match (1..=store.capacities().image_bytes()).contains(&image.len()) {
         true => Ok(image),
-        false => Err(Call { image, ..Call::of_till(file, store, 0) }.refused(Refusal::ImageLength)),
+        false => {
+            let by = By { user: OWNER, till: 0 };
+            Err(Call { image, ..Call::of_till(file, store, by, Right::BackUp) }.refused(Refusal::ImageLength))
+        }
     }
 }
 

@@ -4,22 +4,23 @@ use super::capacities::{self, measures_in_words};
 use crate::arguments::Arguments;
 use crate::json::Json;
 use crate::reply::Reply;
-use crate::syntax::{Command, FILE};
+use crate::syntax::{Command, FILE, USER};
 use crate::words::bytes;
 use crate::{advice, storefile, table, Failure};
-use lurdempos::{Store, Tally};
+use lurdempos::{Store, Tally, OWNER};
 use std::path::Path;
 
 pub static COMMAND: Command = Command {
     name: "tally",
     arguments: &[FILE],
-    options: &[],
+    options: &[USER],
     about: "show the space in use",
     help: "
 Occupied cells and records in use, each of how many there are; the sum of all counts, which is how many
 blocks of all versions point straight to a cell; and the versions held, with what they take as whole
 images and in cells. A store with other settings than 64, 8 and 20 has them in a last line: bytes of a block,
-blocks of a segment, and the rebuild percentage; --json always has them.
+blocks of a segment, and the rebuild percentage; --json always has them. The tally is the owner's: other users
+are refused.
 ",
     run,
 };
@@ -27,13 +28,18 @@ blocks of a segment, and the rebuild percentage; --json always has them.
 fn run(arguments: &Arguments) -> Result<Reply, Failure> {
     let file = arguments.store()?;
     let store = storefile::read(file)?;
-    let tally = of(file, &store)?;
+    let tally = asked(file, &store, arguments.user()?)?;
     Ok(Reply::text(text(&store, tally), fields(file, &store, tally)))
 }
 
-/// The store's own tally.
+/// The store's own tally, for whoever needs it within a run.
 pub fn of(file: &Path, store: &Store) -> Result<Tally, Failure> {
-    store.tally().map_err(|refusal| advice::unsound(refusal, file))
+    asked(file, store, OWNER)
+}
+
+/// The tally that a user asks for.
+pub fn asked(file: &Path, store: &Store, user: u32) -> Result<Tally, Failure> {
+    store.tally(user).map_err(|refusal| advice::of_the_owner(refusal, file, user))
 }
 
 /// How many versions are held, and their bytes as whole images.

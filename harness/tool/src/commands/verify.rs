@@ -1,17 +1,18 @@
 //! `verify`: does a version have the bytes of this image?
 
-use crate::advice::Call;
+use crate::advice::{By, Call};
 use crate::arguments::Arguments;
 use crate::json::Json;
 use crate::reply::Reply;
-use crate::syntax::{Argument, Command, Takes, DAY, FILE, TILL, VERSION};
+use crate::syntax::{Argument, Command, Takes, DAY, FILE, TILL, USER, VERSION};
 use crate::words::bytes;
 use crate::{calendar, image, storefile, table, Failure};
+use lurdempos::Right;
 
 pub static COMMAND: Command = Command {
     name: "verify",
     arguments: &[FILE, TILL, VERSION, Argument::needed("IMAGE", Takes::File)],
-    options: &[DAY],
+    options: &[DAY, USER],
     about: "compare a version with an image",
     help: "
 VERSION is a number, or the word newest; --day stands in its place, as for `restore`. IMAGE is a file, or -
@@ -22,11 +23,11 @@ the first byte that differs.
 };
 
 fn run(arguments: &Arguments) -> Result<Reply, Failure> {
-    let (file, till) = (arguments.store()?, arguments.number(1)?);
+    let (file, user, till) = (arguments.store()?, arguments.user()?, arguments.number(1)?);
     let (version, path) = (arguments.version(2)?, arguments.path(3)?);
     let given = image::read(path)?;
     let store = storefile::read(file)?;
-    let (version, kept) = Call::of_till(file, &store, till).image_of(version)?;
+    let (version, kept) = Call::of_till(file, &store, By { user, till }, Right::Restore).image_of(version)?;
     let first = kept.iter().zip(&given).position(|(one, other)| one != other);
     let first = first.or((kept.len() != given.len()).then_some(kept.len().min(given.len())));
     let (path, day) = (image::name(path), table::day(&store, till, version));

@@ -145,6 +145,18 @@ impl Run {
     }
 }
 
+/// Refused with this number and these words, and no file altered.
+pub fn refused(bench: &Bench, line: &str, number: u32, words: &[&str]) {
+    let files = || -> Vec<(String, Option<Vec<u8>>)> {
+        let content = |name: &str| bench.path(name).is_file().then(|| bench.read(name));
+        bench.names().into_iter().map(|name| (name.clone(), content(&name))).collect()
+    };
+    let before = files();
+    let run = bench.run(line);
+    run.fails(1, &[&format!("lurdempos: refused, {number}: "), "Here: ", "What to do: "]).fails(1, words);
+    assert!(files() == before, "{line} altered something");
+}
+
 /// An image of blocks, each filled with a letter; a dot is a block of zeros, a hash one of 255s.
 pub fn letters(text: &str) -> Vec<u8> {
     let byte = |letter| match letter {
