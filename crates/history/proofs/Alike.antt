@@ -15,11 +15,11 @@ use Rattle.model.specs.Measures.{Shape}
 use Rattle.model.specs.Image.{withBlanks}
 use Rattle.model.specs.State.{State, Outcome, refused}
 use Rattle.model.specs.Sound.{isSound}
-use Rattle.model.specs.Calls.{backup, After, stateOr, outcomeRefusal, outcomeNumber}
+use Rattle.model.specs.Calls.{backup, After, stateOr, outcomeRefusal}
 use Rattle.model.specs.Rights.{toBackUp}
 use Rattle.laws.proofs.Fits.{Proper}
 use Rattle.closing.specs.Closing.{TillImage, backupOne, backupEach}
-use Rattle.history.specs.Calls.{Call, callLayout, callBackup, callRestore, callRetire, callListing, callVersionOn, callTally, callWriteStream, callOffer, callBackupSent, callBackupAll, callSetRights, Answer, backedUp, refusalIn, stateAfter, isAccepted}
+use Rattle.history.specs.Calls.{Call, callLayout, callBackup, callRestore, callRetire, callListing, callVersionOn, callTally, callWriteStream, callOffer, callBackupSent, callBackupAll, callSetRights, Answer, refusalIn, stateAfter, isAccepted}
 use Rattle.history.specs.Users.{forUser, answerInBy}
 use Rattle.history.specs.Keeper.{CallMade, backupFor, backupsMade}
 use Rattle.history.specs.View.{TillView, viewAt, tillNamed, changed, IsPlain}
@@ -28,7 +28,7 @@ use Rattle.history.proofs.Frame.{frame-own, frame-other}
 use Rattle.history.proofs.Reach.{one-sound}
 use Rattle.history.proofs.Carried.{madeOf, made-sound, Carries}
 use Rattle.history.proofs.Users.{IsDone, done-made, done-accepted, backup-done}
-use Rattle.history.proofs.Local.{Roomy}
+use Rattle.history.proofs.Local.{outcomeAnswer, Roomy}
 use Rattle.history.proofs.Same.{same-by}
 
 -- a refused call makes nothing of a till
@@ -122,9 +122,6 @@ module _ (s : Shape) (u : ℕ) where
     -- ---- the images of a closing
 
     module _ (y : ℕ) where
-      abbrev outcomeAnswer : Outcome After → Answer
-      outcomeAnswer o = backedUp (outcomeRefusal o) (outcomeNumber o)
-
       -- one image on another till is answered the same
       pub image-same : (x : TillImage) (st st′ : State) → (x .till ≡ u → ⊥) → Off st st′ → FromTill (outcomeRefusal (backupOne s st y x)) → FromTill (outcomeRefusal (backupOne s st′ y x))
           → outcomeAnswer (backupOne s st y x) ≡ outcomeAnswer (backupOne s st′ y x)

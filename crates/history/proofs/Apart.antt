@@ -34,11 +34,10 @@ use Rattle.history.proofs.Steps.{Left, left-laid}
 use Rattle.history.proofs.Users.{left-by, answer-by, refusal-at, done-made, backup-done}
 use Rattle.history.proofs.Carried.{carried, images-few, sixteen}
 use Rattle.history.proofs.Reach.{one-sound}
-use Rattle.history.proofs.Local.{Roomy}
+use Rattle.history.proofs.Local.{outcomeAnswer, Roomy}
 use Rattle.history.proofs.Same.{unless-same, refusal-same, plain-same, set-same}
 use Rattle.history.proofs.Keys.{unless-some}
 use Rattle.history.proofs.Bullets.{numberIn}
-use Rattle.history.proofs.Unshared.{outcomeAnswer}
 use Rattle.history.proofs.Alike.{room-left, made-other, Off, same, off-carried, one-off}
 use Rattle.history.proofs.Both.{no-layout-on, off-one, sent-other, both-alike}
 

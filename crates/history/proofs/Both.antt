@@ -29,9 +29,9 @@ use Rattle.history.specs.Apart.{both, second, IsOn, FromTill, IsFromTill
 use Rattle.history.proofs.Steps.{Left, left-store, closing-same}
 use Rattle.history.proofs.Users.{answer-by}
 use Rattle.history.proofs.Carried.{carried, carried-other, images-few, sixteen}
-use Rattle.history.proofs.Local.{HasRoom}
+use Rattle.history.proofs.Local.{outcomeAnswer, HasRoom}
 use Rattle.history.proofs.Same.{refusal-same, same-by}
-use Rattle.history.proofs.Unshared.{outcomeAnswer, In, all-in, each-split, sent-same}
+use Rattle.history.proofs.Unshared.{In, all-in, each-split, sent-same}
 use Rattle.history.proofs.Alike.{room-left, Off, AlikeMade, onIt, same, AllAlike, each-alike}
 
 -- ---- a call of one history

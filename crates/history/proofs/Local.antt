@@ -69,11 +69,12 @@ all-room era o (seg ∷ segs) h = all-room era (placeNext era o seg) segs (next-
 abbrev pub Roomy : Answer → Type 0
 Roomy a = (a ≡ backedUp 14 0 → ⊥) × (a ≡ backedUp 16 0 → ⊥)
 
-abbrev answerFrom : Outcome After → Answer
-answerFrom o = backedUp (outcomeRefusal o) (outcomeNumber o)
+-- what a backup answers by its outcome
+abbrev pub outcomeAnswer : Outcome After → Answer
+outcomeAnswer o = backedUp (outcomeRefusal o) (outcomeNumber o)
 
 file-answer : (era : Era) (s : Shape) (st : State) (t day : ℕ) (image : List ℕ) (blocks : List Block) (till : Till) (o : Outcome Placed) → NoRoom o
-    → Roomy (answerFrom (fileIn era s st t day image blocks till o)) → answerFrom (fileIn era s st t day image blocks till o) ≡ backedUp 0 (suc (till .last))
+    → Roomy (outcomeAnswer (fileIn era s st t day image blocks till o)) → outcomeAnswer (fileIn era s st t day image blocks till o) ≡ backedUp 0 (suc (till .last))
 unfolding fileIn outcomeRefusal outcomeNumber
 file-answer era s st t day image blocks till (refused n) (inl e) r = absurd (r .0 (ap (λ (k : ℕ). backedUp k 0) e))
 file-answer era s st t day image blocks till (refused n) (inr e) r = absurd (r .1 (ap (λ (k : ℕ). backedUp k 0) e))
@@ -87,7 +88,7 @@ abbrev outcomeIf : Bool → Bool → Bool → Bool → Bool → Outcome After �
 outcomeIf gone size full top early o = cond gone (refused 3) (cond size (refused 4) (cond full (refused 11) (cond top (refused 12) (cond early (refused 28) o))))
 
 abbrev Is : Answer → Outcome After → Type 0
-Is a o = Roomy (answerFrom o) → answerFrom o ≡ a
+Is a o = Roomy (outcomeAnswer o) → outcomeAnswer o ≡ a
 
 in-order : (gone size full top early : Bool) (a : Answer) (o : Outcome After) → Is a o → Is (shownIf gone size full top early a) (outcomeIf gone size full top early o)
 in-order gone size full top early a o h = step gone 3 _ _ (step size 4 _ _ (step full 11 _ _ (step top 12 _ _ (step early 28 _ _ h))))
@@ -96,8 +97,8 @@ in-order gone size full top early a o h = step gone 3 _ _ (step size 4 _ _ (step
     step true n o a h r = unfold outcomeRefusal outcomeNumber in refl
     step false n o a h r = h r
 
-backup-shown : (era : Era) (s : Shape) (st : State) (t : ℕ) (d : Option ℕ) (image : List ℕ) → Roomy (answerFrom (backup era s st t d image))
-    → answerFrom (backup era s st t d image) ≡ answerShown s (viewAt (s .measures .blockBytes) st t) (callBackup era t d image)
+backup-shown : (era : Era) (s : Shape) (st : State) (t : ℕ) (d : Option ℕ) (image : List ℕ) → Roomy (outcomeAnswer (backup era s st t d image))
+    → outcomeAnswer (backup era s st t d image) ≡ answerShown s (viewAt (s .measures .blockBytes) st t) (callBackup era t d image)
 unfolding answerShown backup viewOf
 backup-shown era s st t d image =
     subst

@@ -15,20 +15,18 @@ use Rattle.sha1.specs.Sha1.{sha1}
 use Rattle.model.specs.Measures.{Shape}
 use Rattle.model.specs.Image.{withBlanks}
 use Rattle.model.specs.State.{State, Outcome, refused, done}
-use Rattle.model.specs.Calls.{tillOf, After, outcomeRefusal, outcomeNumber}
+use Rattle.model.specs.Calls.{tillOf, outcomeRefusal}
 use Rattle.model.specs.Rights.{has}
 use Rattle.sent.specs.Sent.{segmentBytes, contents, zeroSegment, assembled, sentFits, made, backupOn, backupSent}
 use Rattle.sent.specs.Claims.{NoneShare, segmentsSent}
 use Rattle.sent_laws.proofs.Alike.{assembled-alike}
-use Rattle.history.specs.Calls.{callBackup, Answer, backedUp, answerIn}
+use Rattle.history.specs.Calls.{callBackup, answerIn}
 use Rattle.history.specs.View.{TillView, viewOf, viewAt, tillNamed}
 use Rattle.history.specs.Apart.{both, second, IsFromTill}
 use Rattle.history.proofs.Shown.{views-length}
+use Rattle.history.proofs.Local.{outcomeAnswer}
 use Rattle.history.proofs.Same.{plain-same}
 use Rattle.history.proofs.Alike.{room-left, same}
-
-abbrev pub outcomeAnswer : Outcome After → Answer
-outcomeAnswer o = backedUp (outcomeRefusal o) (outcomeNumber o)
 
 -- ---- segments of which no two different ones share a fingerprint
 
