@@ -48,6 +48,7 @@
  *       or above it
  *   28  a day before that of the till's newest held version
  *   29  no held version of the till is as early as that day
+ *   30  a price above 10,000
  *
  * 13 and 15 are no longer answered: any held version can be retired, and 17 and
  * 18 tell apart why a version is not held.
@@ -89,6 +90,7 @@ extern "C" {
 #define LURDEMPOS_NO_TURN 27
 #define LURDEMPOS_EARLIER_DAY 28
 #define LURDEMPOS_NONE_SO_EARLY 29
+#define LURDEMPOS_PRICE 30
 
 /* The bytes that the longest stream has: that of an image of 65,536 bytes
  * without a block of zeros. */
@@ -99,6 +101,9 @@ extern "C" {
 
 /* The most images that one closing can have. */
 #define LURDEMPOS_MOST_IMAGES 16
+
+/* The most tills that a store can have. */
+#define LURDEMPOS_MOST_TILLS 16
 
 /* The words that a table of these capacities has. */
 struct lurdempos_table_length_answer {
@@ -160,6 +165,13 @@ struct lurdempos_tally_answer {
     uint32_t cells;
     uint32_t records;
     uint32_t counts;
+};
+
+/* Each till's sum, in tenths of a cent; 0 past the last till, and all are if the
+ * call is refused. */
+struct lurdempos_bill_answer {
+    uint32_t refusal;
+    uint32_t sums[LURDEMPOS_MOST_TILLS];
 };
 
 /* The stream's length in bytes. */
@@ -308,6 +320,15 @@ struct lurdempos_version_on_answer lurdempos_version_on(
 struct lurdempos_tally_answer lurdempos_tally(
     const uint8_t *pool, size_t pool_bytes, const uint32_t *table,
     size_t table_words, uint32_t user);
+
+/* What each till has to pay at a price per occupied cell, in tenths of a cent:
+ * every cell's price is divided among the tills with a direct pointer to it, the
+ * whole quotient each, and the tenths that remain one each to the lowest of them.
+ * The sums together are the price times the tally's cells. The owner's only.
+ * Refusals: 10, 22, 23, 30. */
+struct lurdempos_bill_answer lurdempos_bill(
+    const uint8_t *pool, size_t pool_bytes, const uint32_t *table,
+    size_t table_words, uint32_t user, uint32_t price);
 
 /* Writes the version to the front of the output as a stream, for another box;
  * later bytes stay. A stream is the image's length in four bytes, lowest first,

@@ -1,8 +1,8 @@
 /*
  * A first image kept and restored, moved as a stream, the next sent without
  * what the box has, a closing of both tills, versions by their day, a clerk
- * with rights on one till, and two turns on the line, from C (and, since it
- * compiles as both, from C++). Prints what the calls answer; ends with status 1
+ * with rights on one till, the bill, and two turns on the line, from C (and,
+ * since it compiles as both, from C++). Prints what the calls answer; ends with status 1
  * at the first answer that is not as expected.
  */
 #include "lurdempos.h"
@@ -284,6 +284,31 @@ static int entitled(size_t words)
         && tally.cells == 0;
 }
 
+/* The owner's bill is the price of the cells that the tally counts, 0 past the
+ * last till. */
+static int billed(size_t words)
+{
+    struct lurdempos_tally_answer tally =
+        lurdempos_tally(pool, sizeof pool, table, words, OWNER);
+    struct lurdempos_bill_answer bill =
+        lurdempos_bill(pool, sizeof pool, table, words, OWNER, 25);
+    uint32_t total = 0;
+    int till;
+
+    for (till = 0; till < LURDEMPOS_MOST_TILLS; till++)
+        total += bill.sums[till];
+    if (!expect("bill", bill.refusal, LURDEMPOS_ACCEPTED) || tally.cells == 0
+        || total != 25 * tally.cells
+        || total != bill.sums[0] + bill.sums[1])
+        return 0;
+    bill = lurdempos_bill(pool, sizeof pool, table, words, CLERK, 10001);
+    if (!expect("bill, not the owner", bill.refusal, LURDEMPOS_NO_RIGHT))
+        return 0;
+    bill = lurdempos_bill(pool, sizeof pool, table, words, OWNER, 10001);
+    return expect("bill, price too high", bill.refusal, LURDEMPOS_PRICE)
+        && bill.sums[0] == 0;
+}
+
 int main(void)
 {
     uint8_t image[500], output[512];
@@ -356,7 +381,8 @@ int main(void)
     if (!expect("listing", listing.refusal, LURDEMPOS_ACCEPTED)
         || listing.oldest != 1 || listing.newest != 1 || listing.last != 2)
         return 1;
-    if (!sent(words) || !closed(words) || !dated(words) || !entitled(words))
+    if (!sent(words) || !closed(words) || !dated(words) || !entitled(words)
+        || !billed(words))
         return 1;
     pool[0] ^= 1;
     table[0] = 17;

@@ -19,7 +19,7 @@ use Rattle.model.specs.Calls.{backup, After, stateOr, outcomeRefusal}
 use Rattle.model.specs.Rights.{toBackUp}
 use Rattle.laws.proofs.Fits.{Proper}
 use Rattle.closing.specs.Closing.{TillImage, backupOne, backupEach}
-use Rattle.history.specs.Calls.{Call, callLayout, callBackup, callRestore, callRetire, callListing, callVersionOn, callTally, callWriteStream, callOffer, callBackupSent, callBackupAll, callSetRights, Answer, refusalIn, stateAfter, isAccepted}
+use Rattle.history.specs.Calls.{Call, callLayout, callBackup, callRestore, callRetire, callListing, callVersionOn, callTally, callBill, callWriteStream, callOffer, callBackupSent, callBackupAll, callSetRights, Answer, refusalIn, stateAfter, isAccepted}
 use Rattle.history.specs.Users.{forUser, answerInBy}
 use Rattle.history.specs.Keeper.{CallMade, backupFor, backupsMade}
 use Rattle.history.specs.View.{TillView, viewAt, tillNamed, changed, IsPlain}
@@ -41,6 +41,7 @@ changed-refused bytes (callRetire t v) w = refl
 changed-refused bytes (callListing t) w = refl
 changed-refused bytes (callVersionOn t day) w = refl
 changed-refused bytes callTally w = refl
+changed-refused bytes (callBill price) w = refl
 changed-refused bytes (callWriteStream t v output) w = refl
 changed-refused bytes (callOffer t fs ms) w = refl
 changed-refused bytes (callBackupSent t n fs ms ss) w = refl

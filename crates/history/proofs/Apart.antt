@@ -16,6 +16,7 @@ use Rattle.model.specs.Measures.{Shape}
 use Rattle.model.specs.Image.{withBlanks}
 use Rattle.model.specs.State.{Rights, staff, State, Outcome, refused, done}
 use Rattle.model.specs.Sound.{isSound}
+use Rattle.bill.specs.Bill.{billRefused, billIn}
 use Rattle.model.specs.Calls.{emptyState, noRights, tillOf, backup, restore, restoreRefusal, retire, listingIn, listingRefusal, versionOnIn, tallyIn, After, stateOr, outcomeRefusal, outcomeNumber}
 use Rattle.model.specs.Rights.{Right, has, toList, toBackUp, toRestore, toRetire, userRefusal, refusalAt, notOwner, unless, versionOnRefusal, tallyRefusal}
 use Rattle.stream.specs.Stream.{streamRefusal}
@@ -24,7 +25,7 @@ use Rattle.sent.specs.Sent.{OfferAnswer, offerFits, offer, offerAnswer, offerIn
 use Rattle.sent.specs.Claims.{NoneShare}
 use Rattle.laws.proofs.Fits.{Proper}
 use Rattle.closing.specs.Closing.{TillImage, imagesIn, closingFits, backupOne, backupEach, allAnswer, backupAll}
-use Rattle.history.specs.Calls.{Call, callLayout, callBackup, callRestore, callRetire, callListing, callVersionOn, callTally, callWriteStream, callOffer, callBackupSent, callBackupAll, callSetRights, Buffers, Answer, restored, retired, listed, foundOn, tallied, streamed, backedUpAll, refusalIn, answerIn}
+use Rattle.history.specs.Calls.{Call, callLayout, callBackup, callRestore, callRetire, callListing, callVersionOn, callTally, callBill, callWriteStream, callOffer, callBackupSent, callBackupAll, callSetRights, Buffers, Answer, restored, retired, listed, foundOn, tallied, billed, streamed, backedUpAll, refusalIn, answerIn}
 use Rattle.history.specs.Users.{buffersBy, answerBy, forUser, stateBy, answerInBy}
 use Rattle.history.specs.Keeper.{itself, comesTo}
 use Rattle.history.specs.View.{viewAt, tillNamed}
@@ -190,6 +191,9 @@ module _ (s : Shape) (u x : ℕ) (b b′ : Buffers) (st st′ : State) (l : Left
       (λ ne p p′. unfold tillNamed in plain-same s st st′ x (callVersionOn t day) refl tt tt (o t ne))
   same-in callTally f f′ n =
       unless-same tallied (notOwner x) (notOwner x) refl tallyRefusal (tallyIn (some (record { shape = s; state = st }))) (tallyIn (some (record { shape = s; state = st′ })))
+      (λ z p p′. absurd (not-owner (leb (s .capacities .tills) u) (tillOf st u .rights) x toList (lacks-in toList) (eqb-true (notOwner x) 0 z)))
+  same-in (callBill price) f f′ n =
+      unless-same billed (notOwner x) (notOwner x) refl billRefused (billIn (some (record { shape = s; state = st })) price) (billIn (some (record { shape = s; state = st′ })) price)
       (λ z p p′. absurd (not-owner (leb (s .capacities .tills) u) (tillOf st u .rights) x toList (lacks-in toList) (eqb-true (notOwner x) 0 z)))
   same-in (callWriteStream t v output) f f′ n =
       waits-same s u x st st′ o lacks-in lacks-in′ streamed t toRestore (λ n. streamRefusal n output) (writeVersion s st t v output) (writeVersion s st′ t v output)

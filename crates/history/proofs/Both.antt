@@ -21,7 +21,7 @@ use Rattle.model.specs.Rights.{has, toBackUp, refusalAt, unless}
 use Rattle.sent.specs.Sent.{segmentBytes, contents, zeroSegment, made, backupSent}
 use Rattle.sent.specs.Claims.{knownIn, NoneShare, segmentsSent}
 use Rattle.closing.specs.Closing.{TillImage, imagesIn, closingFits, backupEach, AllAnswer, allRefused, allAnswer, backupAll, backupAllAs}
-use Rattle.history.specs.Calls.{Call, callLayout, callBackup, callRestore, callRetire, callListing, callVersionOn, callTally, callWriteStream, callOffer, callBackupSent, callBackupAll, callSetRights, Buffers, Answer, refusalIn, refusedLayout}
+use Rattle.history.specs.Calls.{Call, callLayout, callBackup, callRestore, callRetire, callListing, callVersionOn, callTally, callBill, callWriteStream, callOffer, callBackupSent, callBackupAll, callSetRights, Buffers, Answer, refusalIn, refusedLayout}
 use Rattle.history.specs.Users.{UserCall, answerBy, refusalBy, forUser, stateBy, answerInBy}
 use Rattle.history.specs.Keeper.{imageOr, imageSent, CallMade, backupFor, backupsMade, closingMade, itself, comesTo}
 use Rattle.history.specs.View.{TillView, isOnTill, tillNamed, changed, IsPlain}
@@ -58,6 +58,7 @@ on-till u y b (callRetire t v) h = (h, tt)
 on-till u y b (callListing t) h = (h, tt)
 on-till u y b (callVersionOn t day) h = (h, tt)
 on-till u y b callTally h = absurd h
+on-till u y b (callBill price) h = absurd h
 on-till u y b (callWriteStream t v output) h = (h, tt)
 on-till u y b (callOffer t fs ms) h = (h, tt)
 on-till u y b (callBackupSent t n fs ms ss) h = (h, tt)
@@ -79,6 +80,7 @@ no-layout-on u b (callRetire t v) h = tt
 no-layout-on u b (callListing t) h = tt
 no-layout-on u b (callVersionOn t day) h = tt
 no-layout-on u b callTally h = absurd h
+no-layout-on u b (callBill price) h = absurd h
 no-layout-on u b (callWriteStream t v output) h = tt
 no-layout-on u b (callOffer t fs ms) h = tt
 no-layout-on u b (callBackupSent t n fs ms ss) h = tt
@@ -103,6 +105,7 @@ changed-none bytes (callRetire t v) ok w p e = absurd (false≢true (sym e))
 changed-none bytes (callListing t) ok w p e = refl
 changed-none bytes (callVersionOn t day) ok w p e = refl
 changed-none bytes callTally ok w p e = refl
+changed-none bytes (callBill price) ok w p e = refl
 changed-none bytes (callWriteStream t v output) ok w p e = refl
 changed-none bytes (callOffer t fs ms) ok w p e = refl
 changed-none bytes (callBackupSent t n fs ms ss) ok w p e = absurd p
@@ -118,6 +121,7 @@ room-for (callRetire t v) a h = tt
 room-for (callListing t) a h = tt
 room-for (callVersionOn t day) a h = tt
 room-for callTally a h = tt
+room-for (callBill price) a h = tt
 room-for (callWriteStream t v output) a h = tt
 room-for (callOffer t fs ms) a h = tt
 room-for (callBackupSent t n fs ms ss) a h = tt
@@ -266,6 +270,7 @@ module _ (s : Shape) (u : ℕ) (b b′ : Buffers) (st st′ : State) (l : Left s
   both-alike (callListing t) f f′ n = unfold comesTo in plain-alike (callListing t) tt f f′
   both-alike (callVersionOn t day) f f′ n = unfold comesTo in plain-alike (callVersionOn t day) tt f f′
   both-alike callTally f f′ n = unfold comesTo in plain-alike callTally tt f f′
+  both-alike (callBill price) f f′ n = unfold comesTo in plain-alike (callBill price) tt f f′
   both-alike (callWriteStream t v output) f f′ n = unfold comesTo in plain-alike (callWriteStream t v output) tt f f′
   both-alike (callOffer t fs ms) f f′ n = unfold comesTo in plain-alike (callOffer t fs ms) tt f f′
   both-alike (callBackupSent t k fs ms ss) f f′ n = sent-alike-by t k fs ms ss n f f′

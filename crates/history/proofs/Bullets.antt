@@ -19,7 +19,7 @@ use Rattle.laws.proofs.Tills.{not-held-some}
 use Rattle.model.specs.Sound.{storeOf}
 use Rattle.model.specs.Calls.{tillOf, heldFrom, BackupAnswer, backupBy, restoreOf, restoreRefusal, retireOf, listingOf, listingRefusal, RestoreAnswer, ListingAnswer, retire, backup, notHeld}
 use Rattle.model.specs.Rights.{toBackUp, toRestore, userRefusal, backupRefusal, restoreAs}
-use Rattle.history.specs.Calls.{Call, callBackup, callBackupSent, callRestore, callRetire, callListing, Buffers, Answer, laidOut, backedUp, restored, retired, listed, foundOn, tallied, streamed, offered, backedUpAll, rightsSet, answerOf, refusalIn}
+use Rattle.history.specs.Calls.{Call, callBackup, callBackupSent, callRestore, callRetire, callListing, Buffers, Answer, laidOut, backedUp, restored, retired, listed, foundOn, tallied, billed, streamed, offered, backedUpAll, rightsSet, answerOf, refusalIn}
 use Rattle.history.specs.Users.{answerBy, refusalBy}
 use Rattle.history.specs.Keeper.{Kept, KeptTill, Keeper, noTill, keptTill, filed, imageSent, fed, fedEach, comesTo, keptFrom, oldestKept, newestKept}
 use Rattle.history.specs.View.{VersionView, TillView, viewOf, viewAt, isOnTill, tillNamed, chainShown, newestDayShown, dayShown, shownFrom, oldestShown, newestShown, restoreShown, retireShown, answerShown}
@@ -42,6 +42,7 @@ unrestored (retired n l) = restoreRefusal n []
 unrestored (listed a) = restoreRefusal 0 []
 unrestored (foundOn a) = restoreRefusal 0 []
 unrestored (tallied a) = restoreRefusal 0 []
+unrestored (billed a) = restoreRefusal 0 []
 unrestored (streamed a) = restoreRefusal 0 []
 unrestored (offered a) = restoreRefusal 0 []
 unrestored (backedUpAll a) = restoreRefusal 0 []
@@ -55,6 +56,7 @@ unlisted (retired n l) = listingRefusal n
 unlisted (listed a) = a
 unlisted (foundOn a) = listingRefusal 0
 unlisted (tallied a) = listingRefusal 0
+unlisted (billed a) = listingRefusal 0
 unlisted (streamed a) = listingRefusal 0
 unlisted (offered a) = listingRefusal 0
 unlisted (backedUpAll a) = listingRefusal 0
@@ -69,6 +71,7 @@ numberIn (retired n l) = l
 numberIn (listed a) = 0
 numberIn (foundOn a) = 0
 numberIn (tallied a) = 0
+numberIn (billed a) = 0
 numberIn (streamed a) = 0
 numberIn (offered a) = 0
 numberIn (backedUpAll a) = 0

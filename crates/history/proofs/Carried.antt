@@ -21,7 +21,7 @@ use Rattle.sha1.specs.Sha1.{sha1}
 use Rattle.sent.specs.Sent.{backupSent}
 use Rattle.laws.proofs.Fits.{Proper}
 use Rattle.closing.specs.Closing.{TillImage, imagesIn, closingFits, backupOne, backupEach, AllAnswer, allRefused, allAnswer, closedOr, backupAll}
-use Rattle.history.specs.Calls.{Call, callLayout, callBackup, callRestore, callRetire, callListing, callVersionOn, callTally, callWriteStream, callOffer, callBackupSent, callBackupAll, callSetRights, Buffers, Answer, stateAfter, answerIn, refusalIn, isAccepted}
+use Rattle.history.specs.Calls.{Call, callLayout, callBackup, callRestore, callRetire, callListing, callVersionOn, callTally, callBill, callWriteStream, callOffer, callBackupSent, callBackupAll, callSetRights, Buffers, Answer, stateAfter, answerIn, refusalIn, isAccepted}
 use Rattle.history.specs.Users.{answerBy, refusalBy, forUser, stateBy, answerInBy}
 use Rattle.history.specs.Keeper.{imageSent, CallMade, backupFor, backupsMade, closingMade, itself, comesTo}
 use Rattle.history.specs.View.{viewAt, tillNamed, IsPlain}
@@ -127,6 +127,7 @@ carried s b st l u (callRetire t v) = itself-carried s u b st l (callRetire t v)
 carried s b st l u (callListing t) = itself-carried s u b st l (callListing t) tt
 carried s b st l u (callVersionOn t day) = itself-carried s u b st l (callVersionOn t day) tt
 carried s b st l u callTally = itself-carried s u b st l callTally tt
+carried s b st l u (callBill price) = itself-carried s u b st l (callBill price) tt
 carried s b st l u (callWriteStream t v output) = itself-carried s u b st l (callWriteStream t v output) tt
 carried s b st l u (callOffer t fs ms) = itself-carried s u b st l (callOffer t fs ms) tt
 carried s b st l u (callBackupSent t n fs ms ss) =

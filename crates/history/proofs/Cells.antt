@@ -23,39 +23,12 @@ use Rattle.model.specs.Calls.{emptyTill, tillOf, heldFrom}
 use Rattle.laws.proofs.Sweep.{countIn, named-one}
 use Rattle.laws.proofs.Counts.{at, held-positive}
 use Rattle.laws.proofs.Place.{held-named}
+use Rattle.laws.proofs.Named.{record-of, position-of}
 use Rattle.laws.proofs.Serves.{pointersOf, Valid, sound-valid}
 use Rattle.laws.proofs.Tills.{held-here, held-later}
 use Rattle.history.specs.Demand.{pointersHeld, LedTo}
 
 -- ---- occupied and led to
-
--- the record and the position that name a cell
-record-of : (c : ℕ) (segs : List Segment) → 0 < uses c (namedCells segs) → (k : ℕ) × (0 < uses c (cellsOf (getD segs k [])))
-unfolding namedCells joined
-record-of c [] h = unfold uses in absurd (not-suc-le-zero h)
-record-of c (seg ∷ segs) h = go (ltb 0 (uses c (cellsOf seg))) refl (λ l. record-of c segs l)
-  where
-    go : (t : Bool) → ltb 0 (uses c (cellsOf seg)) ≡ t → (0 < uses c (namedCells segs) → (k : ℕ) × (0 < uses c (cellsOf (getD segs k []))))
-        → (k : ℕ) × (0 < uses c (cellsOf (getD (seg ∷ segs) k [])))
-    go true e r = (0, ltb-true 0 _ e)
-    go false e r =
-        let z = r (unfold namedCells in omega (arith, h, ltb-false 0 (uses c (cellsOf seg)) e, uses-append c (cellsOf seg) (joined (map cellsOf segs)))) in
-        (suc (z .0), z .1)
-
-position-of : (c : ℕ) (seg : Segment) → 0 < uses c (cellsOf seg)
-    → (i : ℕ) × (isHeld (getD seg i nullPosition) ≡ true) × (cellOf (getD seg i nullPosition) ≡ c)
-unfolding cellsOf uses
-position-of c [] h = absurd (not-suc-le-zero h)
-position-of c (nullPosition ∷ seg) h = let z = position-of c seg h in (suc (z .0), z .1, z .2)
-position-of c (blankPosition ∷ seg) h = let z = position-of c seg h in (suc (z .0), z .1, z .2)
-position-of c (held d n ∷ seg) h = go (eqb c d) refl (λ l. position-of c seg l)
-  where
-    go : (t : Bool) → eqb c d ≡ t
-        → (0 < uses c (cellsOf seg) → (i : ℕ) × (isHeld (getD seg i nullPosition) ≡ true) × (cellOf (getD seg i nullPosition) ≡ c))
-        → (i : ℕ) × (isHeld (getD (held d n ∷ seg) i nullPosition) ≡ true) × (cellOf (getD (held d n ∷ seg) i nullPosition) ≡ c)
-    go true e r = (0, refl, sym (eqb-true c d e))
-    go false e r = let z = r (omega (arith, rw e at h)) in (suc (z .0), z .1, z .2)
-position-of c (removed ∷ seg) h = let z = position-of c seg h in (suc (z .0), z .1, z .2)
 
 -- the pointer, the version and the till that lead to a position
 leads-is : (k i : ℕ) (p : Pointer) → leadsTo k i p ≡ true → p ≡ direct k i

@@ -21,7 +21,7 @@ use Rattle.model.specs.Calls.{emptyTill, emptyState, tillOf, After, backup, ret
 use Rattle.model.specs.Rights.{toList, versionOnRefusal, versionOnAs, setRights}
 use Rattle.laws.proofs.Fits.{Proper}
 use Rattle.laws.proofs.Backup.{backup-day}
-use Rattle.history.specs.Calls.{Call, callLayout, callBackup, callRestore, callRetire, callListing, callVersionOn, callTally, callWriteStream, callOffer, callBackupSent, callBackupAll, callSetRights, Buffers, stateAfter, answerIn, refusalIn, isAccepted}
+use Rattle.history.specs.Calls.{Call, callLayout, callBackup, callRestore, callRetire, callListing, callVersionOn, callTally, callBill, callWriteStream, callOffer, callBackupSent, callBackupAll, callSetRights, Buffers, stateAfter, answerIn, refusalIn, isAccepted}
 use Rattle.history.specs.Users.{UserCall, buffersBy, stateBy, refusedLayouts, stateAfterAll}
 use Rattle.history.specs.Keeper.{Kept, KeptTill, Keeper, noTill, keptTill, newestKept, keptNotAfter, CallMade, comesTo}
 use Rattle.history.specs.View.{VersionView, TillView, viewVersions, viewOf, viewAt, tillNamed, withKinds, turnNewest, newestDayShown, dayShown, shownWith, takeOverKind, dropVersion, shownWithout, shownRights, changed, IsPlain, shownNotAfter}
@@ -162,6 +162,7 @@ module _ (s : Shape) (pr : Proper (s .measures)) (st : State) (h : isSound s st 
   own-days (callListing t) p = z t
   own-days (callVersionOn t day) p = z t
   own-days callTally p = z 0
+  own-days (callBill price) p = z 0
   own-days (callWriteStream t v output) p = z t
   own-days (callOffer t fs ms) p = z t
   own-days (callBackupSent t n fs ms ss) p = absurd p

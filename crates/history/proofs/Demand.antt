@@ -3,7 +3,7 @@ use mathlib.Core.Path.{_≡_, refl, sym, ap, ap₂, _∙_, subst}
 use mathlib.Core.Bool.{true, false≢true}
 use mathlib.Core.List.{List, [], _∷_, map}
 use mathlib.Core.Option.{Option}
-use Prim.Native.Nat.{ℕ, _<_}
+use Prim.Native.Nat.{ℕ, _*_, _<_}
 use lib.ListN.{length, getD, List·getD-map}
 use Rattle.lists.specs.Lists.{rises}
 use Rattle.lists.specs.Rows.{chunks}
@@ -17,6 +17,7 @@ use Rattle.model.specs.Calls.{emptyState, TallyAnswer, tallyIn, tallyOf, tillOf
 use Rattle.model.specs.Rights.{ownerRefusal, unless, tallyRefusal, tallyAs}
 use Rattle.laws.proofs.Serves.{sound-valid}
 use Rattle.laws.proofs.Named.{named-full, named-inside, named-count}
+use Rattle.bill.proofs.Exact.{bill-is-exact}
 use Rattle.history.specs.Calls.{Buffers}
 use Rattle.history.specs.Users.{buffersAfterAll, stateAfterAll}
 use Rattle.history.specs.Keeper.{Kept, Keeper, freshKeeper, fedAll, keptFrom, keptTill}
@@ -90,6 +91,8 @@ module _ (s : Shape) (b : Buffers) (st : State) (k : Keeper) (l : Left s b st) (
     nonZero = named-full (st .shelf) (sound-valid s st (l .sound) .exact);
     led = named-leads s st (l .sound);
     inside = named-inside s st (l .sound);
+    billed = λ u price e.
+        bill-is-exact (b .pool) (b .table) (record { shape = s; state = st }) u price (left-store s b st l) e ∙ ap (λ (n : ℕ). price * n) (named-count s st (l .sound));
     counts = λ u e. ap (λ (a : TallyAnswer). a .cells) (tally-accepted (ownerRefusal (storeOf (b .pool) (b .table)) u) e) ∙ ap (λ (o : Option Store). tallyIn o .cells) (left-store s b st l) ∙ named-count s st (l .sound);
   }
     where

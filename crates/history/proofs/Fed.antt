@@ -15,7 +15,7 @@ use Rattle.model.specs.Sound.{isSound}
 use Rattle.model.specs.Calls.{emptyTill, tillOf, emptyState, backup, retire, outcomeRefusal}
 use Rattle.model.specs.Rights.{setRights}
 use Rattle.laws.proofs.Fits.{Proper}
-use Rattle.history.specs.Calls.{Call, callLayout, callBackup, callRestore, callRetire, callListing, callVersionOn, callTally, callWriteStream, callOffer, callBackupSent, callBackupAll, callSetRights, Buffers, stateAfter, answerIn, refusalIn, isAccepted}
+use Rattle.history.specs.Calls.{Call, callLayout, callBackup, callRestore, callRetire, callListing, callVersionOn, callTally, callBill, callWriteStream, callOffer, callBackupSent, callBackupAll, callSetRights, Buffers, stateAfter, answerIn, refusalIn, isAccepted}
 use Rattle.history.specs.Users.{UserCall, buffersBy, stateBy, refusedLayouts, stateAfterAll}
 use Rattle.history.specs.Keeper.{KeptTill, Keeper, noTill, freshKeeper, keptTill, filed, struckOut, rightsKept, fed, CallMade, fedEach, comesTo, fedAll}
 use Rattle.history.specs.View.{TillView, viewVersions, viewOf, viewAt, tillNamed, changed, IsPlain}
@@ -39,6 +39,7 @@ change (callRetire t v) false y = y
 change (callListing t) ok y = y
 change (callVersionOn t day) ok y = y
 change callTally ok y = y
+change (callBill price) ok y = y
 change (callWriteStream t v output) ok y = y
 change (callOffer t fs ms) ok y = y
 change (callBackupSent t n fs ms ss) ok y = y
@@ -57,6 +58,7 @@ fed-is k (callRetire t v) false = sym (set-getD k t noTill)
 fed-is k (callListing t) ok = sym (set-getD k t noTill)
 fed-is k (callVersionOn t day) ok = sym (set-getD k t noTill)
 fed-is k callTally ok = sym (set-getD k 0 noTill)
+fed-is k (callBill price) ok = sym (set-getD k 0 noTill)
 fed-is k (callWriteStream t v output) ok = sym (set-getD k t noTill)
 fed-is k (callOffer t fs ms) ok = sym (set-getD k t noTill)
 fed-is k (callBackupSent t n fs ms ss) ok = sym (set-getD k t noTill)
@@ -104,6 +106,7 @@ module _ (s : Shape) (pr : Proper (s .measures)) (st : State) (h : isSound s st 
   own-agrees (callListing t) y a = a
   own-agrees (callVersionOn t day) y a = a
   own-agrees callTally y a = a
+  own-agrees (callBill price) y a = a
   own-agrees (callWriteStream t v output) y a = a
   own-agrees (callOffer t fs ms) y a = a
   own-agrees (callBackupSent t n fs ms ss) y a = a
@@ -125,6 +128,7 @@ module _ (s : Shape) (pr : Proper (s .measures)) (st : State) (h : isSound s st 
   change-none (callListing t) e y = refl
   change-none (callVersionOn t day) e y = refl
   change-none callTally e y = refl
+  change-none (callBill price) e y = refl
   change-none (callWriteStream t v output) e y = refl
   change-none (callOffer t fs ms) e y = refl
   change-none (callBackupSent t n fs ms ss) e y = refl
@@ -180,6 +184,7 @@ fed-refused k (callRetire t v) p = refl
 fed-refused k (callListing t) p = refl
 fed-refused k (callVersionOn t day) p = refl
 fed-refused k callTally p = refl
+fed-refused k (callBill price) p = refl
 fed-refused k (callWriteStream t v output) p = refl
 fed-refused k (callOffer t fs ms) p = refl
 fed-refused k (callBackupSent t n fs ms ss) p = absurd p

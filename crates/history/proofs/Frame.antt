@@ -18,7 +18,7 @@ use Rattle.laws.proofs.Fits.{Proper}
 use Rattle.laws.proofs.Backup.{backup-filed}
 use Rattle.laws.proofs.Retire.{retire-done}
 use Rattle.laws.proofs.Keys.{rights-set}
-use Rattle.history.specs.Calls.{Call, callLayout, callBackup, callRestore, callRetire, callListing, callVersionOn, callTally, callWriteStream, callOffer, callBackupSent, callBackupAll, callSetRights, stateAfter, answerIn, refusalIn, isAccepted}
+use Rattle.history.specs.Calls.{Call, callLayout, callBackup, callRestore, callRetire, callListing, callVersionOn, callTally, callBill, callWriteStream, callOffer, callBackupSent, callBackupAll, callSetRights, stateAfter, answerIn, refusalIn, isAccepted}
 use Rattle.history.specs.View.{viewAt, tillNamed, changed, IsPlain}
 use Rattle.history.proofs.Filing.{filed-own, filed-other, retired-own, retired-other, rights-own, rights-other}
 use Rattle.history.proofs.Numbered.{Numbered, backup-numbered, retire-numbered, rights-numbered}
@@ -57,6 +57,7 @@ module _ (s : Shape) (pr : Proper (s .measures)) (st : State) (h : isSound s st 
   frame-own (callListing t) p = refl
   frame-own (callVersionOn t day) p = refl
   frame-own callTally p = refl
+  frame-own (callBill price) p = refl
   frame-own (callWriteStream t v output) p = refl
   frame-own (callOffer t fs ms) p = refl
   frame-own (callBackupSent t n fs ms ss) p = absurd p
@@ -92,6 +93,7 @@ module _ (s : Shape) (pr : Proper (s .measures)) (st : State) (h : isSound s st 
   frame-other (callListing t) p u ne = refl
   frame-other (callVersionOn t day) p u ne = refl
   frame-other callTally p u ne = refl
+  frame-other (callBill price) p u ne = refl
   frame-other (callWriteStream t v output) p u ne = refl
   frame-other (callOffer t fs ms) p u ne = refl
   frame-other (callBackupSent t n fs ms ss) p u ne = absurd p

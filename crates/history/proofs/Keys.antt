@@ -10,12 +10,14 @@ use borrow.Author.Tests.{eqb-true, eq-eqb, ne-eqb, le-leb}
 use Rattle.model.specs.Measures.{Shape}
 use Rattle.model.specs.State.{Rights, staff, State, refused}
 use Rattle.model.specs.Sound.{storeOf}
+use Rattle.lists.specs.Rows.{fill}
+use Rattle.bill.specs.Bill.{bill, billRefused, billIn, billOf, billAs}
 use Rattle.model.specs.Calls.{tillOf, tallyIn, tallyOf, TallyAnswer, BackupAnswer, backupBy, RestoreAnswer, restoreRefusal, restoreOf, RetireAnswer, retireOf, ListingAnswer, listingRefusal, listingOf, VersionOnAnswer, versionOnOf}
 use Rattle.model.specs.Rights.{Right, toList, toBackUp, toRestore, toRetire, userRefusal, refusalFor, notOwner, ownerRefusal, unless, backupRefusal, backupAs, restoreAs, retireRefusal, retireAs, listingAs, versionOnRefusal, versionOnAs, tallyRefusal, tallyAs, setRightsOf}
 use Rattle.stream.specs.Stream.{StreamAnswer, streamRefusal}
 use Rattle.stream.specs.Version.{writeStreamOf, writeStreamAs}
 use Rattle.sent.specs.Sent.{OfferAnswer, offerOf, offerAs, backupSentOf, backupSentAs}
-use Rattle.history.specs.Calls.{Call, callLayout, callBackup, callRestore, callRetire, callListing, callVersionOn, callTally, callWriteStream, callOffer, callBackupSent, callBackupAll, callSetRights, Buffers, refusalIn}
+use Rattle.history.specs.Calls.{Call, callLayout, callBackup, callRestore, callRetire, callListing, callVersionOn, callTally, callBill, callWriteStream, callOffer, callBackupSent, callBackupAll, callSetRights, Buffers, refusalIn}
 use Rattle.history.specs.Users.{rightFor, answerBy, refusalBy}
 use Rattle.history.specs.Keeper.{Keeper, keptTill}
 use Rattle.history.specs.View.{viewOf, tillNamed}
@@ -95,6 +97,7 @@ module _ (s : Shape) (b : Buffers) (st : State) (k : Keeper) (l : Left s b st) (
       subst (Away u (callVersionOn t day)) (Option·some-injective _ right e)
       (unfold versionOnAs in turned-away (λ (a : VersionOnAnswer). a .refusal) versionOnRefusal (λ n. unfold versionOnRefusal in refl) u t toList (versionOnOf (b .pool) (b .table) t day))
   refused-by u callTally right e = absurd (Option·none-ne-some right e)
+  refused-by u (callBill price) right e = absurd (Option·none-ne-some right e)
   refused-by u (callWriteStream t v output) right e =
       subst (Away u (callWriteStream t v output)) (Option·some-injective _ right e)
       (unfold writeStreamAs in turned-away (λ (a : StreamAnswer). a .refusal) (λ n. streamRefusal n output) (λ n. unfold streamRefusal in refl) u t toRestore (writeStreamOf (b .pool) (b .table) t v output))
@@ -115,6 +118,15 @@ module _ (s : Shape) (b : Buffers) (st : State) (k : Keeper) (l : Left s b st) (
       go n true q a e = e ∙ sym (eqb-true n 0 q)
       go n false q a e = unfold tallyRefusal in refl
 
+  bill-by : (u price : ℕ) → billAs (b .pool) (b .table) u price .refusal ≡ unless (notOwner u) (λ n. n) (cond (ltb 10000 price) 30 0)
+  unfolding billAs ownerRefusal billOf billIn
+  bill-by u price = rw (left-store s b st l) (go (notOwner u) (eqb (notOwner u) 0) (ltb 10000 price) (fill 16 (bill price st)))
+    where
+      go : (n : ℕ) (may dear : Bool) (sums : List ℕ) → cond may (cond dear (billRefused 30) (record { refusal = 0; sums = sums })) (billRefused n) .refusal ≡ cond may (cond dear 30 0) n
+      go n true true sums = unfold billRefused in refl
+      go n true false sums = refl
+      go n false dear sums = unfold billRefused in refl
+
   set-by : (u subject t : ℕ) (r : Rights) → setRightsOf (b .pool) (b .table) u subject t r .refusal
       ≡ cond (leb (length k) t) 3 (cond (ltb staff u || (eqb subject 0 || ltb staff subject)) 22 (cond (ltb 0 u) 23 0))
   set-by u subject t r =
@@ -123,4 +135,4 @@ module _ (s : Shape) (b : Buffers) (st : State) (k : Keeper) (l : Left s b st) (
       ∙ ap (λ (n : ℕ). cond (leb n t) 3 (cond (ltb staff u || (eqb subject 0 || ltb staff subject)) 22 (cond (ltb 0 u) 23 0))) (sym (z .many))
 
   pub keys : Keys (s .measures .blockBytes) st k b
-  keys = record { kept = rights-kept; refused = refused-by; tally = tally-by; set = set-by }
+  keys = record { kept = rights-kept; refused = refused-by; tally = tally-by; bill = bill-by; set = set-by }

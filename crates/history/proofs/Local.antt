@@ -19,7 +19,7 @@ use Rattle.model.specs.Trace.{imageOf}
 use Rattle.model.specs.Calls.{tillOf, heldFrom, restoreFrom, restoreRefusal, restore, heldBefore, retireFrom, retire, newestDay, dayFor, VersionOnAnswer, notAfter, versionOnIn, fileIn, placeAndFile, backup, listTill, listingRefusal, listingIn, RestoreAnswer, After, firstOf, notHeld, lookUp, outcomeRefusal, outcomeNumber}
 use Rattle.model.specs.Rights.{setRights}
 use Rattle.stream.specs.Version.{longestOutput, writeRestored, writeVersion}
-use Rattle.history.specs.Calls.{Call, callLayout, callBackup, callRestore, callRetire, callListing, callVersionOn, callTally, callWriteStream, callOffer, callBackupSent, callBackupAll, callSetRights, Answer, backedUp, restored, retired, listed, foundOn, streamed, rightsSet, answerIn}
+use Rattle.history.specs.Calls.{Call, callLayout, callBackup, callRestore, callRetire, callListing, callVersionOn, callTally, callBill, callWriteStream, callOffer, callBackupSent, callBackupAll, callSetRights, Answer, backedUp, restored, retired, listed, foundOn, streamed, rightsSet, answerIn}
 use Rattle.history.specs.View.{VersionView, viewVersions, viewOf, viewAt, isOnTill, tillNamed, shownFrom, shownNotAfter, restoreShown, retireShown, answerShown}
 use Rattle.history.proofs.Users.{set-refusal}
 use Rattle.history.proofs.Shown.{views-length, newest-day-is, day-is, newest-or-none, oldest-is, newest-is, from-same, chain-is}
@@ -213,6 +213,7 @@ HasRoom (callRetire t v) a = Unit {0}
 HasRoom (callListing t) a = Unit {0}
 HasRoom (callVersionOn t day) a = Unit {0}
 HasRoom callTally a = Unit {0}
+HasRoom (callBill price) a = Unit {0}
 HasRoom (callWriteStream t v output) a = Unit {0}
 HasRoom (callOffer t fs ms) a = Unit {0}
 HasRoom (callBackupSent t n fs ms ss) a = Unit {0}
@@ -230,6 +231,7 @@ answer-in s st (callRetire t v) on room = retire-shown s st t v
 answer-in s st (callListing t) on room = listing-shown s st t
 answer-in s st (callVersionOn t day) on room = found-shown s st t day
 answer-in s st callTally on room = absurd (false≢true on)
+answer-in s st (callBill price) on room = absurd (false≢true on)
 answer-in s st (callWriteStream t v output) on room = stream-shown s st t v output
 answer-in s st (callOffer t fs ms) on room = absurd (false≢true on)
 answer-in s st (callBackupSent t n fs ms ss) on room = absurd (false≢true on)

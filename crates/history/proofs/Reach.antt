@@ -15,7 +15,7 @@ use Rattle.laws.proofs.Fits.{Proper}
 use Rattle.laws.proofs.Backup.{backup-sound}
 use Rattle.laws.proofs.Retire.{retire-sound}
 use Rattle.laws.proofs.Keys.{rights-set}
-use Rattle.history.specs.Calls.{Call, callLayout, callBackup, callRestore, callRetire, callListing, callVersionOn, callTally, callWriteStream, callOffer, callBackupSent, callBackupAll, callSetRights, stateAfter}
+use Rattle.history.specs.Calls.{Call, callLayout, callBackup, callRestore, callRetire, callListing, callVersionOn, callTally, callBill, callWriteStream, callOffer, callBackupSent, callBackupAll, callSetRights, stateAfter}
 use Rattle.closing.specs.Closing.{TillImage, imagesIn, closingFits, backupOne, backupEach, closedOr, backupAll}
 use Rattle.history.specs.Keeper.{imageSent}
 use Rattle.history.proofs.Sent.{here, sent-alike}
@@ -75,6 +75,7 @@ module _ (s : Shape) (pr : Proper (s .measures)) (st : State) (h : isSound s st 
   sound-after (callListing t) = h
   sound-after (callVersionOn t day) = h
   sound-after callTally = h
+  sound-after (callBill price) = h
   sound-after (callWriteStream t v output) = h
   sound-after (callOffer t fs ms) = h
   sound-after (callBackupSent t n fs ms ss) =

@@ -14,12 +14,13 @@ use Rattle.model.specs.Calls.{layoutOf, BackupAnswer, RetireAnswer, TallyAnswer
 use Rattle.model.specs.Rights.{toList, toBackUp, toRestore, toRetire, refusalFor, ownerRefusal, unless, backupRefusal, backupAs, restoreAs, retireRefusal, retireAs, listingAs, versionOnRefusal, versionOnAs, tallyRefusal, tallyAs, setRights, rightsAnswer, setRightsIn, setRightsOf}
 use Rattle.laws.proofs.Empty.{layout-refused}
 use Rattle.sha1.specs.Sha1.{sha1}
+use Rattle.bill.specs.Bill.{BillAnswer, billRefused, billIn, billOf, billAs}
 use Rattle.closing.specs.Closing.{Closed, allRefused, allAnswer, backupAll, backupAllAnswer, backupAllIn, backupAllAs}
 use Rattle.sent.specs.Sent.{OfferAnswer, offer, offerAnswer, offerIn, offerOf, offerAs, backupSentAs, backupSent, backupSentIn, backupSentBy, backupSentOf}
 use Rattle.stream.specs.Stream.{StreamAnswer, streamRefusal}
 use Rattle.stream.specs.Version.{writeStreamOf, writeStreamAs}
 use Rattle.stream_laws.proofs.Theorems.{claims}
-use Rattle.history.specs.Calls.{Call, callLayout, callBackup, callRestore, callRetire, callListing, callVersionOn, callTally, callWriteStream, callOffer, callBackupSent, callBackupAll, callSetRights, Buffers, refusalOf, buffersAfter, Answer, laidOut, backedUp, restored, retired, listed, foundOn, tallied, streamed, offered, backedUpAll, rightsSet, refusalIn, answerOf}
+use Rattle.history.specs.Calls.{Call, callLayout, callBackup, callRestore, callRetire, callListing, callVersionOn, callTally, callBill, callWriteStream, callOffer, callBackupSent, callBackupAll, callSetRights, Buffers, refusalOf, buffersAfter, Answer, laidOut, backedUp, restored, retired, listed, foundOn, tallied, billed, streamed, offered, backedUpAll, rightsSet, refusalIn, answerOf}
 use Rattle.history.specs.Users.{buffersBy, answerBy, refusalBy}
 
 same-buffers : (b : Buffers) (pool table : List ℕ) → pool ≡ b .pool → table ≡ b .table → record { pool = pool; table = table } ≡ b
@@ -85,6 +86,7 @@ alters-nothing b (callRetire t v) h = unfold retireOf in go (storeOf (b .pool) (
 alters-nothing b (callListing t) h = refl
 alters-nothing b (callVersionOn t day) h = refl
 alters-nothing b callTally h = refl
+alters-nothing b (callBill price) h = refl
 alters-nothing b (callWriteStream t v output) h = refl
 alters-nothing b (callOffer t fs ms) h = refl
 alters-nothing b (callBackupSent t n fs ms ss) h = unfold backupSentOf backupSentBy in go (storeOf (b .pool) (b .table)) h
@@ -105,6 +107,7 @@ refusedWith n (callRetire t v) = retired n 0
 refusedWith n (callListing t) = listed (record { refusal = n; oldest = 0; newest = 0; last = 0 })
 refusedWith n (callVersionOn t day) = foundOn (record { refusal = n; version = 0 })
 refusedWith n callTally = tallied (record { refusal = n; cells = 0; records = 0; counts = 0 })
+refusedWith n (callBill price) = billed (billRefused n)
 refusedWith n (callWriteStream t v output) = streamed (record { refusal = n; length = 0; output = output })
 refusedWith n (callOffer t fs ms) = offered (record { refusal = n; marks = ms })
 refusedWith n (callBackupSent t bytes fs ms ss) = backedUp n 0
@@ -165,6 +168,11 @@ offer-zero t fs ms (some x) = go (offer sha1 (x .shape) (x .state) t fs ms)
     go (refused n) = unfold offerAnswer in (λ h. refl)
     go (done marks) = unfold offerAnswer in (λ h. absurd (h refl))
 
+bill-zero : (price : ℕ) (o : Option Store) → ¬ (billIn o price .refusal ≡ 0) → billIn o price ≡ billRefused (billIn o price .refusal)
+unfolding billIn billRefused
+bill-zero price none = λ h. refl
+bill-zero price (some x) = by-test (λ (a : BillAnswer). ¬ (a .refusal ≡ 0) → a ≡ billRefused (a .refusal)) (ltb 10000 price) (λ e h. unfold billRefused in refl) (λ e h. absurd (h refl))
+
 tally-zero : (o : Option Store) → ¬ (tallyIn o .refusal ≡ 0) → tallyIn o ≡ record { refusal = tallyIn o .refusal; cells = 0; records = 0; counts = 0 }
 unfolding tallyIn
 tally-zero none h = refl
@@ -216,6 +224,7 @@ answers-number-only b (callRetire t v) h = unfold retireOf in go (storeOf (b .po
 answers-number-only b (callListing t) h = unfold listingOf in ap listed (listing-zero t (storeOf (b .pool) (b .table)) h)
 answers-number-only b (callVersionOn t day) h = unfold versionOnOf in ap foundOn (found-zero t day (storeOf (b .pool) (b .table)) h)
 answers-number-only b callTally h = unfold tallyOf in ap tallied (tally-zero (storeOf (b .pool) (b .table)) h)
+answers-number-only b (callBill price) h = unfold billOf in ap billed (bill-zero price (storeOf (b .pool) (b .table)) h)
 answers-number-only b (callWriteStream t v output) h = ap streamed (stream-zero b t v output h)
 answers-number-only b (callOffer t fs ms) h = unfold offerOf in ap offered (offer-zero t fs ms (storeOf (b .pool) (b .table)) h)
 answers-number-only b (callBackupSent t n fs ms ss) h = unfold backupSentOf backupSentBy in go (storeOf (b .pool) (b .table)) h
@@ -263,6 +272,7 @@ alters-nothing-by b u (callRetire t v) h =
 alters-nothing-by b u (callListing t) h = refl
 alters-nothing-by b u (callVersionOn t day) h = refl
 alters-nothing-by b u callTally h = refl
+alters-nothing-by b u (callBill price) h = refl
 alters-nothing-by b u (callWriteStream t v output) h = refl
 alters-nothing-by b u (callOffer t fs ms) h = refl
 alters-nothing-by b u (callBackupSent t n fs ms ss) h =
@@ -321,6 +331,9 @@ answers-number-only-by b u (callVersionOn t day) h =
 answers-number-only-by b u callTally h =
     unfold tallyAs in
     ap tallied (number-unless (λ (a : TallyAnswer). a .refusal) tallyRefusal (λ n. unfold tallyRefusal in refl) (ownerRefusal (storeOf (b .pool) (b .table)) u) (tallyOf (b .pool) (b .table)) (unfold tallyOf tallyRefusal in tally-zero (storeOf (b .pool) (b .table))) h)
+answers-number-only-by b u (callBill price) h =
+    unfold billAs in
+    ap billed (number-unless (λ (a : BillAnswer). a .refusal) billRefused (λ n. unfold billRefused in refl) (ownerRefusal (storeOf (b .pool) (b .table)) u) (billOf (b .pool) (b .table) price) (unfold billOf billRefused in bill-zero price (storeOf (b .pool) (b .table))) h)
 answers-number-only-by b u (callWriteStream t v output) h =
     unfold writeStreamAs in
     ap streamed (number-unless (λ (a : StreamAnswer). a .refusal) (λ n. streamRefusal n output) (λ n. unfold streamRefusal in refl) (refusalFor (storeOf (b .pool) (b .table)) u t toRestore) (writeStreamOf (b .pool) (b .table) t v output) (unfold streamRefusal in stream-zero b t v output) h)

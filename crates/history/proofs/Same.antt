@@ -10,7 +10,7 @@ use Rattle.model.specs.Calls.{backup, restore, restoreRefusal, retire, listingI
 use Rattle.model.specs.Rights.{Right, toList, toBackUp, toRestore, toRetire, userRefusal, refusalAt, unless, versionOnRefusal, setRights}
 use Rattle.stream.specs.Stream.{streamRefusal}
 use Rattle.stream.specs.Version.{writeVersion}
-use Rattle.history.specs.Calls.{Call, callLayout, callBackup, callRestore, callRetire, callListing, callVersionOn, callTally, callWriteStream, callOffer, callBackupSent, callBackupAll, callSetRights, backedUp, restored, retired, listed, foundOn, streamed, rightsSet, answerIn}
+use Rattle.history.specs.Calls.{Call, callLayout, callBackup, callRestore, callRetire, callListing, callVersionOn, callTally, callBill, callWriteStream, callOffer, callBackupSent, callBackupAll, callSetRights, backedUp, restored, retired, listed, foundOn, streamed, rightsSet, answerIn}
 use Rattle.history.specs.Users.{answerInBy}
 use Rattle.history.specs.View.{TillView, viewOf, viewAt, isOnTill, tillNamed, answerShown}
 use Rattle.history.proofs.Users.{set-refusal}
@@ -59,6 +59,7 @@ module _ (s : Shape) (st st′ : State) (u : ℕ) where
       unless-same foundOn (refusalAt s st u t toList) (refusalAt s st′ u t toList) (refusal-same t toList e) versionOnRefusal
       (versionOnIn (some (record { shape = s; state = st })) t day) (versionOnIn (some (record { shape = s; state = st′ })) t day) (λ q p p′. plain-same (callVersionOn t day) refl tt tt e)
   same-by callTally on room room′ e = absurd (false≢true on)
+  same-by (callBill price) on room room′ e = absurd (false≢true on)
   same-by (callWriteStream t v output) on room room′ e =
       unless-same streamed (refusalAt s st u t toRestore) (refusalAt s st′ u t toRestore) (refusal-same t toRestore e) (λ n. streamRefusal n output)
       (writeVersion s st t v output) (writeVersion s st′ t v output) (λ q p p′. plain-same (callWriteStream t v output) refl tt tt e)

@@ -9,6 +9,7 @@ use Rattle.model.specs.Measures.{Shape}
 use Rattle.model.specs.State.{Rights, State, Outcome, refused, done}
 use Rattle.model.specs.Table.{stateToWords, stateToBytes}
 use Rattle.model.specs.Sound.{isSound, Store, storeOf}
+use Rattle.bill.specs.Bill.{billIn, billOf}
 use Rattle.model.specs.Calls.{emptyState, layoutOf, backup, backupIn, backupBy, backupAnswer, restoreIn, restoreOf, retire, retireIn, retireOf, retireAnswer, listingIn, listingOf, versionOnIn, versionOnOf, tallyIn, tallyOf, After, stateOr, outcomeRefusal, outcomeNumber}
 use Rattle.model.specs.Rights.{setRights, rightsAnswer, setRightsIn, setRightsOf}
 use Rattle.laws.proofs.Keys.{rights-set}
@@ -19,7 +20,7 @@ use Rattle.sha1.specs.Sha1.{sha1}
 use Rattle.sent.specs.Sent.{offerIn, offerOf, backupSent, backupSentIn, backupSentBy, backupSentOf}
 use Rattle.closing.specs.Closing.{Closed, allAnswer, closedOr, backupAll, backupAllAnswer, backupAllIn, backupAllAs}
 use Rattle.stream.specs.Version.{longestOutput, writeRestored, writeVersion, writeStreamOf}
-use Rattle.history.specs.Calls.{Call, callLayout, callBackup, callRestore, callRetire, callListing, callVersionOn, callTally, callWriteStream, callOffer, callBackupSent, callBackupAll, callSetRights, Buffers, refusalOf, buffersAfter, laidOut, backedUp, restored, retired, listed, foundOn, tallied, streamed, offered, backedUpAll, rightsSet, answerOf, refusalIn, refusedLayout, stateAfter, answerIn, isAccepted}
+use Rattle.history.specs.Calls.{Call, callLayout, callBackup, callRestore, callRetire, callListing, callVersionOn, callTally, callBill, callWriteStream, callOffer, callBackupSent, callBackupAll, callSetRights, Buffers, refusalOf, buffersAfter, laidOut, backedUp, restored, retired, listed, foundOn, tallied, billed, streamed, offered, backedUpAll, rightsSet, answerOf, refusalIn, refusedLayout, stateAfter, answerIn, isAccepted}
 use Rattle.history.specs.Demand.{laidOutIn}
 use Rattle.history.proofs.Reach.{sound-after}
 
@@ -83,6 +84,7 @@ left-one s b st call e r = record { fit = e .fit; pool = words call r .0; table 
     words (callListing t) r = unfold buffersAfter stateAfter in (e .pool, e .table)
     words (callVersionOn t day) r = unfold buffersAfter stateAfter in (e .pool, e .table)
     words callTally r = unfold buffersAfter stateAfter in (e .pool, e .table)
+    words (callBill price) r = unfold buffersAfter stateAfter in (e .pool, e .table)
     words (callWriteStream t v output) r = unfold buffersAfter stateAfter in (e .pool, e .table)
     words (callOffer t fs ms) r = unfold buffersAfter stateAfter in (e .pool, e .table)
     words (callBackupSent t n fs ms ss) r =
@@ -143,6 +145,7 @@ answer-same s b st (callRetire t v) e =
 answer-same s b st (callListing t) e = unfold listingOf in ap (λ (o : Option Store). listed (listingIn o t)) (left-store s b st e)
 answer-same s b st (callVersionOn t day) e = unfold versionOnOf in ap (λ (o : Option Store). foundOn (versionOnIn o t day)) (left-store s b st e)
 answer-same s b st callTally e = unfold tallyOf in ap (λ (o : Option Store). tallied (tallyIn o)) (left-store s b st e)
+answer-same s b st (callBill price) e = unfold billOf in ap (λ (o : Option Store). billed (billIn o price)) (left-store s b st e)
 answer-same s b st (callWriteStream t v output) e =
     unfold writeStreamOf writeVersion restoreOf restoreIn in ap (λ (o : Option Store). streamed (writeRestored (restoreIn o t v longestOutput) output)) (left-store s b st e)
 answer-same s b st (callOffer t fs ms) e = unfold offerOf in ap (λ (o : Option Store). offered (offerIn sha1 o t fs ms)) (left-store s b st e)
@@ -163,6 +166,7 @@ refusal-in b (callRetire t v) = refl
 refusal-in b (callListing t) = refl
 refusal-in b (callVersionOn t day) = refl
 refusal-in b callTally = refl
+refusal-in b (callBill price) = refl
 refusal-in b (callWriteStream t v output) = refl
 refusal-in b (callOffer t fs ms) = refl
 refusal-in b (callBackupSent t n fs ms ss) = refl

@@ -9,7 +9,7 @@ use Rattle.model.specs.Measures.{Shape}
 use Rattle.model.specs.State.{Shelf, Version, State}
 use Rattle.model.specs.Trace.{imageOf}
 use Rattle.model.specs.Calls.{emptyState, tillOf}
-use Rattle.history.specs.Calls.{Call, callLayout, callBackup, callRestore, callRetire, callListing, callVersionOn, callTally, callWriteStream, callOffer, callBackupSent, callBackupAll, callSetRights, Buffers, refusedLayout, refusalIn, stateAfter, isAccepted}
+use Rattle.history.specs.Calls.{Call, callLayout, callBackup, callRestore, callRetire, callListing, callVersionOn, callTally, callBill, callWriteStream, callOffer, callBackupSent, callBackupAll, callSetRights, Buffers, refusedLayout, refusalIn, stateAfter, isAccepted}
 use Rattle.history.specs.Users.{UserCall, buffersBy, answerBy, refusalBy, stateBy, answerInBy, buffersAfterAll, stateAfterAll}
 use Rattle.history.specs.View.{VersionView, TillView, viewVersions, viewOf, viewAt, chainShown, isOnTill, tillNamed, IsPlain}
 use Rattle.history.specs.Demand.{laidOutIn}
@@ -41,6 +41,7 @@ no-layout b (callRetire t v) h = tt
 no-layout b (callListing t) h = tt
 no-layout b (callVersionOn t day) h = tt
 no-layout b callTally h = tt
+no-layout b (callBill price) h = tt
 no-layout b (callWriteStream t v output) h = tt
 no-layout b (callOffer t fs ms) h = tt
 no-layout b (callBackupSent t n fs ms ss) h = tt
@@ -55,6 +56,7 @@ is-plain (callRetire t v) h = tt
 is-plain (callListing t) h = tt
 is-plain (callVersionOn t day) h = tt
 is-plain callTally h = tt
+is-plain (callBill price) h = tt
 is-plain (callWriteStream t v output) h = tt
 is-plain (callOffer t fs ms) h = tt
 is-plain (callBackupSent t n fs ms ss) h = absurd h

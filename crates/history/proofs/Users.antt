@@ -10,6 +10,7 @@ use Rattle.model.specs.State.{Rights, staff, State, Outcome, refused, done}
 use Rattle.model.specs.Image.{Era}
 use Rattle.model.specs.Table.{stateToWords, stateToBytes}
 use Rattle.model.specs.Sound.{isSound, Store, storeOf}
+use Rattle.bill.specs.Bill.{BillAnswer, billRefused, billIn, billOf, billAs}
 use Rattle.model.specs.Calls.{layoutOf, tillOf, withTill, BackupAnswer, RestoreAnswer, ListingAnswer, VersionOnAnswer, TallyAnswer, backup, backupIn, backupBy, backupAnswer, restore, restoreIn, restoreOf, restoreRefusal, retire, RetireAnswer, retireIn, retireOf, retireAnswer, listingIn, listingOf, listingRefusal, versionOnIn, versionOnOf, tallyIn, tallyOf, After, stateOr, outcomeRefusal, outcomeNumber}
 use Rattle.model.specs.Rights.{Right, toList, toBackUp, toRestore, toRetire, refusalAt, refusalFor, notOwner, ownerRefusal, unless, backupRefusal, backupAs, restoreAs, retireRefusal, retireAs, listingAs, versionOnRefusal, versionOnAs, tallyRefusal, tallyAs, withRights, setRights}
 use Rattle.laws.proofs.Empty.{layout-refused}
@@ -18,7 +19,7 @@ use Rattle.sha1.specs.Sha1.{sha1}
 use Rattle.stream.specs.Stream.{StreamAnswer, streamRefusal}
 use Rattle.stream.specs.Version.{writeVersion, writeStreamOf, writeStreamAs}
 use Rattle.sent.specs.Sent.{OfferAnswer, offerIn, offerOf, offerAs, backupSent, backupSentIn, backupSentBy, backupSentOf, backupSentAs}
-use Rattle.history.specs.Calls.{Call, callLayout, callBackup, callRestore, callRetire, callListing, callVersionOn, callTally, callWriteStream, callOffer, callBackupSent, callBackupAll, callSetRights, Buffers, laidOut, backedUp, retired, backedUpAll, rightsSet, refusalIn, refusedLayout, buffersAfter, stateAfter, answerIn, isAccepted}
+use Rattle.history.specs.Calls.{Call, callLayout, callBackup, callRestore, callRetire, callListing, callVersionOn, callTally, callBill, callWriteStream, callOffer, callBackupSent, callBackupAll, callSetRights, Buffers, laidOut, backedUp, retired, backedUpAll, rightsSet, refusalIn, refusedLayout, buffersAfter, stateAfter, answerIn, isAccepted}
 use Rattle.history.specs.Users.{UserCall, buffersBy, answerBy, forUser, stateBy, answerInBy, buffersAfterAll, answersOf, refusedLayouts, stateAfterAll, answersIn}
 use Rattle.history.specs.View.{IsPlain}
 use Rattle.history.proofs.Reach.{sound-after, closing-sound, rights-good, unless-sound}
@@ -63,6 +64,7 @@ module _ (s : Shape) (b : Buffers) (st : State) (u : ℕ) where
   sound-by l (callListing t) = l .sound
   sound-by l (callVersionOn t day) = l .sound
   sound-by l callTally = l .sound
+  sound-by l (callBill price) = l .sound
   sound-by l (callWriteStream t v output) = l .sound
   sound-by l (callOffer t fs ms) = l .sound
   sound-by l (callBackupSent t n fs ms ss) =
@@ -100,6 +102,7 @@ module _ (s : Shape) (b : Buffers) (st : State) (u : ℕ) where
       words (callListing t) r = unfold buffersBy stateBy in (l .pool, l .table)
       words (callVersionOn t day) r = unfold buffersBy stateBy in (l .pool, l .table)
       words callTally r = unfold buffersBy stateBy in (l .pool, l .table)
+      words (callBill price) r = unfold buffersBy stateBy in (l .pool, l .table)
       words (callWriteStream t v output) r = unfold buffersBy stateBy in (l .pool, l .table)
       words (callOffer t fs ms) r = unfold buffersBy stateBy in (l .pool, l .table)
       words (callBackupSent t n fs ms ss) r =
@@ -148,6 +151,7 @@ answer-by s b st u (callRetire t v) e = unfold retireAs refusalFor retireOf reti
 answer-by s b st u (callListing t) e = unfold listingAs refusalFor listingOf in rw (left-store s b st e) refl
 answer-by s b st u (callVersionOn t day) e = unfold versionOnAs refusalFor versionOnOf in rw (left-store s b st e) refl
 answer-by s b st u callTally e = unfold tallyAs ownerRefusal tallyOf in rw (left-store s b st e) refl
+answer-by s b st u (callBill price) e = unfold billAs ownerRefusal billOf in rw (left-store s b st e) refl
 answer-by s b st u (callWriteStream t v output) e = unfold writeStreamAs refusalFor writeStreamOf writeVersion restoreOf restoreIn in rw (left-store s b st e) refl
 answer-by s b st u (callOffer t fs ms) e = unfold offerAs refusalFor offerOf in rw (left-store s b st e) refl
 answer-by s b st u (callBackupSent t n fs ms ss) e =
@@ -284,6 +288,8 @@ module _ (s : Shape) (st : State) (u : ℕ) where
       stays (callVersionOn t day) refl (unfold stateAfter in refl) (λ h. unfold isAccepted answerIn refusalIn in answer-waits (λ (a : VersionOnAnswer). a .refusal) versionOnRefusal (λ n. unfold versionOnRefusal in refl) (refusalAt s st u t toList) (versionOnIn (some (record { shape = s; state = st })) t day) h) acc e
   done-by callTally p acc e =
       stays callTally refl (unfold stateAfter in refl) (λ h. unfold isAccepted answerIn refusalIn in answer-waits (λ (a : TallyAnswer). a .refusal) tallyRefusal (λ n. unfold tallyRefusal in refl) (notOwner u) (tallyIn (some (record { shape = s; state = st }))) h) acc e
+  done-by (callBill price) p acc e =
+      stays (callBill price) refl (unfold stateAfter in refl) (λ h. unfold isAccepted answerIn refusalIn in answer-waits (λ (a : BillAnswer). a .refusal) billRefused (λ n. unfold billRefused in refl) (notOwner u) (billIn (some (record { shape = s; state = st })) price) h) acc e
   done-by (callWriteStream t v output) p acc e =
       stays (callWriteStream t v output) refl (unfold stateAfter in refl) (λ h. unfold isAccepted answerIn refusalIn in answer-waits (λ (a : StreamAnswer). a .refusal) (λ n. streamRefusal n output) (λ n. unfold streamRefusal in refl) (refusalAt s st u t toRestore) (writeVersion s st t v output) h) acc e
   done-by (callOffer t fs ms) p acc e =

@@ -14,7 +14,7 @@ use Rattle.model.specs.Calls.{layoutOf}
 use Rattle.model.specs.Rights.{Right, refusalFor}
 use Rattle.sent.specs.Sent.{segmentBytes}
 use Rattle.sent.specs.Claims.{knownIn, NoneShare, segmentsSent}
-use Rattle.history.specs.Calls.{Call, callLayout, callBackup, callRestore, callRetire, callListing, callVersionOn, callTally, callWriteStream, callOffer, callBackupSent, callBackupAll, callSetRights, Buffers, Answer, laidOut, backedUp, restored, retired, listed, foundOn, tallied, streamed, offered, backedUpAll, rightsSet, refusalIn, refusedLayout}
+use Rattle.history.specs.Calls.{Call, callLayout, callBackup, callRestore, callRetire, callListing, callVersionOn, callTally, callBill, callWriteStream, callOffer, callBackupSent, callBackupAll, callSetRights, Buffers, Answer, laidOut, backedUp, restored, retired, listed, foundOn, tallied, billed, streamed, offered, backedUpAll, rightsSet, refusalIn, refusedLayout}
 use Rattle.history.specs.Users.{UserCall, buffersBy, answerBy}
 use Rattle.history.specs.Demand.{laidOutIn}
 
@@ -35,6 +35,7 @@ IsOn u (callRetire t v) = t ≡ u
 IsOn u (callListing t) = t ≡ u
 IsOn u (callVersionOn t day) = t ≡ u
 IsOn u callTally = ⊥
+IsOn u (callBill price) = ⊥
 IsOn u (callWriteStream t v output) = t ≡ u
 IsOn u (callOffer t fs ms) = t ≡ u
 IsOn u (callBackupSent t n fs ms ss) = t ≡ u
@@ -58,6 +59,7 @@ IsFromTill (retired n l) = Unit {0}
 IsFromTill (listed a) = Unit {0}
 IsFromTill (foundOn a) = Unit {0}
 IsFromTill (tallied a) = Unit {0}
+IsFromTill (billed a) = Unit {0}
 IsFromTill (streamed a) = Unit {0}
 IsFromTill (offered a) = Unit {0}
 IsFromTill (backedUpAll a) = Each FromTill (a .refusals)
@@ -72,6 +74,7 @@ sentWith b (callRetire t v) = []
 sentWith b (callListing t) = []
 sentWith b (callVersionOn t day) = []
 sentWith b callTally = []
+sentWith b (callBill price) = []
 sentWith b (callWriteStream t v output) = []
 sentWith b (callOffer t fs ms) = []
 sentWith b (callBackupSent t n fs ms ss) = segmentsSent (segmentBytes (shapeOf (b .table) .measures)) ms ss
@@ -108,6 +111,7 @@ SameAnswer (callRetire t v) a a′ = a ≡ a′
 SameAnswer (callListing t) a a′ = a ≡ a′
 SameAnswer (callVersionOn t day) a a′ = a ≡ a′
 SameAnswer callTally a a′ = a ≡ a′
+SameAnswer (callBill price) a a′ = a ≡ a′
 SameAnswer (callWriteStream t v output) a a′ = a ≡ a′
 SameAnswer (callOffer t fs ms) a a′ = refusalIn a ≡ refusalIn a′
 SameAnswer (callBackupSent t n fs ms ss) a a′ = a ≡ a′

@@ -16,6 +16,7 @@ use Rattle.stream.specs.Stream.{StreamAnswer}
 use Rattle.stream.specs.Version.{writeVersion, writeStreamOf}
 use Rattle.sha1.specs.Sha1.{sha1}
 use Rattle.sent.specs.Sent.{OfferAnswer, offerIn, offerOf, backupSent, backupSentOf}
+use Rattle.bill.specs.Bill.{BillAnswer, billIn, billOf}
 use Rattle.closing.specs.Closing.{AllAnswer, allAnswer, closedOr, backupAll, backupAllAs}
 
 -- A call with its arguments, any of them; a backup was made before blank blocks were known, or with them, and brings a day (§13) or none. Table length
@@ -28,6 +29,7 @@ pub data Call : Type 0 where
   callListing : (till : ℕ) → Call
   callVersionOn : (till day : ℕ) → Call
   callTally : Call
+  callBill : (price : ℕ) → Call
   callWriteStream : (till version : ℕ) (output : List ℕ) → Call
   callOffer : (till : ℕ) (fingerprints marks : List ℕ) → Call
   callBackupSent : (till bytes : ℕ) (fingerprints marks segments : List ℕ) → Call
@@ -48,6 +50,7 @@ refusalOf b (callRetire t v) = retireOf (b .pool) (b .table) t v .refusal
 refusalOf b (callListing t) = listingOf (b .pool) (b .table) t .refusal
 refusalOf b (callVersionOn t day) = versionOnOf (b .pool) (b .table) t day .refusal
 refusalOf b callTally = tallyOf (b .pool) (b .table) .refusal
+refusalOf b (callBill price) = billOf (b .pool) (b .table) price .refusal
 refusalOf b (callWriteStream t v output) = writeStreamOf (b .pool) (b .table) t v output .refusal
 refusalOf b (callOffer t fs ms) = offerOf (b .pool) (b .table) t fs ms .refusal
 refusalOf b (callBackupSent t n fs ms ss) = backupSentOf (b .pool) (b .table) t n fs ms ss .refusal
@@ -63,6 +66,7 @@ buffersAfter b (callRetire t v) = record { pool = retireOf (b .pool) (b .table) 
 buffersAfter b (callListing t) = b
 buffersAfter b (callVersionOn t day) = b
 buffersAfter b callTally = b
+buffersAfter b (callBill price) = b
 buffersAfter b (callWriteStream t v output) = b
 buffersAfter b (callOffer t fs ms) = b
 buffersAfter b (callBackupSent t n fs ms ss) = record { pool = backupSentOf (b .pool) (b .table) t n fs ms ss .pool; table = backupSentOf (b .pool) (b .table) t n fs ms ss .table }
@@ -78,6 +82,7 @@ pub data Answer : Type 0 where
   listed : (answer : ListingAnswer) → Answer
   foundOn : (answer : VersionOnAnswer) → Answer
   tallied : (answer : TallyAnswer) → Answer
+  billed : (answer : BillAnswer) → Answer
   streamed : (answer : StreamAnswer) → Answer
   offered : (answer : OfferAnswer) → Answer
   backedUpAll : (answer : AllAnswer) → Answer
@@ -91,6 +96,7 @@ answerOf b (callRetire t v) = retired (retireOf (b .pool) (b .table) t v .refusa
 answerOf b (callListing t) = listed (listingOf (b .pool) (b .table) t)
 answerOf b (callVersionOn t day) = foundOn (versionOnOf (b .pool) (b .table) t day)
 answerOf b callTally = tallied (tallyOf (b .pool) (b .table))
+answerOf b (callBill price) = billed (billOf (b .pool) (b .table) price)
 answerOf b (callWriteStream t v output) = streamed (writeStreamOf (b .pool) (b .table) t v output)
 answerOf b (callOffer t fs ms) = offered (offerOf (b .pool) (b .table) t fs ms)
 answerOf b (callBackupSent t n fs ms ss) = backedUp (backupSentOf (b .pool) (b .table) t n fs ms ss .refusal) (backupSentOf (b .pool) (b .table) t n fs ms ss .version)
@@ -106,6 +112,7 @@ refusalIn (retired n l) = n
 refusalIn (listed a) = a .refusal
 refusalIn (foundOn a) = a .refusal
 refusalIn (tallied a) = a .refusal
+refusalIn (billed a) = a .refusal
 refusalIn (streamed a) = a .refusal
 refusalIn (offered a) = a .refusal
 refusalIn (backedUpAll a) = a .refusal
@@ -120,6 +127,7 @@ refusedLayout b (callRetire t v) = Unit {0}
 refusedLayout b (callListing t) = Unit {0}
 refusedLayout b (callVersionOn t day) = Unit {0}
 refusedLayout b callTally = Unit {0}
+refusedLayout b (callBill price) = Unit {0}
 refusedLayout b (callWriteStream t v output) = Unit {0}
 refusedLayout b (callOffer t fs ms) = Unit {0}
 refusedLayout b (callBackupSent t n fs ms ss) = Unit {0}
@@ -136,6 +144,7 @@ stateAfter s st (callRetire t v) = stateOr st (retire s st t v)
 stateAfter s st (callListing t) = st
 stateAfter s st (callVersionOn t day) = st
 stateAfter s st callTally = st
+stateAfter s st (callBill price) = st
 stateAfter s st (callWriteStream t v output) = st
 stateAfter s st (callOffer t fs ms) = st
 stateAfter s st (callBackupSent t n fs ms ss) = stateOr st (backupSent sha1 s st t n fs ms ss)
@@ -151,6 +160,7 @@ answerIn s st (callRetire t v) = retired (outcomeRefusal (retire s st t v)) (out
 answerIn s st (callListing t) = listed (listingIn (some (record { shape = s; state = st })) t)
 answerIn s st (callVersionOn t day) = foundOn (versionOnIn (some (record { shape = s; state = st })) t day)
 answerIn s st callTally = tallied (tallyIn (some (record { shape = s; state = st })))
+answerIn s st (callBill price) = billed (billIn (some (record { shape = s; state = st })) price)
 answerIn s st (callWriteStream t v output) = streamed (writeVersion s st t v output)
 answerIn s st (callOffer t fs ms) = offered (offerIn sha1 (some (record { shape = s; state = st })) t fs ms)
 answerIn s st (callBackupSent t n fs ms ss) = backedUp (outcomeRefusal (backupSent sha1 s st t n fs ms ss)) (outcomeNumber (backupSent sha1 s st t n fs ms ss))

@@ -1,5 +1,5 @@
 -- Demand 3: what holds after every list of calls. One type, `Demand3`, with a field for each sentence of the page; proofs/Demand.antt has its proof.
-use Prim.Native.Nat.{ℕ, _≤_, _<_}
+use Prim.Native.Nat.{ℕ, _*_, _≤_, _<_}
 use mathlib.Core.Path.{_≡_}
 use mathlib.Core.Logic.{_↔_}
 use mathlib.Core.Bool.{true, false, cond, _||_}
@@ -7,7 +7,7 @@ use mathlib.Core.List.{List, [], _∷_, _++_, map}
 use mathlib.Core.Option.{some, Option}
 use lib.ListN.{length, getD, drop}
 use lib.Dec.{eqb, leb, ltb}
-use Rattle.lists.specs.Lists.{counted, count, rises, isIn, allZero}
+use Rattle.lists.specs.Lists.{counted, count, total, rises, isIn, allZero}
 use Rattle.lists.specs.Rows.{fill}
 use Rattle.lists.specs.Each.{Each}
 use Rattle.model.specs.Measures.{Shape}
@@ -18,10 +18,11 @@ use Rattle.model.specs.Trace.{longestChain}
 use Rattle.model.specs.Table.{stateToWords, stateToBytes, cellsIn}
 use Rattle.model.specs.Sound.{storeOf, nextPointers}
 use Rattle.model.specs.Calls.{layoutOf, BackupAnswer, RestoreAnswer, RetireAnswer, ListingAnswer, VersionOnAnswer, emptyState, tillOf, heldFrom, notHeld}
-use Rattle.model.specs.Rights.{Right, toList, toRestore, toRetire, userRefusal, notOwner, backupAs, restoreAs, retireAs, listingAs, versionOnAs, tallyAs, setRightsOf}
+use Rattle.model.specs.Rights.{Right, toList, toRestore, toRetire, userRefusal, notOwner, unless, backupAs, restoreAs, retireAs, listingAs, versionOnAs, tallyAs, setRightsOf}
 use Rattle.stream.specs.Stream.{StreamAnswer, streamOf, readStream}
 use Rattle.stream.specs.Version.{writeStreamAs}
 use Rattle.sent.specs.Sent.{backupSentAs}
+use Rattle.bill.specs.Bill.{billAs}
 use Rattle.closing.specs.Closing.{imagesIn, AllAnswer, backupAllAs}
 use Rattle.history.specs.Calls.{Call, callBackup, callBackupSent, Buffers}
 use Rattle.history.specs.Users.{UserCall, rightFor, refusalBy, buffersAfterAll, answersOf, refusedLayouts, stateAfterAll, answersIn}
@@ -177,6 +178,9 @@ module _ (bytes : ℕ) (st : State) (k : Keeper) (b : Buffers) where
     pub nonZero : (c : ℕ) → (isIn c (namedCells (st .shelf .records)) ≡ true) ↔ (allZero (cellAt (st .shelf) c) ≡ false)
     pub led : (c : ℕ) → (isIn c (namedCells (st .shelf .records)) ≡ true) ↔ LedTo st c
     pub inside : (c : ℕ) → isIn c (namedCells (st .shelf .records)) ≡ true → c < s .capacities .cells
+    -- §14: "The sums together are exactly p × occupied cells, whatever has been backed up or retired"
+    pub billed : (u price : ℕ) → billAs (b .pool) (b .table) u price .refusal ≡ 0
+        → total (λ n. n) (billAs (b .pool) (b .table) u price .sums) ≡ price * count (λ c. isIn c (namedCells (st .shelf .records))) (counted (λ c. c) 0 (s .capacities .cells))
     pub counts : (u : ℕ) → tallyAs (b .pool) (b .table) u .refusal ≡ 0
         → tallyAs (b .pool) (b .table) u .cells ≡ count (λ c. isIn c (namedCells (st .shelf .records))) (counted (λ c. c) 0 (s .capacities .cells))
 
@@ -187,6 +191,8 @@ module _ (bytes : ℕ) (st : State) (k : Keeper) (b : Buffers) where
     pub refused : (u : ℕ) (call : Call) (right : Right) → rightFor call ≡ some right → ¬ May u (tillNamed call) right → refusalBy b u call ≡ keptRefusal u (tillNamed call) right
     -- "The tally belongs to the owner"
     pub tally : (u : ℕ) → tallyAs (b .pool) (b .table) u .refusal ≡ notOwner u
+    -- and so does the bill: "30 for a price above 10,000, after 10 and the rights, which are the owner's only"
+    pub bill : (u price : ℕ) → billAs (b .pool) (b .table) u price .refusal ≡ unless (notOwner u) (λ n. n) (cond (ltb 10000 price) 30 0)
     -- "The owner … sets the others"; 22 is also "for … a change to user 0's rights"
     pub set : (u subject t : ℕ) (r : Rights) → setRightsOf (b .pool) (b .table) u subject t r .refusal
         ≡ cond (leb (length k) t) 3 (cond (ltb staff u || (eqb subject 0 || ltb staff subject)) 22 (cond (ltb 0 u) 23 0))

@@ -14,7 +14,7 @@ use Rattle.model.specs.Sound.{Store, storeOf}
 use Rattle.sha1.specs.Sha1.{sha1}
 use Rattle.sent.specs.Sent.{made}
 use Rattle.closing.specs.Closing.{TillImage, imagesIn, AllAnswer, backupAllAs}
-use Rattle.history.specs.Calls.{Call, callLayout, callBackup, callRestore, callRetire, callListing, callVersionOn, callTally, callWriteStream, callOffer, callBackupSent, callBackupAll, callSetRights, Buffers}
+use Rattle.history.specs.Calls.{Call, callLayout, callBackup, callRestore, callRetire, callListing, callVersionOn, callTally, callBill, callWriteStream, callOffer, callBackupSent, callBackupAll, callSetRights, Buffers}
 use Rattle.history.specs.Users.{UserCall, buffersBy, refusalBy}
 
 -- a held version: its number, its whole image, its day, and the number of its till's newest version when it was taken, 0 if none was held
@@ -94,6 +94,7 @@ fed k (callRetire t v) false = k
 fed k (callListing t) ok = k
 fed k (callVersionOn t day) ok = k
 fed k callTally ok = k
+fed k (callBill price) ok = k
 fed k (callWriteStream t v output) ok = k
 fed k (callOffer t fs ms) ok = k
 fed k (callBackupSent t n fs ms ss) ok = k
@@ -156,6 +157,7 @@ comesTo b u (callRetire t v) = itself b u (callRetire t v)
 comesTo b u (callListing t) = itself b u (callListing t)
 comesTo b u (callVersionOn t day) = itself b u (callVersionOn t day)
 comesTo b u callTally = itself b u callTally
+comesTo b u (callBill price) = itself b u (callBill price)
 comesTo b u (callWriteStream t v output) = itself b u (callWriteStream t v output)
 comesTo b u (callOffer t fs ms) = itself b u (callOffer t fs ms)
 comesTo b u (callBackupSent t n fs ms ss) =

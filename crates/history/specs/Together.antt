@@ -8,7 +8,7 @@ use Rattle.model.specs.State.{Shelf, Version}
 use Rattle.model.specs.Trace.{imageOf, longestChain}
 use Rattle.model.specs.Sound.{Store, storeOf}
 use Rattle.model.specs.Calls.{layoutOf, tillOf}
-use Rattle.history.specs.Calls.{Call, callLayout, callBackup, callRestore, callRetire, callListing, callVersionOn, callTally, callWriteStream, callOffer, callBackupSent, callBackupAll, callSetRights, Buffers}
+use Rattle.history.specs.Calls.{Call, callLayout, callBackup, callRestore, callRetire, callListing, callVersionOn, callTally, callBill, callWriteStream, callOffer, callBackupSent, callBackupAll, callSetRights, Buffers}
 use Rattle.history.specs.Users.{UserCall, buffersBy, answerBy, refusalBy, buffersAfterAll, refusedLayouts}
 use Rattle.history.specs.View.{tillNamed}
 use Rattle.history.specs.Demand.{laidOutIn}
@@ -22,6 +22,7 @@ IsBackupRestoreOrRetire (callRetire t v) = Unit {0}
 IsBackupRestoreOrRetire (callListing t) = ⊥
 IsBackupRestoreOrRetire (callVersionOn t day) = ⊥
 IsBackupRestoreOrRetire callTally = ⊥
+IsBackupRestoreOrRetire (callBill price) = ⊥
 IsBackupRestoreOrRetire (callWriteStream t v output) = ⊥
 IsBackupRestoreOrRetire (callOffer t fs ms) = ⊥
 IsBackupRestoreOrRetire (callBackupSent t n fs ms ss) = ⊥

@@ -11,8 +11,9 @@ use Rattle.stream.specs.Stream.{streamRefusal}
 use Rattle.stream.specs.Version.{writeVersion, writeStreamAs}
 use Rattle.sha1.specs.Sha1.{sha1}
 use Rattle.sent.specs.Sent.{offerIn, offerAs, backupSent, backupSentAs}
+use Rattle.bill.specs.Bill.{billRefused, billIn, billAs}
 use Rattle.closing.specs.Closing.{allAnswer, closedOr, backupAll, backupAllAs}
-use Rattle.history.specs.Calls.{Call, callLayout, callBackup, callRestore, callRetire, callListing, callVersionOn, callTally, callWriteStream, callOffer, callBackupSent, callBackupAll, callSetRights, Buffers, Answer, laidOut, backedUp, restored, retired, listed, foundOn, tallied, streamed, offered, backedUpAll, rightsSet, refusalIn, refusedLayout}
+use Rattle.history.specs.Calls.{Call, callLayout, callBackup, callRestore, callRetire, callListing, callVersionOn, callTally, callBill, callWriteStream, callOffer, callBackupSent, callBackupAll, callSetRights, Buffers, Answer, laidOut, backedUp, restored, retired, listed, foundOn, tallied, billed, streamed, offered, backedUpAll, rightsSet, refusalIn, refusedLayout}
 
 -- a call and its user, who is of no account to a lay out
 pub record UserCall : Type 0 where
@@ -28,6 +29,7 @@ rightFor (callRetire t v) = some toRetire
 rightFor (callListing t) = some toList
 rightFor (callVersionOn t day) = some toList
 rightFor callTally = none
+rightFor (callBill price) = none
 rightFor (callWriteStream t v output) = some toRestore
 rightFor (callOffer t fs ms) = some toBackUp
 rightFor (callBackupSent t n fs ms ss) = some toBackUp
@@ -45,6 +47,7 @@ buffersBy b u (callRetire t v) = record { pool = retireAs (b .pool) (b .table) u
 buffersBy b u (callListing t) = b
 buffersBy b u (callVersionOn t day) = b
 buffersBy b u callTally = b
+buffersBy b u (callBill price) = b
 buffersBy b u (callWriteStream t v output) = b
 buffersBy b u (callOffer t fs ms) = b
 buffersBy b u (callBackupSent t n fs ms ss) = record { pool = backupSentAs (b .pool) (b .table) u t n fs ms ss .pool; table = backupSentAs (b .pool) (b .table) u t n fs ms ss .table }
@@ -60,6 +63,7 @@ answerBy b u (callRetire t v) = retired (retireAs (b .pool) (b .table) u t v .re
 answerBy b u (callListing t) = listed (listingAs (b .pool) (b .table) u t)
 answerBy b u (callVersionOn t day) = foundOn (versionOnAs (b .pool) (b .table) u t day)
 answerBy b u callTally = tallied (tallyAs (b .pool) (b .table) u)
+answerBy b u (callBill price) = billed (billAs (b .pool) (b .table) u price)
 answerBy b u (callWriteStream t v output) = streamed (writeStreamAs (b .pool) (b .table) u t v output)
 answerBy b u (callOffer t fs ms) = offered (offerAs (b .pool) (b .table) u t fs ms)
 answerBy b u (callBackupSent t n fs ms ss) = backedUp (backupSentAs (b .pool) (b .table) u t n fs ms ss .refusal) (backupSentAs (b .pool) (b .table) u t n fs ms ss .version)
@@ -84,6 +88,7 @@ stateBy s st u (callRetire t v) = stateOr st (forUser s st u t toRetire (retire 
 stateBy s st u (callListing t) = st
 stateBy s st u (callVersionOn t day) = st
 stateBy s st u callTally = st
+stateBy s st u (callBill price) = st
 stateBy s st u (callWriteStream t v output) = st
 stateBy s st u (callOffer t fs ms) = st
 stateBy s st u (callBackupSent t n fs ms ss) = stateOr st (forUser s st u t toBackUp (backupSent sha1 s st t n fs ms ss))
@@ -100,6 +105,7 @@ answerInBy s st u (callRetire t v) = let o : Outcome After = forUser s st u t to
 answerInBy s st u (callListing t) = listed (unless (refusalAt s st u t toList) listingRefusal (listingIn (some (record { shape = s; state = st })) t))
 answerInBy s st u (callVersionOn t day) = foundOn (unless (refusalAt s st u t toList) versionOnRefusal (versionOnIn (some (record { shape = s; state = st })) t day))
 answerInBy s st u callTally = tallied (unless (notOwner u) tallyRefusal (tallyIn (some (record { shape = s; state = st }))))
+answerInBy s st u (callBill price) = billed (unless (notOwner u) billRefused (billIn (some (record { shape = s; state = st })) price))
 answerInBy s st u (callWriteStream t v output) = streamed (unless (refusalAt s st u t toRestore) (λ n. streamRefusal n output) (writeVersion s st t v output))
 answerInBy s st u (callOffer t fs ms) =
     offered (unless (refusalAt s st u t toBackUp) (λ n. record { refusal = n; marks = ms }) (offerIn sha1 (some (record { shape = s; state = st })) t fs ms))

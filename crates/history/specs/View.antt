@@ -14,8 +14,9 @@ use Rattle.model.specs.Turn.{turnsTo}
 use Rattle.model.specs.Trace.{imageOf}
 use Rattle.model.specs.Calls.{tillOf, notHeld, RestoreAnswer, restoreRefusal, listingRefusal, VersionOnAnswer}
 use Rattle.stream.specs.Version.{longestOutput, writeRestored}
+use Rattle.bill.specs.Bill.{billRefused}
 use Rattle.closing.specs.Closing.{allRefused}
-use Rattle.history.specs.Calls.{Call, callLayout, callBackup, callRestore, callRetire, callListing, callVersionOn, callTally, callWriteStream, callOffer, callBackupSent, callBackupAll, callSetRights, Answer, laidOut, backedUp, restored, retired, listed, foundOn, tallied, streamed, offered, backedUpAll, rightsSet}
+use Rattle.history.specs.Calls.{Call, callLayout, callBackup, callRestore, callRetire, callListing, callVersionOn, callTally, callBill, callWriteStream, callOffer, callBackupSent, callBackupAll, callSetRights, Answer, laidOut, backedUp, restored, retired, listed, foundOn, tallied, billed, streamed, offered, backedUpAll, rightsSet}
 use Rattle.history.specs.Kinds.{Kind, zeroKind, blankKind, directKind, indirectKind, kindOf, kindAt, hopsOfKind}
 
 -- A version as its till shows it: number, length, day, image, what each pointer is and where an indirect one leads.
@@ -63,6 +64,7 @@ tillNamed (callRetire t v) = t
 tillNamed (callListing t) = t
 tillNamed (callVersionOn t day) = t
 tillNamed callTally = 0
+tillNamed (callBill price) = 0
 tillNamed (callWriteStream t v output) = t
 tillNamed (callOffer t fs ms) = t
 tillNamed (callBackupSent t n fs ms ss) = t
@@ -140,6 +142,7 @@ changed bytes (callRetire t v) false w = w
 changed bytes (callListing t) ok w = w
 changed bytes (callVersionOn t day) ok w = w
 changed bytes callTally ok w = w
+changed bytes (callBill price) ok w = w
 changed bytes (callWriteStream t v output) ok w = w
 changed bytes (callOffer t fs ms) ok w = w
 changed bytes (callBackupSent t n fs ms ss) ok w = w
@@ -156,6 +159,7 @@ IsPlain (callRetire t v) = Unit {0}
 IsPlain (callListing t) = Unit {0}
 IsPlain (callVersionOn t day) = Unit {0}
 IsPlain callTally = Unit {0}
+IsPlain (callBill price) = Unit {0}
 IsPlain (callWriteStream t v output) = Unit {0}
 IsPlain (callOffer t fs ms) = Unit {0}
 IsPlain (callBackupSent t n fs ms ss) = ⊥
@@ -172,6 +176,7 @@ isOnTill (callRetire t v) = true
 isOnTill (callListing t) = true
 isOnTill (callVersionOn t day) = true
 isOnTill callTally = false
+isOnTill (callBill price) = false
 isOnTill (callWriteStream t v output) = true
 isOnTill (callOffer t fs ms) = false
 isOnTill (callBackupSent t n fs ms ss) = false
@@ -225,6 +230,7 @@ answerShown s w (callListing t) =
 answerShown s w (callVersionOn t day) =
     foundOn (cond (leb (s .capacities .tills) t) (record { refusal = 3; version = 0 }) (newestShownOrNone (shownNotAfter day (w .versions))))
 answerShown s w callTally = tallied (record { refusal = 0; cells = 0; records = 0; counts = 0 })
+answerShown s w (callBill price) = billed (billRefused 0)
 answerShown s w (callWriteStream t v output) =
     streamed (writeRestored (cond (leb (s .capacities .tills) t) (restoreRefusal 3 longestOutput) (restoreShown (notHeld (w .last) v) (shownFrom v (w .versions)) longestOutput)) output)
 answerShown s w (callOffer t fs ms) = offered (record { refusal = 0; marks = ms })

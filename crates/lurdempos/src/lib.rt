@@ -19,10 +19,13 @@ ghost use Rattle.sent.specs.Sent.{offerAs, backupSentAs};
 ghost use Rattle.sent_offer.specs.Offer.{offered};
 ghost use Rattle.closing.specs.Closing.{backupAllAs};
 ghost use Rattle.closing_backup.specs.Answers.{allBackedUp};
+ghost use Rattle.bill.specs.Bill.{billAs};
+ghost use Rattle.bill_sums.specs.Answers.{billed};
 ghost use Rattle.rights.specs.Answers.{rightsAnswered};
 ghost use Rattle.dispatcher.specs.Turns.{turnOf};
 ghost use Rattle.lurdempos.specs.Boundary.{theEight, theFour};
 use backup::BackedUp;
+use bill_sums::Bill;
 use closing_backup::AllBackedUp;
 use dispatcher::Stepped;
 use dispatcher::Turn;
@@ -194,6 +197,13 @@ pub extern "C" fn lurdempos_tally(pool: &[u8], table: &[u32], user: u32) -> Tall
     ensures { λ r. ⌜ tallyAnswer r ≡ tallyAs (now (pool .entry)) (now (table .entry)) user ⌝ }
 {
     store::tally(pool, table, user)
+}
+
+#[no_mangle]
+pub extern "C" fn lurdempos_bill(pool: &[u8], table: &[u32], user: u32, price: u32) -> Bill
+    ensures { λ r. ⌜ billed r ≡ billAs (now (pool .entry)) (now (table .entry)) user price ⌝ }
+{
+    store::bill(pool, table, user, price)
 }
 
 #[no_mangle]

@@ -15,6 +15,7 @@ use Rattle.model.specs.Rights.{refusalFor, ownerRefusal, notOwner, backupAs, re
 use Rattle.laws.specs.Stores.{Sound}
 use Rattle.stream.specs.Stream.{streamRefusal}
 use Rattle.stream.specs.Version.{writeRestored, writeStreamOf, writeStreamAs}
+use Rattle.bill.specs.Bill.{BillAnswer, billRefused, billIn, billOf, billAs}
 use Rattle.closing.specs.Closing.{allRefused, backupAllIn, backupAllAs}
 use Rattle.sent.specs.Sent.{OfferAnswer, offerIn, offerOf, offerAs, backupSentIn, backupSentBy, backupSentOf, backupSentAs}
 use Rattle.laws.proofs.Stores.{sound-if, none-if}
@@ -54,6 +55,10 @@ module _ (pool table : List ℕ) (r : Bool) (e : r ≡ isSome (storeOf pool tabl
   pub tally-10 : not r ≡ true → (user : ℕ) → record { refusal = 10; cells = 0; records = 0; counts = 0 } ≡ tallyAs pool table user
   unfolding tallyAs ownerRefusal tallyOf tallyIn
   tally-10 n user = rw (no-store n)
+
+  pub bill-10 : not r ≡ true → (user price : ℕ) (zeros : List ℕ) → zeros ≡ fill 16 [] → record { refusal = 10; sums = zeros } ≡ billAs pool table user price
+  unfolding billAs ownerRefusal billOf billIn billRefused
+  bill-10 n user price zeros e = rw (no-store n, e)
 
   -- with a day or without
   pub backup-10 : not r ≡ true → (user t : ℕ) (brought : Option ℕ) (image : List ℕ)

@@ -16,8 +16,11 @@ ghost use Rattle.sent.specs.Sent.{offerAs, backupSentAs};
 ghost use Rattle.sent_offer.specs.Offer.{offered};
 ghost use Rattle.closing.specs.Closing.{backupAllAs};
 ghost use Rattle.closing_backup.specs.Answers.{allBackedUp};
+ghost use Rattle.bill.specs.Bill.{billAs};
+ghost use Rattle.bill_sums.specs.Answers.{billed};
 ghost use Rattle.rights.specs.Answers.{rightsGiven, rightsAnswered};
 use backup::BackedUp;
+use bill_sums::Bill;
 use closing_backup::AllBackedUp;
 use layout::Capacities;
 use layout::TableLength;
@@ -200,6 +203,26 @@ pub fn tally(pool: &[u8], table: &[u32], user: u32) -> Tally
         };
     }
     tally::tally_store(pool, table)
+}
+
+// What each till has to pay for the occupied cells; the owner's only.
+pub fn bill(pool: &[u8], table: &[u32], user: u32, price: u32) -> Bill
+    ensures { λ r. ⌜ billed r ≡ billAs (now (pool .entry)) (now (table .entry)) user price ⌝ }
+{
+    if !audit::sound(pool, table) {
+        return Bill {
+            refusal: 10,
+            sums: [0u32; 16],
+        };
+    }
+    let refused = rights::owner_refusal(user);
+    if refused != 0 {
+        return Bill {
+            refusal: refused,
+            sums: [0u32; 16],
+        };
+    }
+    bill_sums::bill_store(pool, table, price)
 }
 
 // A version as a stream.

@@ -26,6 +26,9 @@ pub enum What {
         day: u32,
     },
     Tally,
+    Bill {
+        price: u32,
+    },
     Restore {
         version: u32,
         room: usize,
@@ -207,6 +210,7 @@ fn of_store(store: &Rc<Kept>, day: &[Vec<u8>], targets: bool) -> Vec<Case> {
         (What::TableLength, None),
         (What::LayOut, None),
         (What::Tally, Some(5.0)),
+        (What::Bill { price: 25 }, None),
         (What::Listing, Some(5.0)),
         (What::VersionOn { day: 2 }, None),
         (restore(2), Some(5.0)),
@@ -232,6 +236,7 @@ impl What {
             What::Listing => "listing".into(),
             What::VersionOn { .. } => "lookup of the oldest by day".into(),
             What::Tally => "tally".into(),
+            What::Bill { price } => format!("bill at {price}"),
             What::Restore { version: 2, .. } => "restore of the oldest".into(),
             What::Restore { .. } => "restore of the newest".into(),
             What::WriteStream { version: 2 } => "stream of the oldest".into(),
@@ -266,6 +271,7 @@ impl Case {
             What::Listing => store.listing(pool, table, OWNER, 0)[0],
             What::VersionOn { day } => store.version_on(pool, table, OWNER, 0, *day)[0],
             What::Tally => store.tally(pool, table, OWNER)[0],
+            What::Bill { price } => store.bill(pool, table, OWNER, *price)[0],
             What::Restore { version, room } => store.restore(pool, table, OWNER, 0, *version, &mut output[..*room])[0],
             What::WriteStream { version } => store.write_stream(pool, table, OWNER, 0, *version, output)[0],
             What::Retire { till, version } => store.retire(pool, table, OWNER, *till, *version)[0],

@@ -11,6 +11,9 @@ use twin::Twin;
 /// Most that the proved store may take of the twin's time, and a stream of a restore's and a pass over the image.
 const MOST: f64 = 1.25;
 
+/// Most that a bill may take of a tally's time.
+const MOST_OF_TALLY: f64 = 1.5;
+
 /// The best times of one call.
 pub struct Line {
     store: &'static str,
@@ -21,10 +24,28 @@ pub struct Line {
     most_passes: Option<f64>,
     /// Of a stream: a restore of the same version by the proved store and one pass over the image.
     restored: Option<f64>,
-    /// Of a closing: its images in a call each by the proved store, and the part of that time that it may take, if it has
-    /// such a target.
-    singles: Option<f64>,
-    most_of_singles: Option<f64>,
+    beside: Option<Beside>,
+}
+
+/// Another call of the proved store on the same store, which a call is set beside: a closing beside its images in a call
+/// each, a bill beside a tally.
+struct Beside {
+    name: &'static str,
+    time: f64,
+    /// The part of that time that the call may take, if it has such a target.
+    most: Option<f64>,
+}
+
+/// The place of the case that this one is set beside, what it is called, and the target.
+fn beside(what: &What, cases: &[Case]) -> Option<(usize, &'static str, Option<f64>)> {
+    let place = |of: fn(&What) -> bool| cases.iter().position(|case| of(&case.what));
+    match what {
+        What::Closing { most, .. } => {
+            place(|other| matches!(other, What::Singles { .. })).map(|at| (at, "single calls", *most))
+        }
+        What::Bill { .. } => place(|other| matches!(other, What::Tally)).map(|at| (at, "a tally", Some(MOST_OF_TALLY))),
+        _ => None,
+    }
 }
 
 /// The buffers that calls are made on.
@@ -36,12 +57,10 @@ struct Work {
 
 /// The lines of one store, all with the best of its read passes.
 pub fn time_all(cases: Vec<Case>, rounds: usize) -> Vec<Line> {
-    let place = |of: fn(&What) -> bool| cases.iter().position(|case| of(&case.what));
-    let closing = place(|what| matches!(what, What::Closing { .. }));
-    let singles = place(|what| matches!(what, What::Singles { .. }));
+    let besides: Vec<_> = cases.iter().map(|case| beside(&case.what, &cases)).collect();
     let mut lines: Vec<Line> = cases.into_iter().map(|case| time(case, rounds)).collect();
-    if let (Some(closing), Some(singles)) = (closing, singles) {
-        lines[closing].singles = Some(lines[singles].proved);
+    for (n, other) in besides.into_iter().enumerate() {
+        lines[n].beside = other.map(|(at, name, most)| Beside { name, time: lines[at].proved, most });
     }
     let pass = lines.iter().map(|line| line.pass).fold(f64::INFINITY, f64::min);
     lines.iter_mut().for_each(|line| line.pass = pass);
@@ -80,9 +99,8 @@ fn time(case: Case, rounds: usize) -> Line {
     let refused = if refusals[0] == 0 { String::new() } else { format!(", refused {}", refusals[0]) };
     let [proved, twin, pass] = best.map(|time| time.as_nanos() as f64 / 1_000.0);
     let call = case.what.name() + &refused;
-    let most_of_singles = if let What::Closing { most, .. } = case.what { most } else { None };
     let (store, most_passes) = (case.store.name, case.passes);
-    Line { store, call, proved, twin, pass, most_passes, restored, singles: None, most_of_singles }
+    Line { store, call, proved, twin, pass, most_passes, restored, beside: None }
 }
 
 /// The least that writing a stream can cost: restoring the image and reading it once.
@@ -122,9 +140,9 @@ impl Line {
         self.proved / self.pass
     }
 
-    /// The part that a closing takes of its images in a call each.
-    fn of_singles(&self) -> Option<f64> {
-        self.singles.map(|time| self.proved / time)
+    /// The part that it takes of the call that it is set beside.
+    fn part(&self, beside: &Beside) -> f64 {
+        self.proved / beside.time
     }
 
     /// The targets that this line misses, in words.
@@ -140,9 +158,10 @@ impl Line {
         if let Some(most) = self.restored.map(|time| time * MOST).filter(|&most| self.proved > most) {
             misses.push(format!("- {call} on the {store} store: {:.1}, at most {most:.1}", self.proved));
         }
-        if let (Some(part), Some(most)) = (self.of_singles(), self.most_of_singles) {
-            if part > most {
-                misses.push(format!("- {call} on the {store} store: {part:.2} of single calls, at most {most}"));
+        if let Some(beside) = &self.beside {
+            let (part, name) = (self.part(beside), beside.name);
+            if let Some(most) = beside.most.filter(|&most| part > most) {
+                misses.push(format!("- {call} on the {store} store: {part:.2} of {name}, at most {most}"));
             }
         }
         misses
@@ -156,9 +175,11 @@ impl fmt::Display for Line {
         let passes = if short { String::new() } else { format!("{:.1}", self.passes()) };
         let passes_most = self.most_passes.map(|most| format!("{most} passes, "));
         let restored = self.restored.map(|time| format!("{MOST} × {time:.1} of restore and a pass over the image, "));
-        let target = self.most_of_singles.map_or(String::new(), |most| format!(", at most {most}"));
-        let singles = self.of_singles().map(|part| format!("{part:.2} of single calls{target}, "));
-        let most = passes_most.or(restored).or(singles).unwrap_or_default();
+        let beside = self.beside.as_ref().map(|beside| {
+            let target = beside.most.map_or(String::new(), |most| format!(", at most {most}"));
+            format!("{:.2} of {}{target}, ", self.part(beside), beside.name)
+        });
+        let most = passes_most.or(restored).or(beside).unwrap_or_default();
         let mark = if self.misses().is_empty() { "met" } else { "**missed**" };
         let (store, call, ratio) = (self.store, &self.call, self.ratio());
         let (proved, twin) = (time(self.proved), time(self.twin));

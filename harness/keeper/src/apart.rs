@@ -103,8 +103,8 @@ impl Apart {
         going_on(one.0[0])?;
         going_on(other.0[0])?;
         match call {
-            // The tally is the owner's, and tells of the whole pool.
-            Call::Tally if user == OWNER => return Ok(()),
+            // The tally and the bill are the owner's, and tell of the whole pool.
+            Call::Tally | Call::Bill { .. } if user == OWNER => return Ok(()),
             Call::Offer { .. } => self.compared.other_marks += (one.1 != other.1) as usize,
             _ => assert!(one == other, "till {}, user {user}, {call:?}: {one:?} and {other:?}", self.till),
         }

@@ -8,8 +8,8 @@ use crate::whole::Till;
 use crate::{staff, Course, Keeper, Random};
 use std::fmt;
 use terms::{
-    Capacities, Collected, Right, Rights, Sending, BLOCK, BLOCK_BYTES, LAST_NUMBER, LONGEST_STREAM, MOST_IMAGES, OWNER,
-    SEGMENT, SEGMENT_BLOCKS,
+    Capacities, Collected, Right, Rights, Sending, BLOCK, BLOCK_BYTES, HIGHEST_PRICE, LAST_NUMBER, LONGEST_STREAM,
+    MOST_IMAGES, OWNER, SEGMENT, SEGMENT_BLOCKS,
 };
 
 #[derive(Clone)]
@@ -48,6 +48,9 @@ pub enum Call {
         day: u32,
     },
     Tally,
+    Bill {
+        price: u32,
+    },
     WriteStream {
         till: u32,
         version: u32,
@@ -87,6 +90,7 @@ impl fmt::Debug for Call {
             Call::Listing { till } => write!(f, "listing till {till}"),
             Call::VersionOn { till, day } => write!(f, "version of till {till} on day {day}"),
             Call::Tally => write!(f, "tally"),
+            Call::Bill { price } => write!(f, "bill at {price}"),
             Call::WriteStream { till, version, room } => {
                 write!(f, "stream till {till}, version {version}, room {room}")
             }
@@ -124,7 +128,7 @@ impl Call {
             Call::Restore { till, .. } | Call::WriteStream { till, .. } => Some((till, Right::Restore)),
             Call::Retire { till, .. } => Some((till, Right::Retire)),
             Call::TableLength(_) | Call::LayOut(_) | Call::Earlier { .. } => None,
-            Call::Tally | Call::All(_) | Call::SetRights { .. } => None,
+            Call::Tally | Call::Bill { .. } | Call::All(_) | Call::SetRights { .. } => None,
         }
     }
 }
@@ -231,7 +235,8 @@ impl List {
         let retire = if till.held.len() == self.capacities.versions as usize { 60 } else { self.style.retires };
         match random.below(100) {
             0..=2 => Call::Tally,
-            3..=5 => Call::Listing { till: till_number },
+            3 => Call::Bill { price: any_price(random) },
+            4..=5 => Call::Listing { till: till_number },
             6..=7 => Call::VersionOn { till: till_number, day: any_day(random, till) },
             8 => Call::TableLength(self.capacities_near(random)),
             9 => self.refused_lay_out(random),
@@ -382,6 +387,11 @@ impl List {
 pub fn stream_length(image: &[u8]) -> usize {
     let full = image.chunks(BLOCK).filter(|block| block.iter().any(|&byte| byte != 0)).count();
     4 + image.len().div_ceil(SEGMENT * BLOCK) + BLOCK * full
+}
+
+/// Prices of a cell: those that leave tenths over for some numbers of tills, and those about the highest.
+pub fn any_price(random: &mut Random) -> u32 {
+    *random.pick(&[0, 1, 2, 99, 100, HIGHEST_PRICE, HIGHEST_PRICE + 1, u32::MAX])
 }
 
 /// 0 if none is held.

@@ -1,6 +1,7 @@
 //! One list of calls put to several stores and to the keeper: after each call all stores must have answered alike and
 //! have left the same pool, table and output, and both must be what the keeper knows.
 
+use crate::bills::owed;
 use crate::calls::stream_length;
 use crate::collected::each;
 use crate::events::Events;
@@ -10,7 +11,8 @@ use crate::words::Words;
 use crate::{Call, Keeper};
 use std::collections::BTreeSet;
 use terms::{
-    fingerprint, Backup, Calls, Capacities, Collected, Fingerprint, Refusal, CLOSING_NUMBERS, MOST_IMAGES, OWNER, USERS,
+    fingerprint, Backup, Calls, Capacities, Collected, Fingerprint, Refusal, CLOSING_NUMBERS, MOST_IMAGES, MOST_TILLS,
+    OWNER, USERS,
 };
 
 /// What outputs are filled with before they are lent.
@@ -254,11 +256,8 @@ impl Course {
             Call::VersionOn { till, day } => {
                 assert_eq!(Ok(answer[1]), self.version_on(self.user, *till, *day), "{}", self.place(call));
             }
-            Call::Tally => {
-                let cells = self.pool.chunks(self.capacities.block_bytes as usize);
-                let cells = cells.filter(|cell| cell.iter().any(|&byte| byte != 0)).count();
-                assert_eq!(answer[1] as usize, cells, "{}", self.place(call));
-            }
+            Call::Tally => assert_eq!(answer[1], self.occupied(), "{}", self.place(call)),
+            Call::Bill { price } => self.judge_bill(call, *price, &answer[1..=MOST_TILLS]),
             Call::Offer { .. } => assert!(output == written, "{}: other marks", self.place(call)),
             Call::All(collected) => self.judge_closing(call, collected, answer),
             Call::SetRights { subject, till, rights } => {
@@ -295,6 +294,19 @@ impl Course {
         assert!(past.into_iter().all(|&number| number == 0), "{}: places past the last image", self.place(call));
         let kept = (0..images.len()).filter(|&n| versions[n] != 0).map(|n| (images[n].0, versions[n]));
         kept.for_each(|(till, version)| self.restored(call, till, version));
+    }
+
+    /// Cells with a byte other than zero.
+    fn occupied(&self) -> u32 {
+        let cells = self.pool.chunks(self.capacities.block_bytes as usize);
+        cells.filter(|cell| cell.iter().any(|&byte| byte != 0)).count() as u32
+    }
+
+    /// The sums are what the table's words have each till owe, and add up to the price of all occupied cells.
+    fn judge_bill(&self, call: &Call, price: u32, sums: &[u32]) {
+        let words = Words::new(&self.table, self.capacities);
+        assert_eq!(sums, owed(&words, self.capacities.tills as usize, price), "{}", self.place(call));
+        assert_eq!(sums.iter().sum::<u32>(), price * self.occupied(), "{}: the total", self.place(call));
     }
 
     /// Every store gives a held version back.
@@ -407,6 +419,7 @@ fn answer_by(earlier: Option<Backup>, lane: &mut Lane, user: u32, call: &Call) -
             store.set_rights(pool, table, user, *subject, *till, *rights).to_vec()
         }
         Call::Tally => store.tally(pool, table, user).to_vec(),
+        Call::Bill { price } => store.bill(pool, table, user, *price).to_vec(),
         Call::All(collected) => store.backup_all(pool, table, user, collected.closing()).to_vec(),
     };
     (std::array::from_fn(|i| numbers.get(i).copied().unwrap_or(0)), output)
@@ -428,6 +441,7 @@ fn letter(call: &Call) -> char {
         Call::Listing { .. } => 'i',
         Call::VersionOn { .. } => 'v',
         Call::Tally => 't',
+        Call::Bill { .. } => 'p',
         Call::SetRights { .. } => 'k',
         Call::WriteStream { .. } => 's',
         Call::Offer { .. } => 'f',

@@ -4,7 +4,7 @@ use crate::calls::stream_length;
 use crate::collected::each;
 use crate::stock::{fits, offer_fits};
 use crate::{Call, Course};
-use terms::{Capacities, Refusal, Right, Sending, LAST_NUMBER, OWNER, USERS};
+use terms::{Capacities, Refusal, Right, Sending, HIGHEST_PRICE, LAST_NUMBER, OWNER, USERS};
 
 /// What the keeper expects of a call before it is made: a refusal, or the image that it files or the marks that it
 /// writes, if it does.
@@ -23,6 +23,7 @@ impl Course {
             Call::TableLength(capacities) => outside(capacities),
             Call::LayOut(capacities) => outside(capacities).or(Some(Refusal::Lengths)),
             Call::Tally => owned(user).err(),
+            Call::Bill { price } => owned(user).err().or((*price > HIGHEST_PRICE).then_some(Refusal::HighPrice)),
             Call::Listing { till } => self.keeper().admitted(user, *till, Right::List).err(),
             Call::VersionOn { till, day } => self.version_on(user, *till, *day).err(),
             Call::Restore { till, version, room } => {

@@ -118,15 +118,17 @@ pub fn in_order(stores: Stores) {
     }
 }
 
-/// The tally and the changes of rights are the owner's, whatever rights others have.
+/// The tally, the bill and the changes of rights are the owner's, whatever rights others have.
 pub fn of_the_owner(stores: Stores) {
     let mut course = shop(stores);
     for (subject, till) in (1..USERS).flat_map(|subject| [(subject, 0), (subject, 1)]) {
         assert_eq!(course.call(&Call::SetRights { subject, till, rights: Rights::ALL })[0], 0);
     }
-    assert_eq!(course.call(&Call::Tally)[0], 0);
-    (1..USERS).for_each(|user| assert_eq!(course.call_by(user, &Call::Tally), [23, 0, 0, 0]));
-    UNKNOWN.iter().for_each(|&user| assert_eq!(course.call_by(user, &Call::Tally), [22, 0, 0, 0]));
+    for call in [Call::Tally, Call::Bill { price: 1 }] {
+        assert_eq!(course.call(&call)[0], 0);
+        (1..USERS).for_each(|user| assert_eq!(course.call_by(user, &call), [23, 0, 0, 0]));
+        UNKNOWN.iter().for_each(|&user| assert_eq!(course.call_by(user, &call), [22, 0, 0, 0]));
+    }
     for user in [0, 1, 7, 8, u32::MAX] {
         for subject in [0, 1, 6, 7, 8, u32::MAX] {
             for (till, rights) in [(0, Rights::NONE), (1, Rights::ALL), (2, Rights::ALL), (u32::MAX, Rights::NONE)] {
@@ -219,7 +221,8 @@ pub fn rights_stay(stores: Stores) {
 
 /// What every call of a user on a store is answered: 10, or else.
 fn said(stores: Stores, pool: &[u8], table: &[u32], user: u32) -> Vec<u32> {
-    let whole = [Call::Tally, Call::SetRights { subject: 1, till: 0, rights: Rights::ALL }];
+    let rights = Rights::ALL;
+    let whole = [Call::Tally, Call::Bill { price: 1 }, Call::SetRights { subject: 1, till: 0, rights }];
     let images = Collected::of([(0, &[7; 9][..])]);
     let each = every_sort(stores, 0).into_iter().map(|(call, _)| call).chain(whole);
     let misfit = Collected { lengths: vec![], ..images.clone() };

@@ -2,6 +2,7 @@
 //! course that puts one list of calls to several stores and the keeper and compares all they answer and leave.
 
 pub mod apart;
+pub mod bills;
 pub mod blanks;
 pub mod calls;
 pub mod closings;

@@ -1,6 +1,6 @@
 //! The calls with answers as bare numbers, so that one test can be put to the proved store and to the twin.
 
-use crate::{Capacities, Closing, Listing, Message, Refusal, Restored, Rights, Tally, CLOSING_NUMBERS};
+use crate::{Capacities, Closing, Listing, Message, Refusal, Restored, Rights, Tally, BILL_NUMBERS, CLOSING_NUMBERS};
 
 /// The calls on lent buffers. Every call on a store but laying out names its user behind the table. An answer is the
 /// refusal's number, 0 if the call is accepted, then the page's fields.
@@ -28,6 +28,9 @@ pub trait Calls {
     /// The newest held version of a till that is not after a day.
     fn version_on(&self, pool: &[u8], table: &[u32], user: u32, till: u32, day: u32) -> [u32; 2];
     fn tally(&self, pool: &[u8], table: &[u32], user: u32) -> [u32; 4];
+    /// What each till's share of the storage costs, by the price of a cell in tenths of a cent. Answers the refusal, then
+    /// the sum of each till, in as many places as a store can have tills.
+    fn bill(&self, pool: &[u8], table: &[u32], user: u32, price: u32) -> [u32; BILL_NUMBERS];
     /// Sets the four rights of a user, the subject, on a till. The pool is only looked at.
     fn set_rights(
         &self,

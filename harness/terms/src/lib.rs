@@ -1,5 +1,6 @@
 //! The store's terms, shared by the wrapper, the twin and the tests: capacities, answers and refusals.
 
+mod bill;
 mod calls;
 mod capacities;
 mod closing;
@@ -7,6 +8,7 @@ mod refusal;
 mod rights;
 mod sending;
 
+pub use bill::{Bill, BILL_NUMBERS, HIGHEST_PRICE, MOST_TILLS};
 pub use calls::{numbers, Backup, Calls, Fields};
 pub use capacities::{Capacities, BASE, BLOCK_BYTES, LONGEST_IMAGE, SEGMENT_BLOCKS};
 pub use closing::{Closing, Collected, Each, CLOSING_NUMBERS, MOST_IMAGES};

@@ -29,10 +29,11 @@ pub enum Refusal {
     NoTurn = 27,
     EarlierDay = 28,
     NoneSoEarly = 29,
+    HighPrice = 30,
 }
 
 impl Refusal {
-    pub const ALL: [Refusal; 22] = [
+    pub const ALL: [Refusal; 23] = [
         Refusal::Capacity,
         Refusal::Lengths,
         Refusal::NoSuchTill,
@@ -55,6 +56,7 @@ impl Refusal {
         Refusal::NoTurn,
         Refusal::EarlierDay,
         Refusal::NoneSoEarly,
+        Refusal::HighPrice,
     ];
 
     /// The page's number.
@@ -98,6 +100,7 @@ impl Refusal {
             Refusal::NoTurn => "a till count outside 1 to 16, a mark at or above it, or a last till at or above it",
             Refusal::EarlierDay => "a day before that of the till's newest held version",
             Refusal::NoneSoEarly => "no held version is as early as that day",
+            Refusal::HighPrice => "a price above 10,000",
         }
     }
 }
@@ -119,7 +122,7 @@ mod tests {
         for refusal in Refusal::ALL {
             assert_eq!(Refusal::from_number(refusal.number()), Some(refusal));
         }
-        for number in [0, 6, 7, 8, 9, 13, 15, 21, 30, u32::MAX] {
+        for number in [0, 6, 7, 8, 9, 13, 15, 21, 31, u32::MAX] {
             assert_eq!(Refusal::from_number(number), None);
         }
     }

@@ -3,11 +3,11 @@
 use crate::arguments::Named;
 use crate::calendar;
 use crate::names::{quoted, shown};
-use crate::words::{bytes, counted};
+use crate::words::{bytes, cents, counted};
 use crate::{image, numbers, rights, table, Failure};
 use lurdempos::{
-    Capacities, Listing, Message, Refusal, Right, Store, FINGERPRINT, LAST_NUMBER, LONGEST_IMAGE, MOST_IMAGES,
-    MOST_SEGMENTS, OWNER, USERS,
+    Capacities, Listing, Message, Refusal, Right, Store, FINGERPRINT, HIGHEST_PRICE, LAST_NUMBER, LONGEST_IMAGE,
+    MOST_IMAGES, MOST_SEGMENTS, OWNER, USERS,
 };
 use std::collections::HashSet;
 use std::path::Path;
@@ -82,6 +82,8 @@ impl<'a> Call<'a> {
             Refusal::Capacity | Refusal::Lengths | Refusal::ShortOutput | Refusal::NoTurn => unforeseen(),
             // Streams are read before there is a call.
             Refusal::StreamSize | Refusal::StreamLength | Refusal::StreamBits => unforeseen(),
+            // A bill names no till.
+            Refusal::HighPrice => unforeseen(),
             Refusal::OtherSegment | Refusal::NoSegment => return self.message_refused(refusal, "the message"),
         };
         Failure::refused(refusal, here, advice)
@@ -280,6 +282,13 @@ pub fn of_the_owner(refusal: Refusal, file: &Path, user: u32) -> Failure {
         }
         _ => unsound(refusal, file),
     }
+}
+
+/// A bill at a price that is too high for any store.
+pub fn high_price(price: u32) -> Failure {
+    let here = format!("--price {price} is {} cents for a cell", cents(price));
+    let advice = format!("give the price of a cell, at most {HIGHEST_PRICE} tenths of a cent: 25 is 2.5 cents.");
+    Failure::refused(Refusal::HighPrice, here, advice)
 }
 
 /// What an image takes in an empty store.

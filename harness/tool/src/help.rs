@@ -14,7 +14,7 @@ pub const STATUSES: [(u8, &str); 6] = [
     (2, "wrong use"),
     (3, "a file could not be read or written"),
     (4, "another process is writing the file"),
-    (5, "compared, and not the same (diff, verify), or salvaged, and not all is certain"),
+    (5, "compared, and not the same (diff, verify, bill), or salvaged, and not all is certain"),
 ];
 
 /// What stays as it was.

@@ -26,6 +26,11 @@ pub fn grouped(number: usize) -> String {
     text
 }
 
+/// Tenths of a cent as cents: `1,234.5`.
+pub fn cents(tenths: u32) -> String {
+    format!("{}.{}", grouped(tenths as usize / 10), tenths % 10)
+}
+
 /// With a capital and a full stop.
 pub fn sentence(words: &str) -> String {
     let mut letters = words.chars();

@@ -6,7 +6,7 @@ use lurdempos::{Capacities, Store, OWNER};
 use std::fs;
 
 /// Every command on the file `s`.
-const LINES: [&str; 31] = [
+const LINES: [&str; 32] = [
     "backup s 0 image",
     "backup s 0 -",
     "restore s 0 1 out",
@@ -35,6 +35,7 @@ const LINES: [&str; 31] = [
     "list s 0 --json",
     "tally s",
     "tally s --json",
+    "bill s --price 25",
     "check s",
     "map s",
     "map s --output out",

@@ -35,9 +35,10 @@ fn damaged(bytes: &[u8], random: &mut Random) -> Vec<u8> {
 }
 
 /// Readers first, then calls that change a sound store.
-const LINES: [&str; 9] = [
+const LINES: [&str; 10] = [
     "list s",
     "tally s --json",
+    "bill s --price 25",
     "map s",
     "restore s 0 1 out",
     "restore s 1 2 -",

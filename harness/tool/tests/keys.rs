@@ -89,7 +89,7 @@ fn of_the_owner() {
         bench.run(line).accepted();
     });
     let words = &["this is for the owner, user 0, and not for user 3"];
-    for line in ["tally s", "grow s t", "grant s 0 4 list", "revoke s 0 3 list"] {
+    for line in ["tally s", "bill s --price 25", "grow s t", "grant s 0 4 list", "revoke s 0 3 list"] {
         refused(&bench, &format!("{line} --user 3"), 23, words);
         refused(&bench, &format!("{line} --user 9"), 22, &["there is no user 9"]);
     }

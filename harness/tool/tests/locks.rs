@@ -29,7 +29,7 @@ fn told_when_another_run_writes() {
     for line in lines.into_iter().chain(["retire s 0 --keep 0 --wait=1"]) {
         is_told(&bench.run(line));
     }
-    for line in ["list s", "tally s", "check s", "map s", "restore s 0 1 out"] {
+    for line in ["list s", "tally s", "bill s --price 1", "check s", "map s", "restore s 0 1 out"] {
         bench.run(line).accepted();
     }
     assert_eq!((bench.read("s"), bench.names().len()), (before, 4));

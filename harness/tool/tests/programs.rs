@@ -5,7 +5,7 @@ use common::{letters, Bench, Run};
 use std::process::Command;
 
 /// Every command that answers, in an order in which all succeed.
-const LINES: [&str; 31] = [
+const LINES: [&str; 32] = [
     "init n --tills 1",
     "backup s 0 image",
     "backup s 0 image --unless-same",
@@ -30,6 +30,7 @@ const LINES: [&str; 31] = [
     "list s",
     "list s 1",
     "tally s",
+    "bill s --price 25",
     "check s",
     "map s",
     "map s --output m.svg",

@@ -213,7 +213,9 @@ fn unsound_10() {
     bench.write("old", form_1_of(&pool, &table));
     let lines =
         ["backup s 0 image", "restore s 0 1 out", "restore s 0 1 -", "retire s 0 1", "list s", "list s 0 --json"];
-    for line in lines.into_iter().chain(["tally s", "check s", "map s", "map s --output m", "list s 9"]) {
+    for line in
+        lines.into_iter().chain(["tally s", "bill s --price 10001", "check s", "map s", "map s --output m", "list s 9"])
+    {
         refused(&bench, line, 10, &["pool and table are not a sound store", "s has been damaged", "lurdempos check"]);
     }
     refused(&bench, "check old", 10, &["old has been damaged", "lurdempos salvage old FOLDER"]);

@@ -3,7 +3,7 @@
 mod common;
 use common::Bench;
 
-const COMMANDS: [&str; 24] = [
+const COMMANDS: [&str; 25] = [
     "init",
     "backup",
     "closing",
@@ -13,6 +13,7 @@ const COMMANDS: [&str; 24] = [
     "retire",
     "list",
     "tally",
+    "bill",
     "check",
     "map",
     "export",
@@ -61,7 +62,7 @@ fn no_command() {
 }
 
 /// Wrong lines, and what is said about them.
-const WRONG: [(&str, &str); 73] = [
+const WRONG: [(&str, &str); 77] = [
     ("init", "FILE is missing"),
     ("init n m", "one argument too many: m"),
     ("init n --till 3", "unknown option --till"),
@@ -128,6 +129,10 @@ const WRONG: [(&str, &str); 73] = [
     ("list s --json --json", "option --json is given twice"),
     ("list s --json=yes", "unknown option --json=yes"),
     ("tally s 0", "one argument too many: 0"),
+    ("bill s", "--price is missing"),
+    ("bill s --price", "option --price needs a value, P"),
+    ("bill s --price 2.5", "--price has to be a number in plain digits, not `2.5`"),
+    ("bill s 0 --price 25", "one argument too many: 0"),
     ("check", "FILE is missing"),
     ("check -", "FILE has to be a file"),
     ("map s --output", "option --output needs a value"),

@@ -1,5 +1,6 @@
 //! Any pool and table, sound or not: both stores give the same answers and leave the same buffers.
 
+use keeper::calls::any_price;
 use keeper::collected::misfit;
 use keeper::course::{answer, Lane};
 use keeper::messages::Messages;
@@ -66,6 +67,7 @@ fn each_sort(random: &mut Random, pool: &[u8], table: &[u32]) -> Vec<Call> {
     let day = day_near(random, &Words::new(table, capacities).days(till as usize));
     vec![
         Call::Tally,
+        Call::Bill { price: any_price(random) },
         Call::Listing { till },
         Call::VersionOn { till, day },
         Call::Restore { till, version, room: capacities.image_bytes() },

@@ -58,6 +58,7 @@ fn kind(call: &Call) -> &'static str {
         Some((_, Right::Retire)) => "retire",
         None if matches!(call, Call::SetRights { .. }) => "set rights",
         None if matches!(call, Call::Tally) => "tally",
+        None if matches!(call, Call::Bill { .. }) => "bill",
         None => "",
     }
 }

@@ -431,7 +431,8 @@ fn closings(store: &dyn Calls) -> Vec<(u32, u32)> {
     cases
 }
 
-/// A change of rights 10, 3, 22, 23; the tally 10, 22, 23; what keeper::keys has of every call, in brief.
+/// A change of rights 10, 3, 22, 23; the tally 10, 22, 23; the bill these and 30; what keeper::keys has of every call, in
+/// brief.
 fn users(store: &dyn Calls) -> Vec<(u32, u32)> {
     let mut one = Trial::new(store, Capacities::new(2, 4, 16, 8, 32));
     let rights = Rights::only(Right::List);
@@ -446,9 +447,13 @@ fn users(store: &dyn Calls) -> Vec<(u32, u32)> {
         cases.push((store.listing(&one.pool, &one.table, user, till)[0], expected));
     }
     cases.extend([(0, 0), (1, 23), (8, 22)].map(|(user, said)| (store.tally(&one.pool, &one.table, user)[0], said)));
+    for (user, price, said) in [(0, 10_000, 0), (0, 10_001, 30), (1, 10_001, 23), (8, 10_001, 22)] {
+        cases.push((store.bill(&one.pool, &one.table, user, price)[0], said));
+    }
     one.table[TILL + 3] = 1;
     cases.push((store.set_rights(&one.pool, &mut one.table, 9, 9, 9, rights)[0], 10));
     cases.push((store.tally(&one.pool, &one.table, 9)[0], 10));
+    cases.push((store.bill(&one.pool, &one.table, 9, 10_001)[0], 10));
     cases
 }
 

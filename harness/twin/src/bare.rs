@@ -1,7 +1,7 @@
 //! The twin's calls with answers as bare numbers.
 
 use crate::Era;
-use terms::{numbers, Calls, Capacities, Closing, Message, Rights, CLOSING_NUMBERS};
+use terms::{numbers, Calls, Capacities, Closing, Message, Rights, BILL_NUMBERS, CLOSING_NUMBERS};
 
 /// The twin, where a test can be put to more than one store.
 pub struct Twin;
@@ -62,6 +62,10 @@ impl Calls for Twin {
 
     fn tally(&self, pool: &[u8], table: &[u32], user: u32) -> [u32; 4] {
         numbers(crate::tally(pool, table, user))
+    }
+
+    fn bill(&self, pool: &[u8], table: &[u32], user: u32, price: u32) -> [u32; BILL_NUMBERS] {
+        numbers(crate::bill(pool, table, user, price))
     }
 
     fn set_rights(

@@ -157,7 +157,12 @@ impl<'a> TillWords<'a> {
 
     /// The pointer word of one block.
     pub fn pointer(&self, slot: usize, block: usize) -> u32 {
-        self.slot(slot)[SLOT_HEAD + block]
+        self.pointers(slot)[block]
+    }
+
+    /// The pointer words of a slot, with those of the blocks that its version has not, which are null.
+    pub fn pointers(&self, slot: usize) -> &'a [u32] {
+        &self.slot(slot)[SLOT_HEAD..]
     }
 }
 

@@ -2,6 +2,7 @@
 //! the proved store has something to be compared with and raced against. Nothing here is proved.
 
 mod bare;
+mod bill;
 mod closing;
 mod dated;
 mod era;
@@ -21,6 +22,7 @@ mod turn;
 mod users;
 
 pub use bare::{earlier, Twin};
+pub use bill::bill;
 pub use closing::backup_all;
 pub use dated::{backup_dated, version_on};
 pub use era::Era;

@@ -2,7 +2,7 @@
 //! the refusal first.
 
 use crate::raw;
-use terms::{Calls, Capacities, Closing, Message, Rights, CLOSING_NUMBERS, MOST_IMAGES};
+use terms::{Calls, Capacities, Closing, Message, Rights, BILL_NUMBERS, CLOSING_NUMBERS, MOST_IMAGES};
 
 /// The proved store. Slices that are lent are valid for as long as a call lasts, lengths are theirs, and the lent
 /// buffers do not overlap, since one that is written is lent to nobody else: this is all that the archive asks for.
@@ -114,6 +114,15 @@ impl Calls for Proved {
         // SAFETY: both parts are slices, lent for reading.
         let answer = unsafe { raw::lurdempos_tally(pool.as_ptr(), pool.len(), table.as_ptr(), table.len(), user) };
         [answer.refusal, answer.cells, answer.records, answer.counts]
+    }
+
+    fn bill(&self, pool: &[u8], table: &[u32], user: u32, price: u32) -> [u32; BILL_NUMBERS] {
+        let (bytes, words) = (pool.len(), table.len());
+        // SAFETY: both parts are slices, lent for reading.
+        let answer = unsafe { raw::lurdempos_bill(pool.as_ptr(), bytes, table.as_ptr(), words, user, price) };
+        let mut numbers = [answer.refusal; BILL_NUMBERS];
+        numbers[1..].copy_from_slice(&answer.sums);
+        numbers
     }
 
     fn set_rights(

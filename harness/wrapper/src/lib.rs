@@ -14,8 +14,8 @@ pub use sent::{sending, sha1};
 pub use store::{table_length, Store};
 pub use stream::{image_of_stream, read_stream};
 pub use terms::{
-    Calls, Capacities, Closing, Collected, Each, Fingerprint, Listing, Message, Refusal, Restored, Right, Rights,
-    Sending, Tally, BASE, BLOCK, BLOCK_BYTES, FINGERPRINT, LAST_NUMBER, LONGEST_IMAGE, LONGEST_MESSAGE, LONGEST_STREAM,
-    MOST_IMAGES, MOST_SEGMENTS, OWNER, SEGMENT, SEGMENT_BLOCKS, USERS,
+    Bill, Calls, Capacities, Closing, Collected, Each, Fingerprint, Listing, Message, Refusal, Restored, Right, Rights,
+    Sending, Tally, BASE, BLOCK, BLOCK_BYTES, FINGERPRINT, HIGHEST_PRICE, LAST_NUMBER, LONGEST_IMAGE, LONGEST_MESSAGE,
+    LONGEST_STREAM, MOST_IMAGES, MOST_SEGMENTS, MOST_TILLS, OWNER, SEGMENT, SEGMENT_BLOCKS, USERS,
 };
 pub use turn::Turn;

@@ -77,6 +77,14 @@ pub struct TallyAnswer {
     pub counts: u32,
 }
 
+/// Of a bill: the sum of each till.
+#[repr(C)]
+#[derive(Clone, Copy, Debug, PartialEq, Eq)]
+pub struct BillAnswer {
+    pub refusal: u32,
+    pub sums: [u32; 16],
+}
+
 /// Of a change of rights.
 #[repr(C)]
 #[derive(Clone, Copy, Debug, PartialEq, Eq)]
@@ -256,6 +264,15 @@ extern "C" {
         table_len: usize,
         user: u32,
     ) -> TallyAnswer;
+
+    pub fn lurdempos_bill(
+        pool: *const u8,
+        pool_len: usize,
+        table: *const u32,
+        table_len: usize,
+        user: u32,
+        price: u32,
+    ) -> BillAnswer;
 
     pub fn lurdempos_set_rights(
         pool: *const u8,

@@ -2,7 +2,7 @@
 
 use crate::Proved;
 use terms::{
-    Calls, Capacities, Collected, Each, Listing, Message, Refusal, Restored, Rights, Tally, FINGERPRINT,
+    Bill, Calls, Capacities, Collected, Each, Listing, Message, Refusal, Restored, Rights, Tally, FINGERPRINT,
     LONGEST_STREAM, MOST_IMAGES, OWNER,
 };
 
@@ -146,6 +146,14 @@ impl Store {
     pub fn tally(&self, user: u32) -> Result<Tally, Refusal> {
         let [refusal, cells, records, counts] = Proved.tally(&self.pool, &self.table, user);
         accepted(refusal).map(|()| Tally { cells, records, counts })
+    }
+
+    /// What each till's share of the storage costs, in tenths of a cent: the price of each occupied cell is divided among
+    /// the tills with a block that points straight to it. The sums add up to the price times the tally's cells; for the
+    /// owner.
+    pub fn bill(&self, user: u32, price: u32) -> Result<Bill, Refusal> {
+        let [refusal, sums @ ..] = Proved.bill(&self.pool, &self.table, user, price);
+        accepted(refusal).map(|()| Bill { sums })
     }
 }
 

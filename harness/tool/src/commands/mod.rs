@@ -2,6 +2,7 @@
 
 mod backup;
 mod backup_sent;
+mod bill;
 mod capacities;
 mod check;
 mod closing;
@@ -34,7 +35,7 @@ use crate::syntax::Command;
 use crate::{completions, help, manual, Failure};
 use std::ffi::{OsStr, OsString};
 
-pub static COMMANDS: [&Command; 24] = [
+pub static COMMANDS: [&Command; 25] = [
     &init::COMMAND,
     &backup::COMMAND,
     &closing::COMMAND,
@@ -44,6 +45,7 @@ pub static COMMANDS: [&Command; 24] = [
     &retire::COMMAND,
     &list::COMMAND,
     &tally::COMMAND,
+    &bill::COMMAND,
     &check::COMMAND,
     &map::COMMAND,
     &export::COMMAND,

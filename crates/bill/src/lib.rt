@@ -1,0 +1,1 @@
+// The bill of §14: definitions in specs/, the theorem in proofs/; no code.
