@@ -13,7 +13,7 @@ use Rattle.model.specs.Measures.{Measures, recordWords, tableWords}
 use Rattle.model.specs.Place.{Placed, placeAll}
 use Rattle.model.specs.State.{Block, Pointer, Segment, Shelf, State, Outcome, refused, done}
 use Rattle.model.specs.Table.{shapeOf, stateIn, shelfIn, stateToWords, stateToBytes, recordToWords}
-use Rattle.laws.proofs.Clean.{ShelfFits}
+use Rattle.laws.specs.Shelves.{ShelfFits}
 use Rattle.laws.specs.Stores.{recordsFrom, Sound}
 use Rattle.laws.proofs.Stores.{records-is, records-put, found, fits, valid, long, header}
 use Rattle.laws.proofs.Measures.{sizes}

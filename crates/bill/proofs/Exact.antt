@@ -9,12 +9,12 @@ use native.Mathlib.Omega.{arith}
 use lib.ListN.{length, getD, replicate, length-replicate, length-map}
 use lib.Dec.{eqb, ltb}
 use borrow.Author.Tests.{eqb-true, eqb-false, eq-eqb, ltb-true, ltb-false, lt-ltb}
-use Rattle.lists.specs.Lists.{count, total, isIn}
+use Rattle.lists.specs.Lists.{count, total, isIn, uses}
 use Rattle.lists.specs.Rows.{joined, fill}
 use Rattle.lists.specs.Each.{Each}
 use Rattle.lists.proofs.Tests.{clause, all-true}
 use Rattle.lists.proofs.Counts.{count-append}
-use Rattle.lists.proofs.Uses.{uses, uses-append, in-uses, uses-in}
+use Rattle.lists.proofs.Uses.{uses-append, in-uses, uses-in}
 use Rattle.model.specs.Measures.{Shape}
 use Rattle.model.specs.State.{Pointer, nullPointer, blankPointer, direct, indirect, Shelf, Version, Till, State}
 use Rattle.model.specs.Records.{isHeld, cellOf, positionAt, namedCells}

@@ -8,7 +8,7 @@ use native.Mathlib.Omega.{arith}
 use lib.Dec.{ltb}
 use lib.ListN.{length, getD, replicate}
 use borrow.Author.Tests.{eqb-true, eq-eqb, le-ltb}
-use Rattle.lists.specs.Lists.{count, total}
+use Rattle.lists.specs.Lists.{count, total, uses}
 use Rattle.lists.specs.Masks.{maskOf}
 use Rattle.lists.specs.Rows.{joined, fill}
 use Rattle.lists.proofs.Rows.{length-fill}
@@ -16,13 +16,13 @@ use Rattle.lists.proofs.Each.{each-weaken}
 use Rattle.lists.proofs.Counts.{count-append}
 use Rattle.lists.proofs.Masks.{mask-map}
 use Rattle.lists.proofs.Tests.{clause, all-true}
-use Rattle.lists.proofs.Uses.{uses, uses-append, uses-here}
+use Rattle.lists.proofs.Uses.{uses-append, uses-here}
 use Rattle.model.specs.Measures.{Shape}
 use Rattle.model.specs.State.{Pointer, nullPointer, blankPointer, direct, indirect, Position, nullPosition, blankPosition, held, removed, Segment, Shelf, Till, State}
 use Rattle.model.specs.Records.{isHeld, cellOf, countOf, cellsOf, namedCells, positionAt}
 use Rattle.model.specs.Sound.{leadsTo, allPointers}
 use Rattle.laws.proofs.Sweep.{countIn, named-one, bit-most}
-use Rattle.laws.proofs.Clean.{SegmentFits}
+use Rattle.laws.specs.Shelves.{SegmentFits}
 use Rattle.laws.proofs.Ranges.{ranges}
 use Rattle.laws.proofs.Serves.{Valid, pointersOf}
 use Rattle.bill.specs.Bill.{refersTo, pays, shares, divided, billFor, bill}

@@ -9,12 +9,12 @@ use native.Mathlib.Omega.{arith}
 use lib.ListN.{getD}
 use lib.Dec.{eqb, ltb}
 use borrow.Author.Tests.{eqb-true, ltb-true, ltb-false}
-use Rattle.lists.specs.Lists.{every, count, rises, isIn}
+use Rattle.lists.specs.Lists.{every, count, rises, isIn, uses}
 use Rattle.lists.specs.Rows.{joined}
 use Rattle.lists.proofs.Counts.{count-append}
 use Rattle.lists.proofs.Rises.{rises-first}
 use Rattle.lists.proofs.Tests.{clause, every-head, every-tail}
-use Rattle.lists.proofs.Uses.{in-uses, uses, uses-append, uses-in}
+use Rattle.lists.proofs.Uses.{in-uses, uses-append, uses-in}
 use Rattle.model.specs.Measures.{Shape}
 use Rattle.model.specs.State.{Pointer, nullPointer, blankPointer, direct, indirect, nullPosition, blankPosition, held, removed, Segment, Shelf, Version, Till, State}
 use Rattle.model.specs.Records.{isHeld, cellOf, cellsOf, namedCells, positionAt}

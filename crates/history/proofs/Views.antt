@@ -24,7 +24,7 @@ use Rattle.model.specs.Turn.{target, foundOr, turn}
 use Rattle.model.specs.Trace.{endOf, blockAt, tracedBlock, tracedBlocks, imageOf}
 use Rattle.model.specs.Sound.{isNull, leadsTo, nextPointers, areTraceable}
 use Rattle.model.specs.Calls.{newestPointers, withNewestPointers, takeOver, closeUp}
-use Rattle.laws.proofs.Sweep.{Exact}
+use Rattle.laws.specs.Shelves.{Exact}
 use Rattle.laws.proofs.Bare.{isIndirect, isBarePointer}
 use Rattle.laws.proofs.Serves.{pointersOf, Serves, traced-again}
 use Rattle.laws.proofs.Turn.{NewOk, extended, traced-same, turn-length, plain-end, lead-at, last-plain}

@@ -8,16 +8,16 @@ use native.Mathlib.Nat.{zero-add}
 use native.Mathlib.Omega.{arith}
 use lib.ListN.{length, getD, length-map}
 use Rattle.lists.specs.Each.{Each}
-use Rattle.lists.specs.Lists.{isIn, allZero, counted}
+use Rattle.lists.specs.Lists.{isIn, allZero, counted, uses}
 use Rattle.lists.proofs.Counted.{counted-is}
 use Rattle.lists.proofs.Sets.{map-at}
-use Rattle.lists.proofs.Uses.{uses, in-uses, not-in, uses-here, uses-in, each-used}
+use Rattle.lists.proofs.Uses.{in-uses, not-in, uses-here, uses-in, each-used}
 use Rattle.model.specs.Records.{namedCells, cellsOf, cellOf}
 use Rattle.model.specs.Runs.{freeCells, Run, scan, findRun}
 use Rattle.model.specs.State.{Block, Segment, nullPosition, blankPosition, held, removed, Shelf}
 use Rattle.laws.proofs.Named.{inside-any}
-use Rattle.laws.proofs.Sweep.{Exact, named-one}
-use Rattle.laws.proofs.Uses.{bit}
+use Rattle.laws.proofs.Sweep.{named-one}
+use Rattle.laws.specs.Shelves.{Exact, bit}
 use Rattle.kept.specs.Kept.{filled}
 
 -- ---- the free cells

@@ -24,7 +24,7 @@ use Rattle.model.specs.Measures.{Measures, recordWords}
 use Rattle.model.specs.Records.{isHeld, cellOf, cellsOf, namedCells}
 use Rattle.model.specs.State.{nullPosition, blankPosition, held, removed, Segment, Shelf, Block}
 use Rattle.model.specs.Table.{shelfIn, recordsIn}
-use Rattle.laws.proofs.Sweep.{Exact}
+use Rattle.laws.specs.Shelves.{Exact}
 use Rattle.records.specs.Records.{recordIn, recordOf}
 use Rattle.records.specs.declared.Record.{Record}
 use Rattle.records.proofs.Records.{held-small, mask-none}

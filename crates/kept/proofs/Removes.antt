@@ -8,10 +8,10 @@ use native.Mathlib.Omega.{arith}
 use lib.ListN.{length, getD, take, drop, length-map, length-replicate}
 use lib.Seq.{sets, length-sets}
 use Rattle.lists.specs.Each.{Each}
-use Rattle.lists.specs.Lists.{keep}
+use Rattle.lists.specs.Lists.{keep, uses}
 use Rattle.lists.specs.Masks.{maskOf}
 use Rattle.lists.proofs.Each.{each-at, each-weaken}
-use Rattle.lists.proofs.Uses.{uses, each-used}
+use Rattle.lists.proofs.Uses.{each-used}
 use Rattle.model.specs.Measures.{Measures, recordWords}
 use Rattle.model.specs.Records.{cellsOf, cellOf, isHeld, cellAt, namedCells, freeSegment}
 use Rattle.model.specs.Runs.{Run}
@@ -19,7 +19,7 @@ use Rattle.model.specs.State.{Segment, Shelf, Block, Position, nullPosition}
 use Rattle.model.specs.Sweep.{goes, stays, struck, moved, clearCells, freeRecord, strikeOnly, compact}
 use Rattle.model.specs.Table.{recordToWords}
 use Rattle.laws.proofs.Runs.{RunOk, Free}
-use Rattle.laws.proofs.Sweep.{Exact}
+use Rattle.laws.specs.Shelves.{Exact}
 use Rattle.laws.proofs.Uses.{going, staying, uses-split}
 use Rattle.records.proofs.Records.{length-moved}
 use Rattle.shelf.proofs.Read.{store-at}

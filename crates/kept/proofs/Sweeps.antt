@@ -19,7 +19,8 @@ use Rattle.model.specs.Runs.{findRun, scan}
 use Rattle.model.specs.State.{Segment, Shelf}
 use Rattle.model.specs.Sweep.{goes, removeFrom, sweepRecord, compact, sweepFrom, sweep}
 use Rattle.model.specs.Table.{recordsIn, shelfIn}
-use Rattle.laws.proofs.Sweep.{Exact, record-keeps}
+use Rattle.laws.proofs.Sweep.{record-keeps}
+use Rattle.laws.specs.Shelves.{Exact}
 use Rattle.laws.proofs.Uses.{staying-count}
 use Rattle.records.specs.Records.{recordIn, recordOf, Formed, positions}
 use Rattle.records.specs.declared.Record.{Record}

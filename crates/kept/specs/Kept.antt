@@ -11,7 +11,7 @@ use Rattle.model.specs.Records.{cellOf}
 use Rattle.model.specs.State.{Block, Shelf}
 use Rattle.model.specs.Sweep.{goes}
 use Rattle.model.specs.Table.{recordsIn, shelfIn}
-use Rattle.laws.proofs.Sweep.{Exact}
+use Rattle.laws.specs.Shelves.{Exact}
 use Rattle.laws.specs.Ranges.{Measured}
 use Rattle.records.specs.Records.{recordOf}
 use Rattle.records.specs.declared.Record.{Record}

@@ -29,7 +29,7 @@ use Rattle.model.specs.Sound.{isSound, isNull, leads, leadsTo, hasLength, isNum
 use Rattle.model.specs.Calls.{emptyTill, tillOf, withTill, newestPointers, withNewestPointers, newestDay, dayFor, tillWith, fileIn, placeAndFile, backup, After}
 use Rattle.laws.proofs.Fits.{Proper}
 use Rattle.laws.proofs.Measures.{parts-some}
-use Rattle.laws.proofs.Sweep.{Exact}
+use Rattle.laws.specs.Shelves.{Exact}
 use Rattle.laws.proofs.Counts.{at, leads-itself}
 use Rattle.laws.proofs.Bare.{isIndirect, isBarePointer}
 use Rattle.laws.proofs.Place.{PlacedOk, counted-held}

@@ -19,7 +19,7 @@ use Rattle.model.specs.State.{Pointer, nullPointer, blankPointer, direct, indir
 use Rattle.model.specs.Records.{isHeld, countOf}
 use Rattle.model.specs.Sound.{isSound, leadsTo, allPointers}
 use Rattle.laws.proofs.Sweep.{countIn}
-use Rattle.laws.proofs.Clean.{SegmentFits}
+use Rattle.laws.specs.Shelves.{SegmentFits}
 use Rattle.laws.proofs.Counts.{at, leads-itself}
 use Rattle.laws.proofs.Serves.{pointersOf, Valid, sound-valid}
 use Rattle.laws.specs.Ranges.{Ranges}

@@ -10,7 +10,7 @@ use lib.ListN.{length, getD, set, replicate, length-set, length-map, length-repl
 use lib.Seq.{sets, getD-set-same, getD-set-other, length-sets}
 use lib.Dec.{eqb, ltb}
 use borrow.Author.Tests.{eqb-true, eqb-false, lt-ltb, ltb-true, ltb-false}
-use Rattle.lists.specs.Lists.{every, keep, count}
+use Rattle.lists.specs.Lists.{every, keep, count, uses}
 use Rattle.lists.specs.Each.{Each}
 use Rattle.model.specs.Measures.{Measures}
 use Rattle.model.specs.State.{Block, nullPosition, blankPosition, held, removed, Segment, Shelf}
@@ -19,11 +19,12 @@ use Rattle.model.specs.Records.{freeSegment, isFree, isHeld, countOf, cellsOf, 
 use Rattle.model.specs.Runs.{Run, findRun}
 use Rattle.model.specs.Sweep.{clearCells, goes, stays, struck, moved, freeRecord, strikeOnly, compact, removeFrom, sweepRecord, sweepFrom, sweep}
 use Rattle.model.specs.Sound.{isUsed}
-use Rattle.laws.proofs.Uses.{bit, uses-split, nothing-bit, staying, staying-count}
-use Rattle.laws.proofs.Sweep.{Exact, Keeps, named-one, record-keeps}
+use Rattle.laws.specs.Shelves.{SegmentFits, ShelfFits, bit, Exact}
+use Rattle.laws.proofs.Uses.{uses-split, nothing-bit, staying, staying-count}
+use Rattle.laws.proofs.Sweep.{Keeps, named-one, record-keeps}
 use Rattle.lists.proofs.Each.{each-at, each-set, each-sets}
 use Rattle.lists.proofs.Tests.{by-test, or-left, or-true}
-use Rattle.lists.proofs.Uses.{uses, uses-here}
+use Rattle.lists.proofs.Uses.{uses-here}
 
 -- ---- lists
 
@@ -50,11 +51,6 @@ module _ (m : Measures) where
   all-clear (c ∷ cs) cells h = all-clear cs (set cells c (zeroBlock (m .blockBytes))) (each-set Whole cells c (zeroBlock (m .blockBytes)) h zero-whole)
 
 -- ---- a record after removal
-
--- as long as a segment, and free or holding something
-pub record SegmentFits (m : Measures) (seg : Segment) : Type 0 where
-  pub size : length seg ≡ m .segmentBlocks
-  pub used : isUsed seg ≡ true
 
 pub used-by : (seg : Segment) → 0 < count isHeld seg → isUsed seg ≡ true
 unfolding isUsed
@@ -84,10 +80,6 @@ free-held zero = (refl, refl)
 free-held (suc n) = let h = free-held n in (h .0, omega (arith, h .1))
 
 -- ---- the shelf after a removal
-
-pub record ShelfFits (m : Measures) (a : Shelf) : Type 0 where
-  pub records : Each (SegmentFits m) (a .records)
-  pub cells : Each (Whole m) (a .cells)
 
 -- the shelf b comes from a by a change of record k, which then has no position with count 0
 pub record Swept (m : Measures) (a b : Shelf) (k : ℕ) : Type 0 where

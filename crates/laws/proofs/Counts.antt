@@ -22,7 +22,7 @@ use Rattle.model.specs.Place.{oneMore}
 use Rattle.model.specs.Sweep.{oneLess, changeAt, changeAll}
 use Rattle.model.specs.Sound.{leadsTo, isCounted, areCounted, allCounted, isUsed}
 use Rattle.laws.proofs.Sweep.{countIn}
-use Rattle.laws.proofs.Clean.{SegmentFits}
+use Rattle.laws.specs.Shelves.{SegmentFits}
 
 abbrev pub at : List Segment → ℕ → ℕ → Position
 at segs k i = getD (getD segs k []) i nullPosition

@@ -9,15 +9,16 @@ use native.Mathlib.Omega.{arith}
 use lib.ListN.{length, getD, List·getD-eq-default}
 use lib.Dec.{eqb, ltb}
 use borrow.Author.Tests.{eqb-true, ltb-true, ltb-false}
-use Rattle.lists.specs.Lists.{count, counted, isIn, allZero}
+use Rattle.lists.specs.Lists.{count, counted, isIn, allZero, uses}
 use Rattle.lists.specs.Rows.{joined}
-use Rattle.lists.proofs.Uses.{uses, uses-append, count-total, in-uses, total-uses, uses-in}
+use Rattle.lists.proofs.Uses.{uses-append, count-total, in-uses, total-uses, uses-in}
 use Rattle.model.specs.Measures.{Shape}
 use Rattle.model.specs.State.{nullPosition, blankPosition, held, removed, Segment, Shelf, State}
 use Rattle.model.specs.Records.{isHeld, cellOf, cellsOf, cellAt, namedCells}
 use Rattle.model.specs.Sound.{isSound}
-use Rattle.laws.proofs.Uses.{bit, nothing-bit}
-use Rattle.laws.proofs.Sweep.{Exact, bit-most}
+use Rattle.laws.proofs.Uses.{nothing-bit}
+use Rattle.laws.specs.Shelves.{bit, Exact}
+use Rattle.laws.proofs.Sweep.{bit-most}
 use Rattle.laws.proofs.Serves.{Valid, sound-valid}
 use Rattle.laws.proofs.Place.{bit-one}
 

@@ -12,7 +12,7 @@ use lib.ListN.{length, getD, set, length-set, length-map, List·getD-map}
 use lib.Seq.{sets, getD-set-same, getD-set-other, length-sets, map-set-same}
 use lib.Dec.{eqb, ltb}
 use borrow.Author.Tests.{eqb-true, eqb-false, eq-eqb, ne-eqb}
-use Rattle.lists.specs.Lists.{sameNumbers, counted, every, allOf, keep, count, allZero}
+use Rattle.lists.specs.Lists.{sameNumbers, counted, every, allOf, keep, count, allZero, uses}
 use Rattle.lists.specs.Rows.{joined}
 use Rattle.lists.specs.Each.{Each}
 use Rattle.model.specs.Measures.{Measures}
@@ -23,17 +23,18 @@ use Rattle.model.specs.Runs.{Run}
 use Rattle.model.specs.Place.{barePointer, barePosition, pointersTo, oneMore, newPositions, stored, share, write}
 use Rattle.model.specs.Trace.{blockAt}
 use Rattle.model.specs.Sound.{isUsed, isNull, leadsTo}
-use Rattle.laws.proofs.Uses.{bit, named-set}
+use Rattle.laws.proofs.Uses.{named-set}
+use Rattle.laws.specs.Shelves.{bit, Exact, SegmentFits, ShelfFits}
 use Rattle.laws.proofs.Runs.{RunOk, Free}
-use Rattle.laws.proofs.Sweep.{Exact, countIn, blockIn, named-one}
-use Rattle.laws.proofs.Clean.{Whole, SegmentFits, ShelfFits, used-by}
+use Rattle.laws.proofs.Sweep.{countIn, blockIn, named-one}
+use Rattle.laws.proofs.Clean.{Whole, used-by}
 use Rattle.laws.proofs.Counts.{at}
 use Rattle.laws.proofs.Bare.{null-bare, blank-bare, full-stored, stored-full, bare-eq, isIndirect, isBarePointer, bare-leads, bare-plain, bare-bare, bare-null, by-bare-position}
 use Rattle.lists.proofs.Each.{each-at, each-set, each-sets}
 use Rattle.lists.proofs.Same.{same-eq}
 use Rattle.lists.proofs.Sets.{within-run, sets-after, sets-before, sets-in}
 use Rattle.lists.proofs.Tests.{by-test, cond-true}
-use Rattle.lists.proofs.Uses.{numbers, uses, uses-here, uses-high, uses-low, uses-within}
+use Rattle.lists.proofs.Uses.{numbers, uses-here, uses-high, uses-low, uses-within}
 
 -- ---- counting
 

@@ -8,12 +8,11 @@ use native.Mathlib.Omega.{arith}
 use lib.ListN.{length, getD, set, length-set, length-append}
 use lib.Dec.{leb}
 use borrow.Author.Tests.{leb-true, leb-false, le-leb}
-use Rattle.lists.specs.Lists.{count, rises}
+use Rattle.lists.specs.Lists.{count, rises, uses}
 use Rattle.lists.specs.Rows.{joined}
 use Rattle.lists.proofs.Counts.{count-append}
 use Rattle.lists.proofs.Rises.{rises-without}
 use Rattle.lists.proofs.Tests.{all-true, clause, every-at, every-set}
-use Rattle.lists.proofs.Uses.{uses}
 use Rattle.model.specs.Measures.{Measures, Shape}
 use Rattle.model.specs.State.{Pointer, Shelf, Version, Rights, Till, State, Outcome, refused, done}
 use Rattle.model.specs.Records.{isHeld}
@@ -21,8 +20,9 @@ use Rattle.model.specs.Place.{oneMore}
 use Rattle.model.specs.Sweep.{oneLess, release, claim, sweep}
 use Rattle.model.specs.Sound.{isSound, isNumbered, isTill, leadsTo, allPointers}
 use Rattle.model.specs.Calls.{emptyTill, tillOf, heldFrom, heldBefore, withTill, newestPointers, takeOver, taken, closeUp, retireFrom, retire, After, firstOf, notHeld, lookUp}
-use Rattle.laws.proofs.Sweep.{Exact, Keeps, countIn, blockIn, sweep-keeps}
-use Rattle.laws.proofs.Clean.{ShelfFits, Cleared, sweep-clears, clean-held}
+use Rattle.laws.proofs.Sweep.{Keeps, countIn, blockIn, sweep-keeps}
+use Rattle.laws.specs.Shelves.{Exact, ShelfFits}
+use Rattle.laws.proofs.Clean.{Cleared, sweep-clears, clean-held}
 use Rattle.laws.proofs.Counts.{at, Counted, falls, grows, lower-count, raise-count, change-cell, change-all-named, change-all-fits, change-all-length}
 use Rattle.laws.proofs.Fits.{record-in}
 use Rattle.laws.proofs.Serves.{pointersOf, Serves, Valid, sound-valid, valid-sound, till-among, tills-again}

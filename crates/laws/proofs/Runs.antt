@@ -9,13 +9,13 @@ use native.Mathlib.Omega.{arith}
 use lib.ListN.{length, getD}
 use lib.Dec.{eqb, leb, ltb}
 use borrow.Author.Tests.{leb-true, ltb-true, ltb-false}
-use Rattle.lists.specs.Lists.{counted, isIn}
+use Rattle.lists.specs.Lists.{counted, isIn, uses}
 use Rattle.model.specs.State.{Shelf}
 use Rattle.model.specs.Records.{namedCells}
 use Rattle.model.specs.Runs.{Run, freeCells, better, scan, findRun}
 use Rattle.lists.proofs.Counted.{counted-at, length-counted}
 use Rattle.lists.proofs.Tests.{by-test}
-use Rattle.lists.proofs.Uses.{not-in, uses}
+use Rattle.lists.proofs.Uses.{not-in}
 
 module _ (F : ℕ → Type 0) (need : ℕ) where
   pub record RunOk (run : Run) : Type 0 where

@@ -28,8 +28,9 @@ use Rattle.model.specs.Place.{Placed, barePointer, stored, share, write, writeR
 use Rattle.model.specs.Trace.{blockAt}
 use Rattle.model.specs.Sound.{isNull, leadsTo}
 use Rattle.laws.proofs.Runs.{RunOk, FoundOk, Free, find-ok}
-use Rattle.laws.proofs.Sweep.{Exact, countIn, blockIn}
-use Rattle.laws.proofs.Clean.{Whole, ShelfFits}
+use Rattle.laws.proofs.Sweep.{countIn, blockIn}
+use Rattle.laws.specs.Shelves.{Exact, ShelfFits}
+use Rattle.laws.proofs.Clean.{Whole}
 use Rattle.laws.proofs.Bare.{bare-eq, isIndirect, isBarePointer, bare-leads, bare-plain, bare-bare, bare-null}
 use Rattle.laws.proofs.Place.{PlacedOk, share-ok, fill-ok}
 use Rattle.laws.proofs.Counts.{leads-itself, pointer-counted}

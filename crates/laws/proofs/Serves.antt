@@ -19,8 +19,9 @@ use Rattle.model.specs.Records.{isHeld, cellAt, positionAt}
 use Rattle.model.specs.Trace.{endVia, endOf, blockAt, tracedBlock}
 use Rattle.model.specs.Sound.{isSound, isShaped, isNumbered, leads, nextPointers, endsZero, areTraceable, isTill, isUsed, leadsTo, allPointers}
 use Rattle.model.specs.Calls.{emptyTill}
-use Rattle.laws.proofs.Sweep.{Exact, countIn, blockIn}
-use Rattle.laws.proofs.Clean.{Whole, SegmentFits, ShelfFits}
+use Rattle.laws.proofs.Sweep.{countIn, blockIn}
+use Rattle.laws.specs.Shelves.{Exact, SegmentFits, ShelfFits}
+use Rattle.laws.proofs.Clean.{Whole}
 use Rattle.laws.proofs.Valid.{sound-exact, exact-sound}
 use Rattle.laws.proofs.Counts.{at, Counted, Led, sound-counted, counted-sound, leads-itself, pointer-counted}
 

@@ -11,22 +11,19 @@ use lib.ListN.{length, getD, set, replicate, length-set, length-map, List·getD-
 use lib.Seq.{sets, getD-set-same, getD-set-other}
 use lib.Dec.{eqb, leb, ltb}
 use borrow.Author.Tests.{eqb-true, eqb-false, ltb-true, ltb-false, leb-true, leb-false}
-use Rattle.lists.specs.Lists.{every, keep, count, allZero}
+use Rattle.lists.specs.Lists.{every, keep, count, allZero, uses}
 use Rattle.lists.specs.Rows.{joined}
 use Rattle.model.specs.Measures.{Measures}
 use Rattle.model.specs.State.{Block, Position, nullPosition, blankPosition, held, removed, Segment, Shelf}
 use Rattle.model.specs.Records.{freeSegment, cellsOf, namedCells, isHeld, cellOf, countOf, cellAt}
 use Rattle.model.specs.Runs.{Run, findRun}
 use Rattle.model.specs.Sweep.{clearCells, goes, stays, struck, moved, freeRecord, strikeOnly, compact, removeFrom, sweepRecord, sweepFrom, sweep}
-use Rattle.laws.proofs.Uses.{bit, named-set, clear-in, clear-out, staying, going, uses-split, struck-cells, moved-cells, staying-count}
+use Rattle.laws.proofs.Uses.{named-set, clear-in, clear-out, staying, going, uses-split, struck-cells, moved-cells, staying-count}
+use Rattle.laws.specs.Shelves.{bit, Exact}
 use Rattle.laws.proofs.Runs.{RunOk, FoundOk, Free, find-ok}
 use Rattle.lists.proofs.Sets.{map-at, within-run, sets-after, sets-before, sets-in}
 use Rattle.lists.proofs.Tests.{by-test}
-use Rattle.lists.proofs.Uses.{numbers, uses, uses-append, uses-at, uses-here, uses-high, uses-low, uses-within}
-
--- Each cell is named once if it is not zero, and not at all if it is zero or past the end.
-abbrev pub Exact : Shelf → Type 0
-Exact shelf = (c : ℕ) → uses c (namedCells (shelf .records)) ≡ bit (getD (shelf .cells) c [])
+use Rattle.lists.proofs.Uses.{numbers, uses-append, uses-at, uses-here, uses-high, uses-low, uses-within}
 
 -- the block that a position holds
 abbrev pub blockIn : Shelf → ℕ → ℕ → Block

@@ -19,7 +19,8 @@ use Rattle.model.specs.Turn.{indirectAt, turnsTo, target, isFound, foundOr, tur
 use Rattle.model.specs.Trace.{endVia, endOf, blockAt, tracedBlock}
 use Rattle.model.specs.Sound.{isNull, leads, leadsTo, nextPointers, endsZero, hasLength, areTraceable}
 use Rattle.model.specs.Calls.{newestPointers, withNewestPointers}
-use Rattle.laws.proofs.Sweep.{Exact, blockIn, named-one}
+use Rattle.laws.proofs.Sweep.{blockIn, named-one}
+use Rattle.laws.specs.Shelves.{Exact}
 use Rattle.laws.proofs.Clean.{Whole}
 use Rattle.laws.proofs.Counts.{at}
 use Rattle.laws.proofs.Bare.{blank-eq, isIndirect, isBarePointer}

@@ -9,19 +9,16 @@ use lib.ListN.{length, getD, set, replicate, length-set}
 use lib.Seq.{sets, getD-set-same, getD-set-other}
 use lib.Dec.{eqb}
 use borrow.Author.Tests.{eqb-true, eqb-false, eq-eqb, ne-eqb}
-use Rattle.lists.specs.Lists.{counted, every, keep, count, allZero}
+use Rattle.lists.specs.Lists.{counted, every, keep, count, allZero, uses}
 use Rattle.lists.specs.Rows.{joined}
 use Rattle.model.specs.Measures.{Measures}
 use Rattle.model.specs.State.{Block, nullPosition, blankPosition, held, removed, Segment}
 use Rattle.model.specs.Image.{zeroBlock}
+use Rattle.laws.specs.Shelves.{bit}
 use Rattle.model.specs.Records.{cellsOf, namedCells, isHeld}
 use Rattle.model.specs.Sweep.{clearCells, goes, stays, struck, moved}
-use Rattle.lists.proofs.Uses.{numbers, uses, uses-append, uses-here, uses-other}
+use Rattle.lists.proofs.Uses.{numbers, uses-append, uses-here, uses-other}
 use Rattle.lists.proofs.Same.{zeros-zero}
-
--- 0 for a block of zeros, or past the end, and 1 for any other
-unfoldable pub bit : Block → ℕ
-bit b = cond (allZero b) 0 1
 
 -- a record in another's place: what it names comes, what the other named goes
 pub named-set : (c : ℕ) (segs : List Segment) (k : ℕ) (seg : Segment) → k < length segs

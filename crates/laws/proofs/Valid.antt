@@ -8,14 +8,15 @@ use native.Mathlib.Omega.{arith}
 use lib.ListN.{length, getD, List·getD-eq-default}
 use lib.Dec.{eqb, ltb}
 use borrow.Author.Tests.{eqb-true, lt-ltb, ltb-true, ltb-false}
-use Rattle.lists.specs.Lists.{every, isIn, distinct, allZero}
+use Rattle.lists.specs.Lists.{every, isIn, distinct, allZero, uses}
 use Rattle.model.specs.State.{Block, Shelf}
 use Rattle.model.specs.Records.{namedCells}
 use Rattle.model.specs.Sound.{hasCells, areFilled}
-use Rattle.laws.proofs.Uses.{bit, nothing-bit}
-use Rattle.laws.proofs.Sweep.{Exact, bit-most}
+use Rattle.laws.proofs.Uses.{nothing-bit}
+use Rattle.laws.specs.Shelves.{bit, Exact}
+use Rattle.laws.proofs.Sweep.{bit-most}
 use Rattle.lists.proofs.Tests.{all-true, clause}
-use Rattle.lists.proofs.Uses.{all-below, below-all, beq-by, distinct-most, exact-at, in-uses, most-distinct, not-in, uses, uses-in, uses-not-in}
+use Rattle.lists.proofs.Uses.{all-below, below-all, beq-by, distinct-most, exact-at, in-uses, most-distinct, not-in, uses-in, uses-not-in}
 
 -- ---- membership as a number
 

@@ -8,15 +8,10 @@ use native.Mathlib.Omega.{arith}
 use lib.ListN.{length, getD}
 use lib.Dec.{eqb, ltb}
 use borrow.Author.Tests.{eqb-true, eq-eqb, ne-eqb, lt-ltb, ltb-true}
-use Rattle.lists.specs.Lists.{counted, every, count, total, isIn, distinct}
+use Rattle.lists.specs.Lists.{counted, every, count, total, isIn, uses, distinct}
 use Rattle.lists.proofs.Tests.{every-head, every-tail}
 use Rattle.lists.proofs.Counts.{total-sum, total-zero, hit, one-hit}
 use Rattle.lists.specs.Each.{Each}
-
--- how often `c` stands in the list
-unfoldable pub uses : ℕ → List ℕ → ℕ
-uses c [] = 0
-uses c (x ∷ xs) = cond (eqb c x) 1 0 + uses c xs
 
 pub uses-append : (c : ℕ) (xs ys : List ℕ) → uses c (xs ++ ys) ≡ uses c xs + uses c ys
 unfolding uses

@@ -17,7 +17,7 @@ use Rattle.model.specs.Table.{recordsPart, stateToWords, stateToBytes, shelfIn}
 use Rattle.laws.proofs.Fits.{StateFits, state-fits}
 use Rattle.laws.proofs.RoundTrip.{records-part}
 use Rattle.laws.proofs.Serves.{sound-valid}
-use Rattle.laws.proofs.Sweep.{Exact}
+use Rattle.laws.specs.Shelves.{Exact}
 use Rattle.laws.specs.Ranges.{Ranges}
 use Rattle.laws.proofs.Ranges.{ranges}
 use Rattle.shelf.specs.Stored.{Told, Stored}

@@ -15,7 +15,7 @@ use Rattle.model.specs.State.{Block, Position, Segment, Shelf, done, held, null
 use Rattle.laws.proofs.Bare.{by-bare-position}
 use Rattle.laws.proofs.Place.{share-exact, write-exact}
 use Rattle.laws.proofs.Segments.{IfDone, run-found, segment-cases}
-use Rattle.laws.proofs.Sweep.{Exact}
+use Rattle.laws.specs.Shelves.{Exact}
 use Rattle.shelf.specs.Stored.{Countable}
 
 pub placed-exact : (s : Shelf) → Exact s → (seg : List Block) (p : Placed) → placeSegment withBlanks s seg ≡ done p → Exact (p .shelf)

@@ -22,7 +22,7 @@ use Rattle.model.specs.State.{Block, Position, Segment, Shelf, held, nullPositi
 use Rattle.model.specs.Sweep.{clearCells, freeRecord, oneLess}
 use Rattle.laws.proofs.Bare.{blank-bare, by-bare-position, null-bare}
 use Rattle.laws.proofs.Runs.{Free, RunOk}
-use Rattle.laws.proofs.Sweep.{Exact}
+use Rattle.laws.specs.Shelves.{Exact}
 use Rattle.shelf.proofs.Inside.{unnamed-zero}
 use Rattle.place_undo.specs.Undo.{undoIn, undoRecord}
 use Rattle.place_undo.proofs.Undoing.{less-cells}

@@ -8,11 +8,10 @@ use lib.ListN.{List·getD-eq-default, drop, getD, length, length-map, length-rep
 use lib.Seq.{drop-drop, map-set-same, set-out}
 use lib.Dec.{eqb, leb, ltb}
 use borrow.Author.Tests.{le-ltb, leb-false, leb-true, lt-ltb, ne-eqb}
-use Rattle.lists.specs.Lists.{allZero, every}
+use Rattle.lists.specs.Lists.{allZero, every, uses}
 use Rattle.lists.specs.Rows.{joined}
 use Rattle.lists.proofs.Slices.{part-part}
 use Rattle.lists.proofs.Tests.{by-test}
-use Rattle.lists.proofs.Uses.{uses}
 use Rattle.model.specs.Image.{zeroBlock}
 use Rattle.model.specs.Measures.{Measures, recordWords}
 use Rattle.model.specs.Records.{cellsOf, countOf, freeSegment, namedCells}
@@ -20,7 +19,8 @@ use Rattle.model.specs.State.{Block, Position, Segment, Shelf, held, nullPositi
 use Rattle.model.specs.Sweep.{clearCells, freeRecord, oneLess}
 use Rattle.model.specs.Table.{cellsIn, recordToWords, recordsIn, shelfIn}
 use Rattle.laws.proofs.RoundTrip.{free-row}
-use Rattle.laws.proofs.Sweep.{Exact, free-exact}
+use Rattle.laws.proofs.Sweep.{free-exact}
+use Rattle.laws.specs.Shelves.{Exact}
 use Rattle.shelf.specs.Stored.{CellsTold, RecordsTold, Stored, Told}
 use Rattle.shelf.proofs.Inside.{cell-put, cells-told, stored-cells}
 use Rattle.shelf.proofs.Read.{count-at, part-length, part-put, records-of, row-part, shelf-read, stored-again, stored-records}

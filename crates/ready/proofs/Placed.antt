@@ -17,7 +17,7 @@ use Rattle.model.specs.Records.{isFree, equals}
 use Rattle.model.specs.Runs.{Run, findRun}
 use Rattle.model.specs.State.{Block, Shelf, Outcome, refused, done}
 use Rattle.model.specs.Table.{shelfIn}
-use Rattle.laws.proofs.Clean.{ShelfFits}
+use Rattle.laws.specs.Shelves.{ShelfFits}
 use Rattle.laws.proofs.Image.{segments-ok}
 use Rattle.laws.proofs.Place.{PlacedOk}
 use Rattle.laws.proofs.Segments.{PlaceOk, place-ok}

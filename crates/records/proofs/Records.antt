@@ -2,19 +2,18 @@
 use mathlib.Core.Path.{_≡_, refl, sym, ap, ap₂, _∙_, subst}
 use mathlib.Core.Bool.{Bool, true, false, cond, false≢true}
 use mathlib.Core.List.{List, [], _∷_, map}
-use mathlib.Core.Option.{some}
 use Prim.Native.Nat.{ℕ, zero, suc, _+_, _-_, _*_, _/_, _%_, _^_, _≤_, _<_}
-use native.Mathlib.Nat.{add-zero, zero-add, pow-zero, pow-suc}
+use native.Mathlib.Nat.{add-zero, pow-zero, pow-suc}
 use native.Mathlib.Numerals.{add-one}
 use native.Mathlib.Omega.{arith}
-use lib.Count.{ones, trailingZeros}
+use lib.Count.{ones}
 use lib.ListN.{length, getD, set, take, drop, replicate, length-drop, length-set, length-map, length-replicate, List·getD-map}
 use lib.Seq.{map-set-same}
 use lib.Pow.{pow-mono}
-use Rattle.lists.specs.Lists.{count, firstFrom}
+use Rattle.lists.specs.Lists.{count}
 use Rattle.lists.specs.Masks.{maskOf}
 use Rattle.lists.specs.Walk.{walk, nextAdd}
-use Rattle.lists.proofs.Masks.{First, here, later, trailing-first, first-mask, first-le, first-bit, first-lt, mask-odd, mask-half, mask-bit, mask-lt, mask-off, mask-on, mask-same, ones-mask, bit-le, bit-true, bit-false}
+use Rattle.lists.proofs.Masks.{First, here, later, first-le, first-bit, first-lt, mask-odd, mask-half, mask-bit, mask-lt, mask-off, mask-on, mask-same, ones-mask, bit-le, bit-true, bit-false}
 use Rattle.lists.specs.Rows.{fill}
 use Rattle.lists.proofs.Rows.{getD-fill, set-fill}
 use Rattle.lists.proofs.Filled.{fill-front}
@@ -93,20 +92,6 @@ module _ (r : Record) (f : Formed r) where
 
   pub size-is : ones (r .held) ≡ count isHeld (positions r)
   size-is = ap ones held-mask ∙ ones-mask isHeld (positions r)
-
-  -- the first held position
-  pub first-held : 0 < count isHeld (positions r) → firstFrom isHeld 0 (positions r) ≡ some (trailingZeros 32 (r .held))
-  first-held n =
-      let z : 0 < r .held = positive (r .held) (omega (arith, size-is)) in
-      let f₀ : First (r .held) (trailingZeros 32 (r .held)) = trailing-first 32 (r .held) z (omega (arith, held-small)) in
-      first-mask isHeld (positions r) 0 (subst (λ (m : ℕ). First m (trailingZeros 32 (r .held))) held-mask f₀) ∙ ap some (zero-add (trailingZeros 32 (r .held)))
-    where
-      ones-zero : ones 0 ≡ 0
-      ones-zero = unfold ones in refl
-
-      positive : (m : ℕ) → 0 < ones m → 0 < m
-      positive zero h = absurd (omega (arith, ones-zero))
-      positive (suc m) h = omega arith
 
 -- ---- going
 

@@ -2,10 +2,9 @@
 ghost use mathlib.Core.Path.{_≡_};
 ghost use mathlib.Core.Bool.{true, cond};
 ghost use mathlib.Core.List.{List, map, _++_};
-ghost use mathlib.Core.Option.{some};
 ghost use Prim.Native.Nat.{ℕ, _+_, _*_, _%_, _≤_, _<_};
 ghost use lib.ListN.{length, getD, set, take, drop};
-ghost use Rattle.lists.specs.Lists.{count, firstFrom};
+ghost use Rattle.lists.specs.Lists.{count};
 ghost use Rattle.lists.specs.Masks.{maskOf};
 ghost use Rattle.lists.specs.Rows.{fill};
 ghost use Rattle.lists.specs.Tells.{Tells};
@@ -51,15 +50,6 @@ impl Record {
         ensures { λ r. ⌜ r ≡ count isHeld (positions self) ⌝ }
     {
         u32::count_ones(self.held)
-    }
-
-    // The first held position.
-    pub fn first(self) -> u32
-        requires { ⌜ Formed self ⌝ }
-        requires { ⌜ 0 < count isHeld (positions self) ⌝ }
-        ensures { λ r. ⌜ firstFrom isHeld 0 (positions self) ≡ some r ⌝ }
-    {
-        u32::trailing_zeros(self.held)
     }
 
     // The mask of the held positions whose count is 0, from the last position down.

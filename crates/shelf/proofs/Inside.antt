@@ -8,12 +8,11 @@ use native.Mathlib.Nat.{div-mul-le-self, le-div-iff-mul-le, suc-mul, zero-mul}
 use native.Mathlib.Omega.{arith}
 use lib.ListN.{length, getD, take, drop, set, length-append, length-drop}
 use lib.Seq.{length-take-le}
-use Rattle.lists.specs.Lists.{allZero}
+use Rattle.lists.specs.Lists.{allZero, uses}
 use Rattle.lists.specs.Rows.{chunks}
 use Rattle.lists.proofs.Cuts.{chunk-at, each-part, joined-chunks, length-chunks}
 use Rattle.lists.proofs.Places.{row-room, row-below, row-in, rows-few}
 use Rattle.lists.proofs.Puts.{parts-put}
-use Rattle.lists.proofs.Uses.{uses}
 use Rattle.model.specs.Image.{zeroBlock}
 use Rattle.model.specs.Measures.{Measures, recordWords}
 use Rattle.model.specs.Records.{isHeld, cellOf, cellAt, namedCells}
@@ -22,8 +21,8 @@ use Rattle.model.specs.Table.{cellsIn, recordsIn, shelfIn}
 use Rattle.laws.proofs.Named.{inside-any}
 use Rattle.laws.proofs.Bare.{zero-eq}
 use Rattle.laws.proofs.Place.{held-named}
-use Rattle.laws.proofs.Sweep.{Exact, named-one}
-use Rattle.laws.proofs.Uses.{bit}
+use Rattle.laws.proofs.Sweep.{named-one}
+use Rattle.laws.specs.Shelves.{Exact, bit}
 use Rattle.shelf.specs.Stored.{CellsTold, Stored, positionIn}
 use Rattle.shelf.proofs.Read.{cells-length, records-count, records-length}
 

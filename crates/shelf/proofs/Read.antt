@@ -16,7 +16,7 @@ use Rattle.model.specs.Measures.{Measures, recordWords}
 use Rattle.model.specs.State.{Segment, Block, Shelf}
 use Rattle.model.specs.Table.{recordToWords, segmentIn, recordsIn, cellsIn, shelfIn}
 use Rattle.laws.proofs.RoundTrip.{length-record, segment-back}
-use Rattle.laws.proofs.Sweep.{Exact}
+use Rattle.laws.specs.Shelves.{Exact}
 use Rattle.laws.specs.Ranges.{Measured}
 use Rattle.shelf.specs.Stored.{RecordsTold, CellsTold, Told, Stored}
 

@@ -10,7 +10,7 @@ use Rattle.model.specs.Measures.{Measures, recordWords}
 use Rattle.model.specs.Records.{isHeld, countOf}
 use Rattle.model.specs.State.{Block, Position, nullPosition, Segment, Shelf}
 use Rattle.model.specs.Table.{recordToWords, shelfIn}
-use Rattle.laws.proofs.Sweep.{Exact}
+use Rattle.laws.specs.Shelves.{Exact}
 use Rattle.laws.specs.Ranges.{Measured}
 
 -- the words are those of the records, which have `n` positions each

@@ -11,7 +11,7 @@ use Rattle.model.specs.State.{Block, Pointer, Shelf, Outcome, refused, done}
 use Rattle.model.specs.Sweep.{release, sweep}
 use Rattle.model.specs.Table.{shelfIn, pointerWord, wordToPointer}
 use Rattle.model.specs.Turn.{turn, turning}
-use Rattle.laws.proofs.Clean.{ShelfFits}
+use Rattle.laws.specs.Shelves.{ShelfFits}
 use Rattle.place.specs.All.{AllReady}
 use Rattle.shelf.specs.Stored.{Told, Stored}
 use Rattle.turn.specs.Turn.{Followable}

@@ -3,14 +3,14 @@ use mathlib.Core.Path.{_≡_, refl, sym, ap, _∙_, subst}
 use mathlib.Core.List.{List}
 use Prim.Native.Nat.{ℕ}
 use lib.ListN.{length}
-use Rattle.lists.proofs.Uses.{uses}
+use Rattle.lists.specs.Lists.{uses}
 use Rattle.model.specs.Measures.{Measures}
 use Rattle.model.specs.State.{Pointer, Position, Shelf}
 use Rattle.model.specs.Place.{oneMore}
 use Rattle.model.specs.Sweep.{oneLess, changeAll, release, claim}
 use Rattle.model.specs.Table.{recordsIn, shelfIn}
 use Rattle.laws.proofs.Counts.{Recount, falls, grows, change-all-named}
-use Rattle.laws.proofs.Sweep.{Exact}
+use Rattle.laws.specs.Shelves.{Exact}
 use Rattle.shelf.specs.Stored.{Stored, RecordsTold, Told}
 use Rattle.shelf.proofs.Read.{shelf-read, stored-again}
 

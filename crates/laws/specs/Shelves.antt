@@ -1,0 +1,29 @@
+-- What contracts ask of a shelf.
+use mathlib.Core.Path.{_≡_}
+use mathlib.Core.Bool.{true, cond}
+use mathlib.Core.List.{List, []}
+use Prim.Native.Nat.{ℕ}
+use lib.ListN.{length, getD}
+use Rattle.lists.specs.Each.{Each}
+use Rattle.lists.specs.Lists.{uses, allZero}
+use Rattle.model.specs.Measures.{Measures}
+use Rattle.model.specs.State.{Block, Segment, Shelf}
+use Rattle.model.specs.Records.{namedCells}
+use Rattle.model.specs.Sound.{isUsed}
+
+-- 0 for a block of zeros, or past the end, and 1 for any other
+unfoldable pub bit : Block → ℕ
+bit b = cond (allZero b) 0 1
+
+-- Each cell is named once if it is not zero, and not at all if it is zero or past the end.
+abbrev pub Exact : Shelf → Type 0
+Exact shelf = (c : ℕ) → uses c (namedCells (shelf .records)) ≡ bit (getD (shelf .cells) c [])
+
+-- a record as long as a segment, and free or holding something
+pub record SegmentFits (m : Measures) (seg : Segment) : Type 0 where
+  pub size : length seg ≡ m .segmentBlocks
+  pub used : isUsed seg ≡ true
+
+pub record ShelfFits (m : Measures) (a : Shelf) : Type 0 where
+  pub records : Each (SegmentFits m) (a .records)
+  pub cells : Each (λ (b : Block). length b ≡ m .blockBytes) (a .cells)
