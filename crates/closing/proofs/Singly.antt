@@ -15,7 +15,7 @@ use Rattle.model.specs.Rights.{backupAs}
 use Rattle.laws.proofs.RoundTrip.{store-found}
 use Rattle.laws.proofs.Calls.{backup-as, backup-as-store}
 use Rattle.closing.specs.Closing.{TillImage, imagesIn, closingFits, Closed, backupOne, backupEach, backupAll, allRefused, allAnswer, backupAllAnswer, backupAllIn, backupAllAs}
-use Rattle.closing.specs.Singly.{Made, madeSingly, answerTo, ClosingIsSingly}
+use Rattle.closing.specs.Singly.{Made, madeEach, madeSingly, answerTo, ClosingIsSingly}
 
 answer-is : (pool table : List ℕ) (s : Shape) (o : Outcome After)
     → (backupAnswer pool table s o .refusal ≡ outcomeRefusal o) × (backupAnswer pool table s o .version ≡ outcomeNumber o)
@@ -29,7 +29,7 @@ made s c = record { refusals = c .refusals; versions = c .versions; pool = state
 
 pub each-made : (user : ℕ) (xs : List TillImage) (pool table : List ℕ) (x : Store) → storeOf pool table ≡ some x
     → madeSingly pool table user xs ≡ made (x .shape) (backupEach (x .shape) (x .state) user xs)
-unfolding madeSingly backupEach made
+unfolding madeEach backupEach made
 each-made user [] pool table x e =
     let f = store-found pool table x e in
     ap₂ (λ (p t : List ℕ). record { refusals = []; versions = []; pool = p; table = t }) (sym (f .bytes)) (sym (f .words))

@@ -16,12 +16,20 @@ pub record Made : Type 0 where
   pub pool : List ℕ
   pub table : List ℕ
 
-unfoldable pub madeSingly : List ℕ → List ℕ → ℕ → List TillImage → Made
-madeSingly pool table user [] = record { refusals = []; versions = []; pool = pool; table = table }
-madeSingly pool table user (x ∷ xs) =
-    let a : BackupAnswer = backupAs withBlanks pool table user (x .till) none (x .image) in
-    let later : Made = madeSingly (a .pool) (a .table) user xs in
+-- Each is made by `one`, on the buffers that the last one left.
+unfoldable pub madeEach : (List ℕ → List ℕ → TillImage → BackupAnswer) → List ℕ → List ℕ → List TillImage → Made
+madeEach one pool table [] = record { refusals = []; versions = []; pool = pool; table = table }
+madeEach one pool table (x ∷ xs) =
+    let a : BackupAnswer = one pool table x in
+    let later : Made = madeEach one (a .pool) (a .table) xs in
     record { refusals = a .refusal ∷ later .refusals; versions = a .version ∷ later .versions; pool = later .pool; table = later .table }
+
+-- a user's backup of one of the images
+abbrev pub imageBackup : ℕ → List ℕ → List ℕ → TillImage → BackupAnswer
+imageBackup user pool table x = backupAs withBlanks pool table user (x .till) none (x .image)
+
+abbrev pub madeSingly : List ℕ → List ℕ → ℕ → List TillImage → Made
+madeSingly pool table user xs = madeEach (imageBackup user) pool table xs
 
 -- the answer of a call that is not refused whole
 unfoldable pub answerTo : Made → BackupAllAnswer

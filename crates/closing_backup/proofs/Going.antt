@@ -22,7 +22,7 @@ use Rattle.laws.specs.Stores.{Sound, storeRead}
 use Rattle.laws.proofs.Stores.{sound-if}
 use Rattle.laws.proofs.Calls.{backup-as-store}
 use Rattle.closing.specs.Closing.{TillImage, imagesIn, BackupAllAnswer}
-use Rattle.closing.specs.Singly.{Made, madeSingly, answerTo}
+use Rattle.closing.specs.Singly.{Made, madeEach, madeSingly, answerTo}
 use Rattle.closing_backup.specs.Answers.{allAnswered}
 use Rattle.closing_backup.proofs.Fits.{Fit}
 
@@ -73,7 +73,7 @@ module _ {pool₀ table₀ : List ℕ} {user : ℕ} {tills lengths images pool t
   versions-long = sym (ap length (g .filed)) ∙ length-fill 16 _
 
   pub going-end : length tills ≤ i → allAnswered refusals versions pool table ≡ answerTo (madeSingly pool₀ table₀ user (imagesIn tills lengths images))
-  unfolding answerSoFar madeSingly imagesIn
+  unfolding answerSoFar madeEach imagesIn
   going-end h = sym last ∙ g .answer
     where
       last : answerSoFar refusals versions i (madeSingly pool table user (imagesIn (drop i tills) (drop i lengths) (drop from images))) ≡ allAnswered refusals versions pool table
@@ -105,7 +105,7 @@ module _ {pool₀ table₀ : List ℕ} {user : ℕ} {tills lengths images pool t
     Next a = Going pool₀ table₀ user tills lengths images (a .pool) (a .table) (set refusals i (a .refusal)) (set versions i (a .version)) (from + bytes) (i + 1)
 
     one-more : Next (backupAs withBlanks pool table user till none (take bytes (drop from images)))
-    unfolding answerSoFar madeSingly Next
+    unfolding answerSoFar madeEach Next
     one-more = record {
       sound = sound-after pool table (g .sound) user till (take bytes (drop from images));
       fit = g .fit;

@@ -11,6 +11,7 @@ pub mod Uses
 pub mod First
 pub mod Rows
 pub mod Cuts
+pub mod Lengths
 pub mod Slices
 pub mod Copies
 pub mod Parts

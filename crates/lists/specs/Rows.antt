@@ -14,6 +14,11 @@ module _ {ℓ} {A : Type ℓ} where
   parts k zero xs = []
   parts k (suc n) xs = take k xs ∷ parts k n (drop k xs)
 
+  -- the parts of those lengths, one after the other
+  unfoldable pub partsBy : List ℕ → List A → List (List A)
+  partsBy [] xs = []
+  partsBy (n ∷ ns) xs = take n xs ∷ partsBy ns (drop n xs)
+
   -- as many parts of `k` as there are; what is left over is dropped
   unfoldable pub chunks : ℕ → List A → List (List A)
   chunks k xs = parts k (length xs / k) xs
