@@ -11,7 +11,7 @@ use Rattle.model.specs.State.{Rights}
 use Rattle.model.specs.Image.{withBlanks}
 use Rattle.model.specs.Sound.{storeOf}
 use Rattle.model.specs.Calls.{BackupAnswer, backupBy, backupIn, ListingAnswer, RestoreAnswer, listingRefusal, listingIn, listingOf, restoreRefusal, restoreIn, restoreOf, VersionOnAnswer, versionOnIn, versionOnOf, RetireAnswer, retireIn, retireOf, TallyAnswer, tallyIn, tallyOf}
-use Rattle.model.specs.Rights.{refusalFor, ownerRefusal, notOwner, backupAs, restoreAs, retireAs, listingAs, versionOnAs, tallyAs, RightsAnswer, setRightsIn, setRightsOf}
+use Rattle.model.specs.Rights.{refusalFor, ownerRefusal, backupAs, restoreAs, retireAs, listingAs, versionOnAs, tallyAs, RightsAnswer, setRightsIn, setRightsOf}
 use Rattle.laws.specs.Stores.{Sound}
 use Rattle.stream.specs.Stream.{streamRefusal}
 use Rattle.stream.specs.Version.{writeRestored, writeStreamOf, writeStreamAs}
@@ -19,11 +19,6 @@ use Rattle.bill.specs.Bill.{BillAnswer, billRefused, billIn, billOf, billAs}
 use Rattle.closing.specs.Closing.{allRefused, backupAllIn, backupAllAs}
 use Rattle.sent.specs.Sent.{OfferAnswer, offerIn, offerOf, offerAs, backupSentIn, backupSentBy, backupSentOf, backupSentAs}
 use Rattle.laws.proofs.Stores.{sound-if, none-if}
-
--- of a sound store, what is the owner's only
-pub for-owner : (pool table : List ℕ) → Sound pool table → (n user : ℕ) → n ≡ notOwner user → n ≡ ownerRefusal (storeOf pool table) user
-unfolding ownerRefusal
-for-owner pool table h n user e = rw (h .is) e
 
 module _ (pool table : List ℕ) (r : Bool) (e : r ≡ isSome (storeOf pool table)) where
   pub is-sound : not r ≡ false → Sound pool table

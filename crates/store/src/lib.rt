@@ -54,14 +54,7 @@ pub fn backup(pool: &mut [u8], table: &mut [u32], user: u32, till: u32, image: &
             version: 0,
         };
     }
-    let refusal = rights::refusal(pool, table, user, till, Right::BackUp);
-    if refusal != 0 {
-        return BackedUp {
-            refusal: refusal,
-            version: 0,
-        };
-    }
-    backup::back_up(pool, table, till, image)
+    user_calls::backup(pool, table, user, till, image)
 }
 
 // With a day for the new version.
@@ -81,14 +74,7 @@ pub fn backup_dated(
             version: 0,
         };
     }
-    let refusal = rights::refusal(pool, table, user, till, Right::BackUp);
-    if refusal != 0 {
-        return BackedUp {
-            refusal: refusal,
-            version: 0,
-        };
-    }
-    backup::back_up_dated(pool, table, till, day, image)
+    user_calls::backup_dated(pool, table, user, till, day, image)
 }
 
 pub fn restore(
@@ -108,15 +94,7 @@ pub fn restore(
             hops: 0,
         };
     }
-    let refusal = rights::refusal(pool, table, user, till, Right::Restore);
-    if refusal != 0 {
-        return Restored {
-            refusal: refusal,
-            length: 0,
-            hops: 0,
-        };
-    }
-    restore::restore_version(pool, table, till, version, output)
+    user_calls::restore(pool, table, user, till, version, output)
 }
 
 pub fn retire(pool: &mut [u8], table: &mut [u32], user: u32, till: u32, version: u32) -> Retired
@@ -128,14 +106,7 @@ pub fn retire(pool: &mut [u8], table: &mut [u32], user: u32, till: u32, version:
             length: 0,
         };
     }
-    let refusal = rights::refusal(pool, table, user, till, Right::Retire);
-    if refusal != 0 {
-        return Retired {
-            refusal: refusal,
-            length: 0,
-        };
-    }
-    retire::retire_version(pool, table, till, version)
+    user_calls::retire(pool, table, user, till, version)
 }
 
 pub fn listing(pool: &[u8], table: &[u32], user: u32, till: u32) -> Listing
@@ -149,16 +120,7 @@ pub fn listing(pool: &[u8], table: &[u32], user: u32, till: u32) -> Listing
             last: 0,
         };
     }
-    let refusal = rights::refusal(pool, table, user, till, Right::List);
-    if refusal != 0 {
-        return Listing {
-            refusal: refusal,
-            oldest: 0,
-            newest: 0,
-            last: 0,
-        };
-    }
-    tills::list_till(pool, table, till)
+    user_calls::listing(pool, table, user, till)
 }
 
 // The version of a day: the newest one held that is not after it.
@@ -171,14 +133,7 @@ pub fn version_on(pool: &[u8], table: &[u32], user: u32, till: u32, day: u32) ->
             version: 0,
         };
     }
-    let refusal = rights::refusal(pool, table, user, till, Right::List);
-    if refusal != 0 {
-        return VersionFound {
-            refusal: refusal,
-            version: 0,
-        };
-    }
-    tills::version_on(pool, table, till, day)
+    user_calls::version_on(pool, table, user, till, day)
 }
 
 // The owner's only.
@@ -193,16 +148,7 @@ pub fn tally(pool: &[u8], table: &[u32], user: u32) -> Tally
             counts: 0,
         };
     }
-    let refusal = rights::owner_refusal(user);
-    if refusal != 0 {
-        return Tally {
-            refusal: refusal,
-            cells: 0,
-            records: 0,
-            counts: 0,
-        };
-    }
-    tally::tally_store(pool, table)
+    user_calls::tally(pool, table, user)
 }
 
 // What each till has to pay for the occupied cells; the owner's only.
@@ -215,14 +161,7 @@ pub fn bill(pool: &[u8], table: &[u32], user: u32, price: u32) -> Bill
             sums: [0u32; 16],
         };
     }
-    let refused = rights::owner_refusal(user);
-    if refused != 0 {
-        return Bill {
-            refusal: refused,
-            sums: [0u32; 16],
-        };
-    }
-    bill_sums::bill_store(pool, table, price)
+    user_calls::bill(pool, table, user, price)
 }
 
 // A version as a stream.
@@ -242,14 +181,7 @@ pub fn write_stream(
             length: 0,
         };
     }
-    let refused = rights::refusal(pool, table, user, till, Right::Restore);
-    if refused != 0 {
-        return StreamWritten {
-            refusal: refused,
-            length: 0,
-        };
-    }
-    stream_version::write_version(pool, table, till, version, output)
+    user_calls::write_stream(pool, table, user, till, version, output)
 }
 
 // The first message of a till that sends only what the box lacks: the marks of what it has. The answer is the refusal, or 0.
@@ -266,11 +198,7 @@ pub fn offer(
     if !audit::sound(pool, table) {
         return 10;
     }
-    let refusal = rights::refusal(pool, table, user, till, Right::BackUp);
-    if refusal != 0 {
-        return refusal;
-    }
-    sent_offer::offer_segments(pool, table, till, fingerprints, marks)
+    user_calls::offer(pool, table, user, till, fingerprints, marks)
 }
 
 // The second: the length, all fingerprints, the marks of the segments that follow, and these.
@@ -292,14 +220,16 @@ pub fn backup_sent(
             version: 0,
         };
     }
-    let refusal = rights::refusal(pool, table, user, till, Right::BackUp);
-    if refusal != 0 {
-        return BackedUp {
-            refusal: refusal,
-            version: 0,
-        };
-    }
-    sent_backup::back_up_sent(pool, table, till, length, fingerprints, marks, segments)
+    user_calls::backup_sent(
+        pool,
+        table,
+        user,
+        till,
+        length,
+        fingerprints,
+        marks,
+        segments,
+    )
 }
 
 // All tills at closing: the images lie end to end. One check serves for all of them, and the user's right is asked for each.
