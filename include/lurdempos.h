@@ -9,6 +9,9 @@
  * is not null. The buffers of one call must not overlap. A call needs less than 512 KiB
  * of stack.
  *
+ * Up to eight stores can stand on one disk, as a chain (lurdempos_chain_backup
+ * and its like).
+ *
  * Every call on a store but lay out names its user, right after the table: 0,
  * the owner, who may do everything, or 1 to 7, who may do with a till what the
  * owner has given them (lurdempos_set_rights). A number says who calls; that it
@@ -18,16 +21,18 @@
  * answers 0 in every other field and alters no buffer; a refused turn record
  * comes back as it was.
  *
- *    1  a capacity outside its range (lurdempos_table_length has the ranges)
+ *    1  a capacity outside its range (lurdempos_table_length has the ranges); a
+ *       chain of no store or more than eight, or lists of unequal count
  *    2  lay out: pool or table of another length than needed
- *    3  till number not below the tills
+ *    3  till number not below the tills; store number not below the stores
  *    4  image empty, or longer than block_bytes * blocks per image; a message
  *       of a till that sends only what is lacking whose lists do not fit the
  *       length or each other, or that has a mark other than 0 and 1; a closing
  *       of more than 16 images, or whose lists do not fit each other
  *    5  output shorter than the version; than the stream that a version is
  *       written as, or the image that a stream is read as
- *   10  pool and table are not a sound store
+ *   10  pool and table are not a sound store; a chain with one that is not, or
+ *       whose lengths do not add up
  *   11  the till holds its full number of versions
  *   12  its last given number is 65,535
  *   14  a segment to be placed finds no free record
@@ -37,6 +42,8 @@
  *   19  a segment that was sent and has another fingerprint, or a last one, sent
  *       or had, with a byte other than zero after the image's length
  *   20  a segment that was not sent and that the box does not have
+ *   21  a backup after which a chain would occupy more cells than its limit:
+ *       after all others
  *   22  an unknown user: above 7; in setting rights also the user whose rights
  *       they are, if it is 0 or above 7
  *   23  a user without the right: after 10, 3 and 22, before all others
@@ -82,6 +89,7 @@ extern "C" {
 #define LURDEMPOS_NO_LONGER_HELD 18
 #define LURDEMPOS_OTHER_SEGMENT 19
 #define LURDEMPOS_NO_SEGMENT 20
+#define LURDEMPOS_OVER_LIMIT 21
 #define LURDEMPOS_UNKNOWN_USER 22
 #define LURDEMPOS_NO_RIGHT 23
 #define LURDEMPOS_STREAM_SIZE 24
@@ -104,6 +112,9 @@ extern "C" {
 
 /* The most tills that a store can have. */
 #define LURDEMPOS_MOST_TILLS 16
+
+/* The most stores that a chain can have. */
+#define LURDEMPOS_MOST_STORES 8
 
 /* The words that a table of these capacities has. */
 struct lurdempos_table_length_answer {
@@ -388,6 +399,134 @@ struct lurdempos_set_rights_answer lurdempos_set_rights(
     const uint8_t *pool, size_t pool_bytes, uint32_t *table,
     size_t table_words, uint32_t user, uint32_t subject, uint32_t till,
     bool list, bool back_up, bool restore, bool retire);
+
+/* A chain: up to LURDEMPOS_MOST_STORES stores on one disk. Their pools stand end
+ * to end in one buffer, their tables in another, and two lists tell the bytes of
+ * each pool and the words of each table, in the stores' order. Stores are laid
+ * out one by one, and each has its own capacities. The calls that follow name
+ * one store, counted from 0: they answer and leave it as the call without
+ * `chain` does on that store alone, and the others keep every byte and word.
+ * Before they do, they check all stores.
+ *
+ * Those that back up bring a limit on the cells that are occupied over all
+ * stores: they are refused with 21, after all their other refusals, if the sum
+ * at their end would be above it. The cells that are left after removal count.
+ * No limit refuses a retire, also where the sum is above it already.
+ *
+ * Each begins with 1 for no store, more than eight, or lists of unequal count;
+ * then 10 for lengths that do not add up to their buffer, or any unsound store;
+ * then 3 for a store number that is not below the stores. */
+
+/* Refusals: 1, 10, 3, then as lurdempos_backup, then 21. */
+struct lurdempos_backup_answer lurdempos_chain_backup(
+    uint8_t *pools, size_t pools_bytes, uint32_t *tables, size_t tables_words,
+    const uint32_t *pool_lengths, size_t pool_lengths_count,
+    const uint32_t *table_lengths, size_t table_lengths_count, uint32_t store,
+    uint32_t limit, uint32_t user, uint32_t till, const uint8_t *image,
+    size_t image_bytes);
+
+/* Refusals: 1, 10, 3, then as lurdempos_backup_dated, then 21. */
+struct lurdempos_backup_answer lurdempos_chain_backup_dated(
+    uint8_t *pools, size_t pools_bytes, uint32_t *tables, size_t tables_words,
+    const uint32_t *pool_lengths, size_t pool_lengths_count,
+    const uint32_t *table_lengths, size_t table_lengths_count, uint32_t store,
+    uint32_t limit, uint32_t user, uint32_t till, uint32_t day,
+    const uint8_t *image, size_t image_bytes);
+
+/* What only another store has is not had.
+ * Refusals: 1, 10, 3, then as lurdempos_backup_sent, then 21. */
+struct lurdempos_backup_answer lurdempos_chain_backup_sent(
+    uint8_t *pools, size_t pools_bytes, uint32_t *tables, size_t tables_words,
+    const uint32_t *pool_lengths, size_t pool_lengths_count,
+    const uint32_t *table_lengths, size_t table_lengths_count, uint32_t store,
+    uint32_t limit, uint32_t user, uint32_t till, uint32_t length,
+    const uint8_t *fingerprints, size_t fingerprints_bytes,
+    const uint8_t *marks, size_t marks_bytes, const uint8_t *segments,
+    size_t segments_bytes);
+
+/* Each image is held against the limit by itself, with the sum as it then is.
+ * Refusals of the whole: 1, 10, 3, 4. Each image's own: as in
+ * lurdempos_backup_all, then 21. */
+struct lurdempos_backup_all_answer lurdempos_chain_backup_all(
+    uint8_t *pools, size_t pools_bytes, uint32_t *tables, size_t tables_words,
+    const uint32_t *pool_lengths, size_t pool_lengths_count,
+    const uint32_t *table_lengths, size_t table_lengths_count, uint32_t store,
+    uint32_t limit, uint32_t user, const uint32_t *tills, size_t tills_count,
+    const uint32_t *lengths, size_t lengths_count, const uint8_t *images,
+    size_t images_bytes);
+
+/* Refusals: 1, 10, 3, then as lurdempos_restore. */
+struct lurdempos_restore_answer lurdempos_chain_restore(
+    const uint8_t *pools, size_t pools_bytes, const uint32_t *tables,
+    size_t tables_words, const uint32_t *pool_lengths,
+    size_t pool_lengths_count, const uint32_t *table_lengths,
+    size_t table_lengths_count, uint32_t store, uint32_t user, uint32_t till,
+    uint32_t version, uint8_t *output, size_t output_bytes);
+
+/* Refusals: 1, 10, 3, then as lurdempos_retire. */
+struct lurdempos_retire_answer lurdempos_chain_retire(
+    uint8_t *pools, size_t pools_bytes, uint32_t *tables, size_t tables_words,
+    const uint32_t *pool_lengths, size_t pool_lengths_count,
+    const uint32_t *table_lengths, size_t table_lengths_count, uint32_t store,
+    uint32_t user, uint32_t till, uint32_t version);
+
+/* Refusals: 1, 10, 3, then as lurdempos_listing. */
+struct lurdempos_listing_answer lurdempos_chain_listing(
+    const uint8_t *pools, size_t pools_bytes, const uint32_t *tables,
+    size_t tables_words, const uint32_t *pool_lengths,
+    size_t pool_lengths_count, const uint32_t *table_lengths,
+    size_t table_lengths_count, uint32_t store, uint32_t user, uint32_t till);
+
+/* Refusals: 1, 10, 3, then as lurdempos_version_on. */
+struct lurdempos_version_on_answer lurdempos_chain_version_on(
+    const uint8_t *pools, size_t pools_bytes, const uint32_t *tables,
+    size_t tables_words, const uint32_t *pool_lengths,
+    size_t pool_lengths_count, const uint32_t *table_lengths,
+    size_t table_lengths_count, uint32_t store, uint32_t user, uint32_t till,
+    uint32_t day);
+
+/* The named store's.
+ * Refusals: 1, 10, 3, then as lurdempos_tally. */
+struct lurdempos_tally_answer lurdempos_chain_tally(
+    const uint8_t *pools, size_t pools_bytes, const uint32_t *tables,
+    size_t tables_words, const uint32_t *pool_lengths,
+    size_t pool_lengths_count, const uint32_t *table_lengths,
+    size_t table_lengths_count, uint32_t store, uint32_t user);
+
+/* The named store's.
+ * Refusals: 1, 10, 3, then as lurdempos_bill. */
+struct lurdempos_bill_answer lurdempos_chain_bill(
+    const uint8_t *pools, size_t pools_bytes, const uint32_t *tables,
+    size_t tables_words, const uint32_t *pool_lengths,
+    size_t pool_lengths_count, const uint32_t *table_lengths,
+    size_t table_lengths_count, uint32_t store, uint32_t user, uint32_t price);
+
+/* Refusals: 1, 10, 3, then as lurdempos_write_stream. */
+struct lurdempos_write_stream_answer lurdempos_chain_write_stream(
+    const uint8_t *pools, size_t pools_bytes, const uint32_t *tables,
+    size_t tables_words, const uint32_t *pool_lengths,
+    size_t pool_lengths_count, const uint32_t *table_lengths,
+    size_t table_lengths_count, uint32_t store, uint32_t user, uint32_t till,
+    uint32_t version, uint8_t *output, size_t output_bytes);
+
+/* What only another store has is not marked.
+ * Refusals: 1, 10, 3, then as lurdempos_offer. */
+struct lurdempos_offer_answer lurdempos_chain_offer(
+    const uint8_t *pools, size_t pools_bytes, const uint32_t *tables,
+    size_t tables_words, const uint32_t *pool_lengths,
+    size_t pool_lengths_count, const uint32_t *table_lengths,
+    size_t table_lengths_count, uint32_t store, uint32_t user, uint32_t till,
+    const uint8_t *fingerprints, size_t fingerprints_bytes, uint8_t *marks,
+    size_t marks_bytes);
+
+/* Refusals: 1, 10, 3, then as lurdempos_set_rights. */
+struct lurdempos_set_rights_answer lurdempos_chain_set_rights(
+    const uint8_t *pools, size_t pools_bytes, uint32_t *tables,
+    size_t tables_words, const uint32_t *pool_lengths,
+    size_t pool_lengths_count, const uint32_t *table_lengths,
+    size_t table_lengths_count, uint32_t store, uint32_t user,
+    uint32_t subject, uint32_t till, bool list, bool back_up, bool restore,
+    bool retire);
 
 /* The SHA-1 (RFC 3174) of a message, for a till's fingerprints. It needs no
  * store and refuses nothing. */

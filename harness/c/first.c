@@ -1,9 +1,9 @@
 /*
  * A first image kept and restored, moved as a stream, the next sent without
  * what the box has, a closing of both tills, versions by their day, a clerk
- * with rights on one till, the bill, and two turns on the line, from C (and,
- * since it compiles as both, from C++). Prints what the calls answer; ends with status 1
- * at the first answer that is not as expected.
+ * with rights on one till, the bill, a chain of two stores, and two turns on the
+ * line, from C (and, since it compiles as both, from C++). Prints what the calls
+ * answer; ends with status 1 at the first answer that is not as expected.
  */
 #include "lurdempos.h"
 
@@ -309,6 +309,69 @@ static int billed(size_t words)
         && bill.sums[0] == 0;
 }
 
+/* Two stores on one disk, end to end. */
+static uint8_t pools[2 * sizeof pool];
+static uint32_t tables[2 * TABLE_WORDS];
+static const uint32_t pool_lengths[2] = {sizeof pool, sizeof pool};
+static uint32_t table_lengths[2];
+
+static int laid_out_twice(uint32_t words)
+{
+    struct lurdempos_lay_out_answer answer;
+    int store;
+
+    for (store = 0; store < 2; store++) {
+        table_lengths[store] = words;
+        answer = lurdempos_lay_out(pools + store * sizeof pool, sizeof pool,
+                                   tables + store * words, words, TILLS,
+                                   VERSIONS, BLOCKS, RECORDS, CELLS,
+                                   BLOCK_BYTES, SEGMENT_BLOCKS, REBUILD_PERCENT);
+        if (!expect("lay out", answer.refusal, LURDEMPOS_ACCEPTED))
+            return 0;
+    }
+    return 1;
+}
+
+/* A backup of a segment of letters under a limit of 6. */
+static int filed(const char *call, uint32_t words, uint32_t store,
+                 const uint8_t *image, uint32_t expected)
+{
+    struct lurdempos_backup_answer answer = lurdempos_chain_backup(
+        pools, sizeof pools, tables, 2 * words, pool_lengths, 2, table_lengths,
+        2, store, 6, OWNER, 0, image, SEGMENT_BLOCKS * BLOCK_BYTES);
+
+    return expect(call, answer.refusal, expected)
+        && answer.version == (expected == LURDEMPOS_ACCEPTED ? 1 : 0);
+}
+
+/* The segment takes 4 cells of the second store; it does not fit under the limit
+ * into the first one too, which stays as it was. A store 2 is not there. */
+static int chained(uint32_t words)
+{
+    static uint8_t image[SEGMENT_BLOCKS * BLOCK_BYTES], output[sizeof image];
+    static uint8_t pools_before[sizeof pools];
+    static uint32_t tables_before[2 * TABLE_WORDS];
+    struct lurdempos_restore_answer restored;
+
+    memset(image, 'e', sizeof image);
+    if (!laid_out_twice(words)
+        || !filed("backup under a limit", words, 1, image, LURDEMPOS_ACCEPTED))
+        return 0;
+    memcpy(pools_before, pools, sizeof pools);
+    memcpy(tables_before, tables, sizeof tables);
+    if (!filed("backup over the limit", words, 0, image, LURDEMPOS_OVER_LIMIT)
+        || !filed("backup, no store 2", words, 2, image, LURDEMPOS_NO_SUCH_TILL)
+        || memcmp(pools_before, pools, sizeof pools) != 0
+        || memcmp(tables_before, tables, sizeof tables) != 0)
+        return 0;
+    restored = lurdempos_chain_restore(pools, sizeof pools, tables, 2 * words,
+                                       pool_lengths, 2, table_lengths, 2, 1,
+                                       OWNER, 0, 1, output, sizeof output);
+    return expect("restore from a chain", restored.refusal, LURDEMPOS_ACCEPTED)
+        && restored.length == sizeof image
+        && memcmp(image, output, sizeof image) == 0;
+}
+
 int main(void)
 {
     uint8_t image[500], output[512];
@@ -382,7 +445,7 @@ int main(void)
         || listing.oldest != 1 || listing.newest != 1 || listing.last != 2)
         return 1;
     if (!sent(words) || !closed(words) || !dated(words) || !entitled(words)
-        || !billed(words))
+        || !billed(words) || !chained(needed.words))
         return 1;
     pool[0] ^= 1;
     table[0] = 17;

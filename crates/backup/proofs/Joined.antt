@@ -12,18 +12,21 @@ use Rattle.model.specs.Place.{Placed, placeAll}
 use Rattle.model.specs.Image.{imageBlocks, imageSegments}
 use Rattle.model.specs.Table.{shapeOf, stateIn, tillToWords, stateToWords, pointerWord, wordToPointer}
 use Rattle.model.specs.Turn.{turn}
-use Rattle.model.specs.Calls.{BackupAnswer, tillOf, newestPointers, backupDatedOf}
+use Rattle.model.specs.Calls.{tillOf, newestPointers, backupDatedOf}
 use Rattle.laws.specs.Ranges.{Measured}
 use Rattle.laws.proofs.Image.{blocks-length}
+use Rattle.laws.proofs.Left.{newest-suffices}
+use Rattle.laws.specs.Shelves.{Suffices}
 use Rattle.laws.proofs.Measures.{sizes, parts-enough, parts-few, parts-least}
 use Rattle.laws.specs.Stores.{Sound, Header, tillAt, recordsFrom}
-use Rattle.laws.proofs.Stores.{till-is, header, long, fit, fits}
+use Rattle.laws.proofs.Stores.{till-is, header, long, fit, fits, found}
 use Rattle.laws.proofs.Tills.{there, in-words, till-words}
 use Rattle.tills.specs.declared.Head.{Head}
 use Rattle.tills.specs.Answers.{tillSize, HeadOf}
 use Rattle.accept.specs.Accept.{Accepted}
 use Rattle.place.specs.All.{segmentsIn}
-use Rattle.backup.specs.Backup.{measuresOn, blocksOn, placedOn, ShelfReady, sweptState, ShelvedOn, DidOn, FileReady, FiledOn}
+use Rattle.chain.specs.Limit.{within}
+use Rattle.backup.specs.Backup.{measuresOn, blocksOn, limitedOn, ShelfReady, sweptState, ShelvedOn, DidOn, FileReady, FiledOn}
 use Rattle.backup.specs.Call.{newestOf, Begun}
 use Rattle.backup.proofs.Answers.{refused-answer, filed-answer}
 use Rattle.backup.proofs.Tills.{till-room, till-left, prev-pointed}
@@ -89,6 +92,9 @@ module _ {mc : Measures} {pool table : List ℕ} {t : ℕ} {r : Head} {day : ℕ
     short = image-short;
     room = p .room;
     pointers = prev-pointed (p .sound) t (p .accepted .there) prev (p .newest) .0;
+    suffices =
+        subst (Suffices (stateIn (shapeOf table) pool table .shelf .records)) (sym (prev-pointed (p .sound) t (p .accepted .there) prev (p .newest) .1))
+        (newest-suffices (shapeOf table) (stateIn (shapeOf table) pool table) (found (p .sound) .sound) t);
   }
 
   -- what counting the image's blocks requires
@@ -104,16 +110,16 @@ module _ {mc : Measures} {pool table : List ℕ} {t : ℕ} {r : Head} {day : ℕ
   last-fits = omega (arith, p .head .last, p .accepted .free .number)
 
   -- after steps 1 to 3
-  module _ (n : ℕ) (pool′ table′ words′ prev′ : List ℕ)
-      (d : DidOn image (map wordToPointer prev) pool table (placedOn pool table image) n pool′ table′ words′ prev′) where
+  module _ (others most n : ℕ) (pool′ table′ words′ prev′ : List ℕ)
+      (d : DidOn image (map wordToPointer prev) pool table (limitedOn others most pool table image (map wordToPointer prev)) n pool′ table′ words′ prev′) where
     -- the newest version's pointers, in place of the words read
-    did : DidOn image (newestOf pool table t) pool table (placedOn pool table image) n pool′ table′ words′ prev′
+    did : DidOn image (newestOf pool table t) pool table (limitedOn others most pool table image (newestOf pool table t)) n pool′ table′ words′ prev′
     did =
-        subst (λ (ps : List Pointer). DidOn image ps pool table (placedOn pool table image) n pool′ table′ words′ prev′)
+        subst (λ (ps : List Pointer). DidOn image ps pool table (limitedOn others most pool table image ps) n pool′ table′ words′ prev′)
         (prev-pointed (p .sound) t (p .accepted .there) prev (p .newest) .1) d
 
-    pub refused-all : (n ≡ 0 → ⊥) → record { refusal = n; version = 0; pool = pool′; table = table′ } ≡ backupDatedOf pool table t day image
-    refused-all z = refused-answer pool table (p .sound) t day image (p .accepted) n pool′ table′ words′ prev′ did z
+    pub refused-all : (n ≡ 0 → ⊥) → record { refusal = n; version = 0; pool = pool′; table = table′ } ≡ within others most pool table (backupDatedOf pool table t day image)
+    refused-all z = refused-answer pool table (p .sound) t day image (p .accepted) others most n pool′ table′ words′ prev′ did z
 
     module _ (z : n ≡ 0) (m k : ℕ) (em : m ≡ tillSize table) (ek : k ≡ partsFor (mc .blockBytes) (length image)) where
       blocks-are : k ≡ partsFor (measuresOn table .blockBytes) (length image)
@@ -121,7 +127,7 @@ module _ {mc : Measures} {pool table : List ℕ} {t : ℕ} {r : Head} {day : ℕ
 
       -- the till's words are as they were
       part-kept : take (r .at + m - r .at) (drop (r .at) table′) ≡ tillToWords (getD table 1 0) (getD table 2 0) (tillOf (stateIn (shapeOf table) pool table) t)
-      part-kept = go (placedOn pool table image) did
+      part-kept = go (limitedOn others most pool table image (newestOf pool table t)) did
         where
           go : (o : Outcome Placed) → DidOn image (newestOf pool table t) pool table o n pool′ table′ words′ prev′
               → take (r .at + m - r .at) (drop (r .at) table′) ≡ tillToWords (getD table 1 0) (getD table 2 0) (tillOf (stateIn (shapeOf table) pool table) t)
@@ -147,9 +153,9 @@ module _ {mc : Measures} {pool table : List ℕ} {t : ℕ} {r : Head} {day : ℕ
           }
 
       pub filed-all : (out : List ℕ) → FiledOn (r .at) (r .at + m) (getD table 2 0) prev′ (length image) day (take k words′) table′ out
-          → record { refusal = 0; version = r .last + 1; pool = pool′; table = out } ≡ backupDatedOf pool table t day image
+          → record { refusal = 0; version = r .last + 1; pool = pool′; table = out } ≡ within others most pool table (backupDatedOf pool table t day image)
       filed-all out f =
-          filed-answer pool table (p .sound) t day image (p .accepted) n pool′ table′ words′ prev′ did z (r .at) (r .at + m) (getD table 2 0) k (r .last) out (p .head .last) refl (p .head .at)
+          filed-answer pool table (p .sound) t day image (p .accepted) others most n pool′ table′ words′ prev′ did z (r .at) (r .at + m) (getD table 2 0) k (r .last) out (p .head .last) refl (p .head .at)
           (ap (λ (j : ℕ). r .at + j) em) (blocks-are ∙ sym (blocks-length (measuresOn table) (fit (p .sound) .proper) image)) f
 
 -- ---- the room for both

@@ -12,8 +12,8 @@ use Rattle.lists.proofs.Rows.{length-rows}
 use Rattle.model.specs.Measures.{Measures, recordWords, tableWords}
 use Rattle.model.specs.Place.{Placed, placeAll}
 use Rattle.model.specs.State.{Block, Pointer, Segment, Shelf, State, Outcome, refused, done}
-use Rattle.model.specs.Table.{shapeOf, stateIn, shelfIn, stateToWords, stateToBytes, recordToWords}
-use Rattle.laws.specs.Shelves.{ShelfFits}
+use Rattle.model.specs.Table.{shapeOf, stateIn, shelfIn, stateToWords, stateToBytes, recordToWords, wordToPointer}
+use Rattle.laws.specs.Shelves.{ShelfFits, Suffices}
 use Rattle.laws.specs.Stores.{recordsFrom, Sound}
 use Rattle.laws.proofs.Stores.{records-is, records-put, found, fits, valid, long, header}
 use Rattle.laws.proofs.Measures.{sizes}
@@ -22,8 +22,9 @@ use Rattle.place.specs.All.{segmentsIn, placedIn}
 use Rattle.ready.proofs.Shelf.{sound-counts}
 use Rattle.shelf.specs.Stored.{Countable}
 use Rattle.shelf.proofs.Read.{wide-of}
+use Rattle.shelve.specs.Limit.{limited}
 use Rattle.shelve.specs.Shelve.{Pointed, Readied, DidShelve}
-use Rattle.backup.specs.Backup.{measuresOn, blocksOn, placedOn, ShelfReady, sweptState, DidOn}
+use Rattle.backup.specs.Backup.{measuresOn, blocksOn, limitedOn, ShelfReady, sweptState, DidOn}
 
 module _ {pool table : List ℕ} (h : Sound pool table) where
   abbrev st : State
@@ -79,6 +80,7 @@ module _ (m : Measures) (image pool table : List ℕ) (from : ℕ) (words prev :
     };
     fits = subst (λ (x : Shelf). ShelfFits (measuresOn table) x) (sym (shelf-back (r .sound))) (valid (r .sound) .fits);
     pointers = subst (λ (l : ℕ). Pointed (measuresOn table .segmentBlocks) l prev) (sym (part-length (r .sound))) (r .pointers);
+    suffices = unfold shelfIn in subst (λ (x : Shelf). Suffices (x .records) (map wordToPointer prev)) (sym (shelf-back (r .sound))) (r .suffices);
   }
 
   pub readied : Readied m image pool (midOf from (length table - from) table) words prev
@@ -87,16 +89,16 @@ module _ (m : Measures) (image pool table : List ℕ) (from : ℕ) (words prev :
       (subst (λ (k : ℕ). Readied (measuresOn table) image pool (midOf k (length table - k) table) words prev) (sym (r .begins)) readied-on)
 
   -- the steps' result, on the table
-  pub done-on : (ps : List Pointer) (n : ℕ) (pool′ ws′ words′ prev′ : List ℕ)
-      → DidShelve m image ps (placedIn m image pool (midOf from (length table - from) table)) n pool (midOf from (length table - from) table) pool′ ws′ words′ prev′
-      → DidOn image ps pool table (placedOn pool table image) n pool′ (putMid from (length table - from) table ws′) words′ prev′
-  done-on ps n pool′ ws′ words′ prev′ d =
-      subst (λ (k : ℕ). DidShelve (measuresOn table) image ps (placedIn (measuresOn table) image pool (midOf k (length table - k) table)) n pool (midOf k (length table - k) table) pool′ ws′ words′ prev′
-      → DidOn image ps pool table (placedOn pool table image) n pool′ (putMid k (length table - k) table ws′) words′ prev′)
+  pub done-on : (others most : ℕ) (ps : List Pointer) (n : ℕ) (pool′ ws′ words′ prev′ : List ℕ)
+      → DidShelve m image ps (limited others most m (imageBlocks (m .blockBytes) image) ps (placedIn m image pool (midOf from (length table - from) table))) n pool (midOf from (length table - from) table) pool′ ws′ words′ prev′
+      → DidOn image ps pool table (limitedOn others most pool table image ps) n pool′ (putMid from (length table - from) table ws′) words′ prev′
+  done-on others most ps n pool′ ws′ words′ prev′ d =
+      subst (λ (k : ℕ). DidShelve (measuresOn table) image ps (limited others most (measuresOn table) (blocksOn table image) ps (placedIn (measuresOn table) image pool (midOf k (length table - k) table))) n pool (midOf k (length table - k) table) pool′ ws′ words′ prev′
+      → DidOn image ps pool table (limitedOn others most pool table image ps) n pool′ (putMid k (length table - k) table ws′) words′ prev′)
       (sym (r .begins))
-      (λ q. go (placedOn pool table image)
-      (subst (λ (x : Shelf). DidShelve (measuresOn table) image ps (placeAll withBlanks (done (record { shelf = x; pointers = [] })) (imageSegments (measuresOn table .blockBytes) (measuresOn table .segmentBlocks) image)) n pool (part (r .sound)) pool′ ws′ words′ prev′) (shelf-back (r .sound)) q))
-      (subst (λ (x : Measures). DidShelve x image ps (placedIn x image pool (midOf from (length table - from) table)) n pool (midOf from (length table - from) table) pool′ ws′ words′ prev′) (r .measures) d)
+      (λ q. go (limitedOn others most pool table image ps)
+      (subst (λ (x : Shelf). DidShelve (measuresOn table) image ps (limited others most (measuresOn table) (blocksOn table image) ps (placeAll withBlanks (done (record { shelf = x; pointers = [] })) (imageSegments (measuresOn table .blockBytes) (measuresOn table .segmentBlocks) image))) n pool (part (r .sound)) pool′ ws′ words′ prev′) (shelf-back (r .sound)) q))
+      (subst (λ (x : Measures). DidShelve x image ps (limited others most x (imageBlocks (x .blockBytes) image) ps (placedIn x image pool (midOf from (length table - from) table))) n pool (midOf from (length table - from) table) pool′ ws′ words′ prev′) (r .measures) d)
     where
       go : (o : Outcome Placed) → DidShelve (measuresOn table) image ps o n pool (part (r .sound)) pool′ ws′ words′ prev′
           → DidOn image ps pool table o n pool′ (putMid (recordsFrom (shapeOf table)) (length table - recordsFrom (shapeOf table)) table ws′) words′ prev′

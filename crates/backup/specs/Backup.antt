@@ -10,10 +10,12 @@ use Rattle.filing.specs.Filing.{Room, SlotLeft}
 use Rattle.model.specs.Place.{Placed, placeAll}
 use Rattle.model.specs.State.{Block, Pointer, Shelf, State, Outcome, refused, done}
 use Rattle.model.specs.Sweep.{release, sweep}
-use Rattle.model.specs.Table.{shapeOf, stateIn, stateToWords, stateToBytes, pointerWord}
+use Rattle.model.specs.Table.{shapeOf, stateIn, stateToWords, stateToBytes, pointerWord, wordToPointer}
 use Rattle.model.specs.Turn.{turn, turning}
 use Rattle.laws.specs.Stores.{recordsFrom, tillAt, Sound}
+use Rattle.laws.specs.Shelves.{Suffices}
 use Rattle.place.specs.All.{segmentsIn}
+use Rattle.shelve.specs.Limit.{limited}
 use Rattle.shelve.specs.Shelve.{Pointed}
 
 -- the table's measures
@@ -28,6 +30,10 @@ abbrev pub placedOn : List ℕ → List ℕ → List ℕ → Outcome Placed
 placedOn pool table image =
     placeAll withBlanks (done (record { shelf = stateIn (shapeOf table) pool table .shelf; pointers = [] })) (imageSegments (measuresOn table .blockBytes) (measuresOn table .segmentBlocks) image)
 
+-- with the limit: `ps` are the newest version's pointers
+abbrev pub limitedOn : ℕ → ℕ → List ℕ → List ℕ → List ℕ → List Pointer → Outcome Placed
+limitedOn others most pool table image ps = limited others most (measuresOn table) (blocksOn table image) ps (placedOn pool table image)
+
 pub record ShelfReady (m : Measures) (image pool table : List ℕ) (from : ℕ) (words prev : List ℕ) : Type 0 where
   pub sound : Sound pool table
   pub measures : m ≡ measuresOn table
@@ -35,6 +41,7 @@ pub record ShelfReady (m : Measures) (image pool table : List ℕ) (from : ℕ) 
   pub short : length image ≤ 65536
   pub room : length words ≡ segmentsIn m image * m .segmentBlocks
   pub pointers : Pointed (measuresOn table .segmentBlocks) (getD table 3 0 * recordWords (measuresOn table .segmentBlocks)) prev
+  pub suffices : Suffices (stateIn (shapeOf table) pool table .shelf .records) (map wordToPointer prev)
 
 -- the state with the segments placed, the pointers let go and the shelf swept, before the till has the new version
 abbrev pub sweptState : Measures → State → List Block → List Pointer → Shelf → State

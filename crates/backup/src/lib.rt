@@ -8,9 +8,11 @@ ghost use Rattle.model.specs.Table.{shapeOf, stateIn, pointerWord, wordToPointe
 ghost use Rattle.model.specs.Calls.{backupOf, backupDatedOf};
 ghost use Rattle.laws.specs.Stores.{Sound, tillAt};
 ghost use Rattle.accept.specs.Accept.{Accepted};
-ghost use Rattle.backup.specs.Backup.{placedOn, ShelfReady, DidOn, FileReady, FiledOn};
+ghost use Rattle.chain.specs.Limit.{within};
+ghost use Rattle.backup.specs.Backup.{limitedOn, ShelfReady, DidOn, FileReady, FiledOn};
 ghost use Rattle.backup.specs.Call.{newestOf, Begun, backedUpAnswer};
 use numbers::Measures;
+use shelve::Limit;
 use tills::Head;
 
 // Steps 1 to 3 on the table's records, which begin at `from`. A refusal alters nothing.
@@ -22,11 +24,12 @@ pub fn shelve_in(
     words: &mut [u32],
     prev: &mut [u32],
     m: Measures,
+    limit: Limit,
 ) -> u32
-    requires { ⌜ ShelfReady (measuresOf m) (now image) (now pool) (now table) from (now words) (now prev) ⌝ }
-    ensures { λ r. ⌜ DidOn (now (image .entry)) (map wordToPointer (now (prev .entry))) (now (pool .entry)) (now (table .entry)) (placedOn (now (pool .entry)) (now (table .entry)) (now (image .entry))) r (now (pool .exit)) (now (table .exit)) (now (words .exit)) (now (prev .exit)) ⌝ }
+    requires { ⌜ ShelfReady (measuresOf m) (now image) (now pool) (now table) from (now words) (now prev) × (limit .others ≤ 524288) ⌝ }
+    ensures { λ r. ⌜ DidOn (now (image .entry)) (map wordToPointer (now (prev .entry))) (now (pool .entry)) (now (table .entry)) (limitedOn (limit .others) (limit .most) (now (pool .entry)) (now (table .entry)) (now (image .entry)) (map wordToPointer (now (prev .entry)))) r (now (pool .exit)) (now (table .exit)) (now (words .exit)) (now (prev .exit)) ⌝ }
 {
-    shelve::shelve(image, pool, &mut table[from..], words, prev, m)
+    shelve::shelve(image, pool, &mut table[from..], words, prev, limit, m)
 }
 
 // The till's words, from `at` to `end`, get the turned pointers and the new version.
@@ -81,14 +84,15 @@ fn shelve_and_file(
     prev: &mut [u32],
     words: &mut [u32],
     m: Measures,
+    limit: Limit,
 ) -> BackedUp
-    requires { ⌜ Begun (measuresOf m) (now pool) (now table) till head day (now image) (now prev) (now words) ⌝ }
-    ensures { λ r. ⌜ backedUpAnswer r (now (pool .exit)) (now (table .exit)) ≡ backupDatedOf (now (pool .entry)) (now (table .entry)) till day (now (image .entry)) ⌝ }
+    requires { ⌜ Begun (measuresOf m) (now pool) (now table) till head day (now image) (now prev) (now words) × (limit .others ≤ 524288) ⌝ }
+    ensures { λ r. ⌜ backedUpAnswer r (now (pool .exit)) (now (table .exit)) ≡ within (limit .others) (limit .most) (now (pool .entry)) (now (table .entry)) (backupDatedOf (now (pool .entry)) (now (table .entry)) till day (now (image .entry))) ⌝ }
 {
     let from = tills::records_at(table);
     let b = table[2] as usize;
     let end = head.at + tills::till_words(table);
-    let r = shelve_in(image, pool, table, from, words, prev, m);
+    let r = shelve_in(image, pool, table, from, words, prev, m, limit);
     if r != 0 {
         return BackedUp {
             refusal: r,
@@ -123,9 +127,10 @@ fn back_up_with(
     prev: &mut [u32],
     words: &mut [u32],
     m: Measures,
+    limit: Limit,
 ) -> BackedUp
-    requires { ⌜ Sound (now pool) (now table) × Accepted (now pool) (now table) till day (now image) × (length (now prev) ≡ 1024) × (length (now words) ≡ 1040) × (measuresOf m ≡ shapeOf (now table) .measures) ⌝ }
-    ensures { λ r. ⌜ backedUpAnswer r (now (pool .exit)) (now (table .exit)) ≡ backupDatedOf (now (pool .entry)) (now (table .entry)) till day (now (image .entry)) ⌝ }
+    requires { ⌜ Sound (now pool) (now table) × Accepted (now pool) (now table) till day (now image) × (length (now prev) ≡ 1024) × (length (now words) ≡ 1040) × (measuresOf m ≡ shapeOf (now table) .measures) × (limit .others ≤ 524288) ⌝ }
+    ensures { λ r. ⌜ backedUpAnswer r (now (pool .exit)) (now (table .exit)) ≡ within (limit .others) (limit .most) (now (pool .entry)) (now (table .entry)) (backupDatedOf (now (pool .entry)) (now (table .entry)) till day (now (image .entry))) ⌝ }
 {
     let head = tills::till_head(pool, table, till);
     let n = copy_newest(pool, table, till, head.at, prev, m);
@@ -140,6 +145,7 @@ fn back_up_with(
         &mut prev[..n],
         &mut words[..count],
         m,
+        limit,
     )
 }
 
@@ -150,14 +156,25 @@ fn back_up_accepted(
     till: u32,
     day: u32,
     image: &[u8],
+    limit: Limit,
 ) -> BackedUp
-    requires { ⌜ Sound (now pool) (now table) × Accepted (now pool) (now table) till day (now image) ⌝ }
-    ensures { λ r. ⌜ backedUpAnswer r (now (pool .exit)) (now (table .exit)) ≡ backupDatedOf (now (pool .entry)) (now (table .entry)) till day (now (image .entry)) ⌝ }
+    requires { ⌜ Sound (now pool) (now table) × Accepted (now pool) (now table) till day (now image) × (limit .others ≤ 524288) ⌝ }
+    ensures { λ r. ⌜ backedUpAnswer r (now (pool .exit)) (now (table .exit)) ≡ within (limit .others) (limit .most) (now (pool .entry)) (now (table .entry)) (backupDatedOf (now (pool .entry)) (now (table .entry)) till day (now (image .entry))) ⌝ }
 {
     let m = layout::measures_in(table);
     let mut prev = [0u32; 1024];
     let mut words = [0u32; 1040];
-    back_up_with(pool, table, till, day, image, &mut prev, &mut words, m)
+    back_up_with(
+        pool,
+        table,
+        till,
+        day,
+        image,
+        &mut prev,
+        &mut words,
+        m,
+        limit,
+    )
 }
 
 // The new version has the day, which is not before that of the till's newest one.
@@ -167,9 +184,10 @@ pub fn back_up_dated(
     till: u32,
     day: u32,
     image: &[u8],
+    limit: Limit,
 ) -> BackedUp
-    requires { ⌜ Sound (now pool) (now table) ⌝ }
-    ensures { λ r. ⌜ backedUpAnswer r (now (pool .exit)) (now (table .exit)) ≡ backupDatedOf (now (pool .entry)) (now (table .entry)) till day (now (image .entry)) ⌝ }
+    requires { ⌜ Sound (now pool) (now table) × (limit .others ≤ 524288) ⌝ }
+    ensures { λ r. ⌜ backedUpAnswer r (now (pool .exit)) (now (table .exit)) ≡ within (limit .others) (limit .most) (now (pool .entry)) (now (table .entry)) (backupDatedOf (now (pool .entry)) (now (table .entry)) till day (now (image .entry))) ⌝ }
 {
     let r = accept::backup_refusal(pool, table, till, day, image);
     if r != 0 {
@@ -178,14 +196,20 @@ pub fn back_up_dated(
             version: 0,
         };
     }
-    back_up_accepted(pool, table, till, day, image)
+    back_up_accepted(pool, table, till, day, image, limit)
 }
 
 // Without a day, the new version has that of the till's newest one.
-pub fn back_up(pool: &mut [u8], table: &mut [u32], till: u32, image: &[u8]) -> BackedUp
-    requires { ⌜ Sound (now pool) (now table) ⌝ }
-    ensures { λ r. ⌜ backedUpAnswer r (now (pool .exit)) (now (table .exit)) ≡ backupOf (now (pool .entry)) (now (table .entry)) till (now (image .entry)) ⌝ }
+pub fn back_up(
+    pool: &mut [u8],
+    table: &mut [u32],
+    till: u32,
+    image: &[u8],
+    limit: Limit,
+) -> BackedUp
+    requires { ⌜ Sound (now pool) (now table) × (limit .others ≤ 524288) ⌝ }
+    ensures { λ r. ⌜ backedUpAnswer r (now (pool .exit)) (now (table .exit)) ≡ within (limit .others) (limit .most) (now (pool .entry)) (now (table .entry)) (backupOf (now (pool .entry)) (now (table .entry)) till (now (image .entry))) ⌝ }
 {
     let day = tills::newest_day(pool, table, till);
-    back_up_dated(pool, table, till, day, image)
+    back_up_dated(pool, table, till, day, image, limit)
 }

@@ -21,16 +21,20 @@ use Rattle.model.specs.Rights.{backupAs}
 use Rattle.laws.specs.Stores.{Sound, storeRead}
 use Rattle.laws.proofs.Stores.{sound-if}
 use Rattle.laws.proofs.Calls.{backup-as-store}
+use Rattle.chain.specs.Limit.{within, imageWithin}
+use Rattle.chain.proofs.Within.{within-either}
 use Rattle.closing.specs.Closing.{TillImage, imagesIn, BackupAllAnswer}
-use Rattle.closing.specs.Singly.{Made, madeEach, madeSingly, answerTo}
+use Rattle.closing.specs.Singly.{Made, madeEach, answerTo}
 use Rattle.closing_backup.specs.Answers.{allAnswered}
 use Rattle.closing_backup.proofs.Fits.{Fit}
 
--- a backup leaves a sound store, whoever the user is
-sound-after : (pool table : List ℕ) → Sound pool table → (user t : ℕ) (image : List ℕ)
-    → Sound (backupAs withBlanks pool table user t none image .pool) (backupAs withBlanks pool table user t none image .table)
-unfolding isSome
-sound-after pool table h user t image = sound-if _ _ (sym (ap isSome (backup-as-store pool table (storeRead pool table) (h .is) withBlanks user t none image)))
+-- a backup leaves a sound store, whoever the user is and whatever the limit
+sound-after : (others most : ℕ) (pool table : List ℕ) → Sound pool table → (user : ℕ) (x : TillImage)
+    → Sound (imageWithin others most user pool table x .pool) (imageWithin others most user pool table x .table)
+unfolding imageWithin isSome
+sound-after others most pool table h user x =
+    within-either others most pool table Sound (backupAs withBlanks pool table user (x .till) none (x .image))
+    (sound-if _ _ (sym (ap isSome (backup-as-store pool table (storeRead pool table) (h .is) withBlanks user (x .till) none (x .image))))) h
 
 -- the first i answers as the lists have them, and the later ones
 unfoldable pub answerSoFar : List ℕ → List ℕ → ℕ → Made → BackupAllAnswer
@@ -41,20 +45,20 @@ answerSoFar refusals versions i m = record {
 }
 
 -- i images are done, and the next begins at `from`
-pub record Going (pool₀ table₀ : List ℕ) (user : ℕ) (tills lengths images pool table refusals versions : List ℕ) (from i : ℕ) : Type 0 where
+pub record Going (others most : ℕ) (pool₀ table₀ : List ℕ) (user : ℕ) (tills lengths images pool table refusals versions : List ℕ) (from i : ℕ) : Type 0 where
   pub sound : Sound pool table
   pub fit : Fit tills lengths images
   pub within : i ≤ length tills
   pub sum : from + total (λ (n : ℕ). n) (drop i lengths) ≡ total (λ (n : ℕ). n) lengths
   pub refused : fill 16 (take i refusals) ≡ refusals
   pub filed : fill 16 (take i versions) ≡ versions
-  pub answer : answerSoFar refusals versions i (madeSingly pool table user (imagesIn (drop i tills) (drop i lengths) (drop from images)))
-      ≡ answerTo (madeSingly pool₀ table₀ user (imagesIn tills lengths images))
+  pub answer : answerSoFar refusals versions i (madeEach (imageWithin others most user) pool table (imagesIn (drop i tills) (drop i lengths) (drop from images)))
+      ≡ answerTo (madeEach (imageWithin others most user) pool₀ table₀ (imagesIn tills lengths images))
 
-pub going-start : (pool table : List ℕ) (user : ℕ) (tills lengths images refusals versions : List ℕ) → Sound pool table → Fit tills lengths images → refusals ≡ replicate 16 0 → versions ≡ replicate 16 0
-    → Going pool table user tills lengths images pool table refusals versions 0 0
+pub going-start : (others most : ℕ) (pool table : List ℕ) (user : ℕ) (tills lengths images refusals versions : List ℕ) → Sound pool table → Fit tills lengths images → refusals ≡ replicate 16 0 → versions ≡ replicate 16 0
+    → Going others most pool table user tills lengths images pool table refusals versions 0 0
 unfolding answerSoFar answerTo
-going-start pool table user tills lengths images refusals versions h f er ev = record {
+going-start others most pool table user tills lengths images refusals versions h f er ev = record {
   sound = h;
   fit = f;
   within = omega arith;
@@ -64,19 +68,19 @@ going-start pool table user tills lengths images refusals versions h f er ev = r
   answer = refl;
 }
 
-module _ {pool₀ table₀ : List ℕ} {user : ℕ} {tills lengths images pool table refusals versions : List ℕ} {from i : ℕ}
-    (g : Going pool₀ table₀ user tills lengths images pool table refusals versions from i) where
+module _ {others most : ℕ} {pool₀ table₀ : List ℕ} {user : ℕ} {tills lengths images pool table refusals versions : List ℕ} {from i : ℕ}
+    (g : Going others most pool₀ table₀ user tills lengths images pool table refusals versions from i) where
   pub refusals-long : length refusals ≡ 16
   refusals-long = sym (ap length (g .refused)) ∙ length-fill 16 _
 
   pub versions-long : length versions ≡ 16
   versions-long = sym (ap length (g .filed)) ∙ length-fill 16 _
 
-  pub going-end : length tills ≤ i → allAnswered refusals versions pool table ≡ answerTo (madeSingly pool₀ table₀ user (imagesIn tills lengths images))
+  pub going-end : length tills ≤ i → allAnswered refusals versions pool table ≡ answerTo (madeEach (imageWithin others most user) pool₀ table₀ (imagesIn tills lengths images))
   unfolding answerSoFar madeEach imagesIn
   going-end h = sym last ∙ g .answer
     where
-      last : answerSoFar refusals versions i (madeSingly pool table user (imagesIn (drop i tills) (drop i lengths) (drop from images))) ≡ allAnswered refusals versions pool table
+      last : answerSoFar refusals versions i (madeEach (imageWithin others most user) pool table (imagesIn (drop i tills) (drop i lengths) (drop from images))) ≡ allAnswered refusals versions pool table
       last = rw (drop-end tills i h, append-nil (take i refusals), append-nil (take i versions), g .refused, g .filed)
 
   module _ (h : i < length tills) where
@@ -102,23 +106,24 @@ module _ {pool₀ table₀ : List ℕ} {user : ℕ} {tills lengths images pool t
     split = rw (drop-next tills i 0 h, drop-next lengths i 0 in-lengths, drop-drop)
 
     Next : BackupAnswer → Type 0
-    Next a = Going pool₀ table₀ user tills lengths images (a .pool) (a .table) (set refusals i (a .refusal)) (set versions i (a .version)) (from + bytes) (i + 1)
+    Next a = Going others most pool₀ table₀ user tills lengths images (a .pool) (a .table) (set refusals i (a .refusal)) (set versions i (a .version)) (from + bytes) (i + 1)
 
-    one-more : Next (backupAs withBlanks pool table user till none (take bytes (drop from images)))
+    one-more : Next (imageWithin others most user pool table (record { till = till; image = take bytes (drop from images) }))
     unfolding answerSoFar madeEach Next
     one-more = record {
-      sound = sound-after pool table (g .sound) user till (take bytes (drop from images));
+      sound = sound-after others most pool table (g .sound) user (record { till = till; image = take bytes (drop from images) });
       fit = g .fit;
       within = omega (arith, h);
       sum = next;
       refused = fill-put 16 refusals i _ (omega (arith, h, g .fit .few)) (g .refused);
       filed = fill-put 16 versions i _ (omega (arith, h, g .fit .few)) (g .filed);
       answer = rw (take-put refusals _ i _ (omega (arith, h, g .fit .few, refusals-long)), take-put versions _ i _ (omega (arith, h, g .fit .few, versions-long)))
-          (ap (λ (xs : List TillImage). answerSoFar refusals versions i (madeSingly pool table user xs)) (sym split) ∙ g .answer);
+          (ap (λ (xs : List TillImage). answerSoFar refusals versions i (madeEach (imageWithin others most user) pool table xs)) (sym split) ∙ g .answer);
     }
 
     pub going-more : (n v : ℕ) (pool′ table′ : List ℕ)
-        → record { refusal = n; version = v; pool = pool′; table = table′ } ≡ backupAs withBlanks pool table user till none (take (from + bytes - from) (drop from images))
-        → Going pool₀ table₀ user tills lengths images pool′ table′ (set refusals i n) (set versions i v) (from + bytes) (i + 1)
-    unfolding Next
-    going-more n v pool′ table′ e = subst Next (sym (e ∙ ap (backupAs withBlanks pool table user till none) (part-is images from bytes))) one-more
+        → record { refusal = n; version = v; pool = pool′; table = table′ } ≡ within others most pool table (backupAs withBlanks pool table user till none (take (from + bytes - from) (drop from images)))
+        → Going others most pool₀ table₀ user tills lengths images pool′ table′ (set refusals i n) (set versions i v) (from + bytes) (i + 1)
+    unfolding Next imageWithin
+    going-more n v pool′ table′ e =
+        subst Next (sym (e ∙ ap (λ (image : List ℕ). within others most pool table (backupAs withBlanks pool table user till none image)) (part-is images from bytes))) one-more

@@ -1,4 +1,5 @@
-// §7's call, on a sound store: the images are backed up one after the other, with no second check between them. The user's right is asked for each.
+// §7's call, on a sound store: the images are backed up one after the other, with no second check between them. The user's right is asked for each, and
+// the limit of a chain.
 ghost use mathlib.Core.Path.{_≡_};
 ghost use mathlib.Core.Bool.{true};
 ghost use mathlib.Core.Option.{none};
@@ -9,11 +10,13 @@ ghost use Rattle.model.specs.Image.{withBlanks};
 ghost use Rattle.model.specs.Rights.{backupAs};
 ghost use Rattle.laws.specs.Stores.{Sound};
 ghost use Rattle.backup.specs.Call.{backedUpAnswer};
-ghost use Rattle.closing.specs.Closing.{imagesIn, closingFits, backupAllAs};
-ghost use Rattle.closing.specs.Singly.{madeSingly, answerTo};
+ghost use Rattle.chain.specs.Limit.{within, imageWithin, backupAllWithin};
+ghost use Rattle.closing.specs.Closing.{imagesIn, closingFits};
+ghost use Rattle.closing.specs.Singly.{madeEach, answerTo};
 ghost use Rattle.closing_backup.specs.Answers.{allAnswered, allBackedUp};
 use backup::BackedUp;
 use rights::Right;
+use shelve::Limit;
 
 // Refusal 0 is a call that is not refused whole. The images' own refusals and versions stand in their order, 0 past the last image.
 #[repr(C)]
@@ -51,9 +54,16 @@ fn lists_fit(tills: &[u32], lengths: &[u32], images: &[u8]) -> bool
 }
 
 // One image, for a user who may back up its till.
-fn back_up_one(pool: &mut [u8], table: &mut [u32], user: u32, till: u32, image: &[u8]) -> BackedUp
-    requires { ⌜ Sound (now pool) (now table) ⌝ }
-    ensures { λ r. ⌜ backedUpAnswer r (now (pool .exit)) (now (table .exit)) ≡ backupAs withBlanks (now (pool .entry)) (now (table .entry)) user till none (now (image .entry)) ⌝ }
+fn back_up_one(
+    pool: &mut [u8],
+    table: &mut [u32],
+    user: u32,
+    till: u32,
+    image: &[u8],
+    limit: Limit,
+) -> BackedUp
+    requires { ⌜ Sound (now pool) (now table) × (limit .others ≤ 524288) ⌝ }
+    ensures { λ r. ⌜ backedUpAnswer r (now (pool .exit)) (now (table .exit)) ≡ within (limit .others) (limit .most) (now (pool .entry)) (now (table .entry)) (backupAs withBlanks (now (pool .entry)) (now (table .entry)) user till none (now (image .entry))) ⌝ }
 {
     let refusal = rights::refusal(pool, table, user, till, Right::BackUp);
     if refusal != 0 {
@@ -62,7 +72,7 @@ fn back_up_one(pool: &mut [u8], table: &mut [u32], user: u32, till: u32, image: 
             version: 0,
         };
     }
-    backup::back_up(pool, table, till, image)
+    backup::back_up(pool, table, till, image, limit)
 }
 
 // Each image in turn; its answer goes to its place in the lists, which come with zeros.
@@ -75,15 +85,16 @@ fn back_up_each(
     images: &[u8],
     refusals: &mut [u32],
     versions: &mut [u32],
+    limit: Limit,
 )
-    requires { ⌜ Sound (now pool) (now table) × (closingFits (now tills) (now lengths) (now images) ≡ true) × (now refusals ≡ replicate 16 0) × (now versions ≡ replicate 16 0) ⌝ }
-    ensures { λ _. ⌜ allAnswered (now (refusals .exit)) (now (versions .exit)) (now (pool .exit)) (now (table .exit)) ≡ answerTo (madeSingly (now (pool .entry)) (now (table .entry)) user (imagesIn (now (tills .entry)) (now (lengths .entry)) (now (images .entry)))) ⌝ }
+    requires { ⌜ Sound (now pool) (now table) × (closingFits (now tills) (now lengths) (now images) ≡ true) × (now refusals ≡ replicate 16 0) × (now versions ≡ replicate 16 0) × (limit .others ≤ 524288) ⌝ }
+    ensures { λ _. ⌜ allAnswered (now (refusals .exit)) (now (versions .exit)) (now (pool .exit)) (now (table .exit)) ≡ answerTo (madeEach (imageWithin (limit .others) (limit .most) user) (now (pool .entry)) (now (table .entry)) (imagesIn (now (tills .entry)) (now (lengths .entry)) (now (images .entry)))) ⌝ }
 {
     let mut from: usize = 0;
     let mut i: usize = 0;
     while i < tills.len() {
         let end = from + lengths[i] as usize;
-        let r = back_up_one(pool, table, user, tills[i], &images[from..end]);
+        let r = back_up_one(pool, table, user, tills[i], &images[from..end], limit);
         refusals[i] = r.refusal;
         versions[i] = r.version;
         from = end;
@@ -98,9 +109,10 @@ pub fn back_up_all(
     tills: &[u32],
     lengths: &[u32],
     images: &[u8],
+    limit: Limit,
 ) -> AllBackedUp
-    requires { ⌜ Sound (now pool) (now table) ⌝ }
-    ensures { λ r. ⌜ allBackedUp r (now (pool .exit)) (now (table .exit)) ≡ backupAllAs (now (pool .entry)) (now (table .entry)) user (now (tills .entry)) (now (lengths .entry)) (now (images .entry)) ⌝ }
+    requires { ⌜ Sound (now pool) (now table) × (limit .others ≤ 524288) ⌝ }
+    ensures { λ r. ⌜ allBackedUp r (now (pool .exit)) (now (table .exit)) ≡ backupAllWithin (limit .others) (limit .most) (now (pool .entry)) (now (table .entry)) user (now (tills .entry)) (now (lengths .entry)) (now (images .entry)) ⌝ }
 {
     let mut refusals = [0u32; 16];
     let mut versions = [0u32; 16];
@@ -120,6 +132,7 @@ pub fn back_up_all(
         images,
         &mut refusals,
         &mut versions,
+        limit,
     );
     AllBackedUp {
         refusal: 0,

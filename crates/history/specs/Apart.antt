@@ -46,9 +46,9 @@ IsOn u (callSetRights subject t r) = t ≡ u
 abbrev pub Lacks : ℕ → ℕ → Buffers → Type 0
 Lacks x u b = (right : Right) → ¬ (refusalFor (storeOf (b .pool) (b .table)) x u right ≡ 0)
 
--- "the answers 14, 16, 19, 20 and 21 …, which depend on the shared pool" (21 comes with §8)
+-- "the answers 14, 16, 19, 20 and 21 …, which depend on the shared pool"; 21 is answered on a chain only (§8)
 abbrev pub FromTill : ℕ → Type 0
-FromTill n = isIn n (14 ∷ 16 ∷ 19 ∷ 20 ∷ []) ≡ false
+FromTill n = isIn n (14 ∷ 16 ∷ 19 ∷ 20 ∷ 21 ∷ []) ≡ false
 
 -- an answer that is none of these, nor has one for an image of a closing
 abbrev pub IsFromTill : Answer → Type 0

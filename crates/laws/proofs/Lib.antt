@@ -29,3 +29,4 @@ pub mod Keys
 pub mod Stores
 pub mod Tills
 pub mod Calls
+pub mod Left

@@ -2,14 +2,14 @@
 use mathlib.Core.Path.{_≡_}
 use mathlib.Core.Bool.{true, cond}
 use mathlib.Core.List.{List, []}
-use Prim.Native.Nat.{ℕ}
+use Prim.Native.Nat.{ℕ, _≤_}
 use lib.ListN.{length, getD}
 use Rattle.lists.specs.Each.{Each}
-use Rattle.lists.specs.Lists.{uses, allZero}
+use Rattle.lists.specs.Lists.{count, uses, allZero}
 use Rattle.model.specs.Measures.{Measures}
-use Rattle.model.specs.State.{Block, Segment, Shelf}
-use Rattle.model.specs.Records.{namedCells}
-use Rattle.model.specs.Sound.{isUsed}
+use Rattle.model.specs.State.{Block, Pointer, nullPosition, Segment, Shelf}
+use Rattle.model.specs.Records.{countOf, namedCells}
+use Rattle.model.specs.Sound.{isUsed, leadsTo}
 
 -- 0 for a block of zeros, or past the end, and 1 for any other
 unfoldable pub bit : Block → ℕ
@@ -27,3 +27,7 @@ pub record SegmentFits (m : Measures) (seg : Segment) : Type 0 where
 pub record ShelfFits (m : Measures) (a : Shelf) : Type 0 where
   pub records : Each (SegmentFits m) (a .records)
   pub cells : Each (λ (b : Block). length b ≡ m .blockBytes) (a .cells)
+
+-- each position has at least as large a count as pointers of a list lead to it
+abbrev pub Suffices : List Segment → List Pointer → Type 0
+Suffices segs ps = (k i : ℕ) → count (leadsTo k i) ps ≤ countOf (getD (getD segs k []) i nullPosition)

@@ -194,14 +194,22 @@ module _ {m : Measures} {image pool₀ ws₀ : List ℕ} {free₀ : List Bool} {
 
   -- and those before it are taken back
   pub along-undone : Stored m pool₀ ws₀ → (r : ℕ) (pool′ ws′ pool″ ws″ words′ : List ℕ) → pool′ ≡ pool → ws′ ≡ ws → placedIn m image pool₀ ws₀ ≡ refused r
-      → Told m pool″ ws″ (undoUpto m placed j (shelfIn m pool′ ws′)) → DidAll m (placedIn m image pool₀ ws₀) r pool₀ ws₀ pool″ ws″ words′
+      → Told m pool″ ws″ (undoUpto m placed j (shelfIn m pool′ ws′)) → DidAll m image (placedIn m image pool₀ ws₀) r pool₀ ws₀ pool″ ws″ placed words′
   along-undone st r pool′ ws′ pool″ ws″ words′ ep ew f t =
       let d : Told m pool″ ws″ (shelfIn m pool₀ ws₀) = rw (ep, ew, a .back) at t in
       rw f (refl, d .cells .joins ∙ sym (st .told .cells .joins), d .records .words ∙ sym (st .told .records .words))
 
-  pub along-end : j ≡ n → length words₀ ≡ segmentsIn m image * k → DidAll m (placedIn m image pool₀ ws₀) 0 pool₀ ws₀ pool ws words
+  pub along-end : j ≡ n → n ≤ 256 → length words₀ ≡ segmentsIn m image * k → DidAll m image (placedIn m image pool₀ ws₀) 0 pool₀ ws₀ pool ws placed words
   unfolding segmentsFrom placeAll
-  along-end e hw =
+  along-end e few hw =
       let z : n - j ≡ 0 = omega arith in
       let f : done (record { shelf = s; pointers = a .pointers }) ≡ placedIn m image pool₀ ws₀ = rw z at (a .left) in
-      rw (← f) (refl, record { told = a .stored .told; pointers = sym (take-all first words (omega (arith, a .starts, a .sameWords, ap (λ (x : ℕ). x * k) (e ∙ a .all)))) ∙ a .written })
+      rw (← f) (
+        refl,
+        record {
+          told = a .stored .told;
+          pointers = sym (take-all first words (omega (arith, a .starts, a .sameWords, ap (λ (x : ℕ). x * k) (e ∙ a .all)))) ∙ a .written;
+          counts = rw (records-of m pool ws) (counts-wider _ _ (a .counts) 2147483904 (omega (arith, e, few)));
+          back = ap (λ (x : ℕ). undoUpto m placed x s) (sym (e ∙ a .all)) ∙ a .back;
+        },
+      )

@@ -6,9 +6,10 @@ use lib.ListN.{length}
 use Rattle.model.specs.Image.{imageSegments, withBlanks}
 use Rattle.model.specs.Measures.{Measures, partsFor}
 use Rattle.model.specs.Place.{Placed, placeAll}
-use Rattle.model.specs.State.{Outcome, done, refused}
+use Rattle.model.specs.State.{Shelf, Outcome, done, refused}
 use Rattle.model.specs.Table.{pointerWord, recordsIn, shelfIn}
 use Rattle.shelf.specs.Stored.{Countable, Stored, Told}
+use Rattle.place_undo.specs.Undo.{undoUpto}
 
 abbrev pub segmentsIn : Measures → List ℕ → ℕ
 segmentsIn m image = partsFor (m .segmentBlocks * m .blockBytes) (length image)
@@ -24,11 +25,14 @@ pub record AllReady (m : Measures) (image pool ws words : List ℕ) : Type 0 whe
 abbrev pub placedIn : Measures → List ℕ → List ℕ → List ℕ → Outcome Placed
 placedIn m image pool ws = placeAll withBlanks (done (record { shelf = shelfIn m pool ws; pointers = [] })) (imageSegments (m .blockBytes) (m .segmentBlocks) image)
 
-pub record AllDone (m : Measures) (p : Placed) (pool ws words : List ℕ) : Type 0 where
+-- `placed` says for each segment where it went: undone, all is as it was
+pub record AllDone (m : Measures) (segments : ℕ) (before : Shelf) (p : Placed) (pool ws placed words : List ℕ) : Type 0 where
   pub told : Told m pool ws (p .shelf)
   pub pointers : words ≡ map pointerWord (p .pointers)
+  pub counts : Countable 2147483904 (p .shelf .records)
+  pub back : undoUpto m placed segments (p .shelf) ≡ before
 
 -- a refusal alters neither buffer
-abbrev pub DidAll : Measures → Outcome Placed → ℕ → List ℕ → List ℕ → List ℕ → List ℕ → List ℕ → Type 0
-DidAll m (refused n) r pool₀ ws₀ pool ws words = (r ≡ n) × (pool ≡ pool₀) × (ws ≡ ws₀)
-DidAll m (done p) r pool₀ ws₀ pool ws words = (r ≡ 0) × AllDone m p pool ws words
+abbrev pub DidAll : Measures → List ℕ → Outcome Placed → ℕ → List ℕ → List ℕ → List ℕ → List ℕ → List ℕ → List ℕ → Type 0
+DidAll m image (refused n) r pool₀ ws₀ pool ws placed words = (r ≡ n) × (pool ≡ pool₀) × (ws ≡ ws₀)
+DidAll m image (done p) r pool₀ ws₀ pool ws placed words = (r ≡ 0) × AllDone m (segmentsIn m image) (shelfIn m pool₀ ws₀) p pool ws placed words

@@ -15,10 +15,11 @@ use Rattle.model.specs.Measures.{Measures, recordWords}
 use Rattle.model.specs.Place.{Placed, stored, writeRun, writeRecord, shareOrWrite, placeSegment, afterSome, placeNext, placeAll}
 use Rattle.model.specs.Records.{isFree, equals}
 use Rattle.model.specs.Runs.{Run, findRun}
-use Rattle.model.specs.State.{Block, Shelf, Outcome, refused, done}
+use Rattle.model.specs.State.{Block, Pointer, Shelf, Outcome, refused, done}
 use Rattle.model.specs.Table.{shelfIn}
-use Rattle.laws.specs.Shelves.{ShelfFits}
+use Rattle.laws.specs.Shelves.{ShelfFits, Suffices}
 use Rattle.laws.proofs.Image.{segments-ok}
+use Rattle.laws.proofs.Left.{placed-suffices}
 use Rattle.laws.proofs.Place.{PlacedOk}
 use Rattle.laws.proofs.Segments.{PlaceOk, place-ok}
 use Rattle.place.specs.All.{placedIn}
@@ -49,6 +50,11 @@ module _ (m : Measures) (image pool ws : List ℕ) (st : Stored m pool ws) (f : 
 
     pub placed-shelf : shelfIn m pool′ ws′ ≡ p .shelf
     placed-shelf = shelf-read m (st .measured) pool′ ws′ (p .shelf) d
+
+  -- the counts that sufficed for pointers to be let go still do
+  pub placed-enough : (ps : List Pointer) → Suffices (shelfIn m pool ws .records) ps → Suffices (p .shelf .records) ps
+  placed-enough ps h =
+      placed-suffices withBlanks m (shelfIn m pool ws) (p .shelf) (joined (imageSegments (m .blockBytes) (m .segmentBlocks) image)) (p .pointers) ps placed-ok h
 
 -- ---- a refusal has a number
 

@@ -6,10 +6,12 @@ ghost use lib.ListN.{length, take};
 ghost use Rattle.model.specs.Table.{shapeOf, stateIn};
 ghost use Rattle.laws.specs.Stores.{Sound};
 ghost use Rattle.backup.specs.Call.{backedUpAnswer};
+ghost use Rattle.chain.specs.Limit.{within};
 ghost use Rattle.sha1.specs.Sha1.{sha1};
 ghost use Rattle.sent.specs.Sent.{sentFits, assembled, backupSentOf};
 ghost use Rattle.sent.specs.Found.{Brings};
 use backup::BackedUp;
+use shelve::Limit;
 
 // The image of a message that fits goes to the front of the output; the refusal, 19 or 20, or 0.
 fn assemble_in(
@@ -48,9 +50,10 @@ fn back_up_through(
     marks: &[u8],
     segments: &[u8],
     out: &mut [u8],
+    limit: Limit,
 ) -> BackedUp
-    requires { ⌜ Sound (now pool) (now table) × (73728 ≤ length (now out)) ⌝ }
-    ensures { λ r. ⌜ backedUpAnswer r (now (pool .exit)) (now (table .exit)) ≡ backupSentOf (now (pool .entry)) (now (table .entry)) till bytes (now (fingerprints .entry)) (now (marks .entry)) (now (segments .entry)) ⌝ }
+    requires { ⌜ Sound (now pool) (now table) × (73728 ≤ length (now out)) × (limit .others ≤ 524288) ⌝ }
+    ensures { λ r. ⌜ backedUpAnswer r (now (pool .exit)) (now (table .exit)) ≡ within (limit .others) (limit .most) (now (pool .entry)) (now (table .entry)) (backupSentOf (now (pool .entry)) (now (table .entry)) till bytes (now (fingerprints .entry)) (now (marks .entry)) (now (segments .entry))) ⌝ }
 {
     let early = sent_accept::sent_refusal(pool, table, till, bytes, fingerprints, marks, segments);
     if early != 0 {
@@ -67,7 +70,7 @@ fn back_up_through(
         };
     }
     let end = bytes as usize;
-    backup::back_up(pool, table, till, &out[..end])
+    backup::back_up(pool, table, till, &out[..end], limit)
 }
 
 pub fn back_up_sent(
@@ -78,9 +81,10 @@ pub fn back_up_sent(
     fingerprints: &[u8],
     marks: &[u8],
     segments: &[u8],
+    limit: Limit,
 ) -> BackedUp
-    requires { ⌜ Sound (now pool) (now table) ⌝ }
-    ensures { λ r. ⌜ backedUpAnswer r (now (pool .exit)) (now (table .exit)) ≡ backupSentOf (now (pool .entry)) (now (table .entry)) till bytes (now (fingerprints .entry)) (now (marks .entry)) (now (segments .entry)) ⌝ }
+    requires { ⌜ Sound (now pool) (now table) × (limit .others ≤ 524288) ⌝ }
+    ensures { λ r. ⌜ backedUpAnswer r (now (pool .exit)) (now (table .exit)) ≡ within (limit .others) (limit .most) (now (pool .entry)) (now (table .entry)) (backupSentOf (now (pool .entry)) (now (table .entry)) till bytes (now (fingerprints .entry)) (now (marks .entry)) (now (segments .entry))) ⌝ }
 {
     let mut out = [0u8; 73728];
     back_up_through(
@@ -92,5 +96,6 @@ pub fn back_up_sent(
         marks,
         segments,
         &mut out,
+        limit,
     )
 }

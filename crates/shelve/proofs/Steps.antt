@@ -1,88 +1,133 @@
 -- The three steps, joined.
 use mathlib.Core.Path.{_≡_, refl, sym, ap, _∙_, subst}
-use mathlib.Core.List.{List, [], map}
+use mathlib.Core.Bool.{Bool, true, false, cond}
+use mathlib.Core.List.{List, map}
 use Prim.Native.Nat.{ℕ, _≤_, _<_}
 use native.Mathlib.Omega.{arith}
-use lib.ListN.{length, getD}
+use lib.ListN.{length, getD, take}
+use lib.Dec.{lit<}
 use Rattle.lists.specs.Each.{Each}
 use Rattle.model.specs.Image.{imageBlocks, imageSegments, withBlanks}
 use Rattle.model.specs.Measures.{Measures}
 use Rattle.model.specs.Place.{Placed}
-use Rattle.model.specs.State.{Pointer, Shelf, Outcome, refused, done}
-use Rattle.model.specs.Sweep.{release, sweep}
-use Rattle.model.specs.Table.{shelfIn, pointerWord, wordToPointer}
+use Rattle.model.specs.State.{Block, Pointer, Segment, Shelf, Outcome, refused, done}
+use Rattle.model.specs.Table.{recordsIn, shelfIn, pointerWord, wordToPointer}
 use Rattle.model.specs.Turn.{turn, turning}
-use Rattle.place.specs.All.{placedIn, DidAll}
+use Rattle.laws.proofs.Left.{turning-suffices}
+use Rattle.laws.specs.Shelves.{Suffices}
+use Rattle.place.specs.All.{placedIn, segmentsIn, DidAll}
+use Rattle.place.proofs.Along.{few-segments}
+use Rattle.place_undo.specs.Undo.{undoUpto}
 use Rattle.ready.proofs.Newest.{words-fit, words-back, turning-good}
-use Rattle.ready.proofs.Placed.{placed-stored, placed-words, placed-shelf, refusal-positive}
+use Rattle.ready.proofs.Placed.{placed-stored, placed-words, placed-shelf, placed-enough, refusal-positive}
 use Rattle.shelf.specs.Fits.{Fits}
-use Rattle.shelf.specs.Stored.{Told}
+use Rattle.shelf.specs.Stored.{Countable, Told}
+use Rattle.shelf.proofs.Read.{records-of}
 use Rattle.turn.specs.Turn.{WordFits, Followable}
-use Rattle.shelve.specs.Shelve.{Pointed, Turnable, Turned, Readied, DidShelve}
+use Rattle.shelve.specs.Limit.{beyond, limited, Settling, Settled}
+use Rattle.shelve.specs.Shelve.{Pointed, Turnable, TurnedIf, TurnedOr, Readied, DidShelve}
 
 pub prev-fits : (n l : ℕ) (ws : List ℕ) → Pointed n l ws → (j : ℕ) → j < length ws → WordFits n l (getD ws j 0)
 prev-fits n l ws p j h =
     subst (λ (x : List ℕ). WordFits n l (getD x j 0)) (sym (p .says))
     (words-fit n l (map wordToPointer ws) (p .good) j (subst (λ (x : List ℕ). j < length x) (p .says) h))
 
-module _ (m : Measures) (image pool ws prev : List ℕ) (t : Turnable m image pool ws prev) where
+module _ (m : Measures) (image pool ws prev placed : List ℕ) (t : Turnable m image pool ws prev placed) (out : List ℕ) (count segments : ℕ) where
+  abbrev blocks : List Block
+  blocks = imageBlocks (m .blockBytes) image
+
+  abbrev shelf : Shelf
+  shelf = shelfIn m pool ws
+
   abbrev ps : List Pointer
-  ps = turning withBlanks (shelfIn m pool ws) (imageBlocks (m .blockBytes) image) (map wordToPointer prev)
+  ps = turning withBlanks shelf blocks (map wordToPointer prev)
 
   good : Each (Followable (m .segmentBlocks) (length ws)) ps
-  good = turning-good (m .segmentBlocks) (length ws) (shelfIn m pool ws) (imageBlocks (m .blockBytes) image) (map wordToPointer prev) (t .pointers .good)
+  good = turning-good (m .segmentBlocks) (length ws) shelf blocks (map wordToPointer prev) (t .pointers .good)
 
-  -- those that turn can be let go
-  pub turned-lead : (out : List ℕ) → out ≡ map pointerWord ps → (i : ℕ) → i < length out → Fits (m .segmentBlocks) (length ws) (wordToPointer (getD out i 0))
-  turned-lead out e i h =
-      subst (λ (x : List ℕ). Fits (m .segmentBlocks) (length ws) (wordToPointer (getD x i 0))) (sym e)
-      (words-fit (m .segmentBlocks) (length ws) ps good i (subst (λ (x : List ℕ). i < length x) e h) .fits)
+  module _ (e : take count out ≡ map pointerWord ps) (q : segments ≡ segmentsIn m image) where
+    -- those that turn are the first of the list
+    gone-is : map wordToPointer (take count out) ≡ ps
+    gone-is = ap (map wordToPointer) e ∙ words-back (m .segmentBlocks) (length ws) ps good
 
-  pub turned-swept : (out pool′ ws′ prev′ : List ℕ) → out ≡ map pointerWord ps
-      → Told m pool′ ws′ (sweep m (release (shelfIn m pool ws) (map wordToPointer out)))
-      → prev′ ≡ map pointerWord (turn withBlanks (shelfIn m pool ws) (imageBlocks (m .blockBytes) image) (map wordToPointer prev))
-      → Turned m (shelfIn m pool ws) (imageBlocks (m .blockBytes) image) (map wordToPointer prev) pool′ ws′ prev′
-  turned-swept out pool′ ws′ prev′ e d w = record {
-    told =
-        subst (λ (qs : List Pointer). Told m pool′ ws′ (sweep m (release (shelfIn m pool ws) qs)))
-        (ap (map wordToPointer) e ∙ words-back (m .segmentBlocks) (length ws) ps good) d;
-    words = w;
-  }
+    lead : (i : ℕ) → i < length (take count out) → Fits (m .segmentBlocks) (length ws) (wordToPointer (getD (take count out) i 0))
+    lead i h =
+        subst (λ (x : List ℕ). Fits (m .segmentBlocks) (length ws) (wordToPointer (getD x i 0))) (sym e)
+        (words-fit (m .segmentBlocks) (length ws) ps good i (subst (λ (x : List ℕ). i < length x) e h) .fits)
+
+    -- they can be let go, and claimed back
+    pub turned-settling : count ≤ length prev → length out ≡ 1024 → Settling m pool ws out count placed segments
+    turned-settling h l = record {
+      stored = t .stored;
+      few = omega (arith, h, t .pointers .few);
+      within = omega (arith, h, l, t .pointers .few);
+      leads = lead;
+      suffices = subst (Suffices (recordsIn (m .segmentBlocks) ws)) (sym gone-is) (turning-suffices withBlanks shelf blocks (recordsIn (m .segmentBlocks) ws) (map wordToPointer prev) (t .suffices));
+      counts = t .counts;
+      inside = omega (arith, q, few-segments m image (t .stored .measured) (t .short), t .placings);
+    }
+
+    pub turned-settled : (others most r : ℕ) (pool′ ws′ prev′ : List ℕ)
+        → Settled (beyond others most m shelf (map wordToPointer (take count out))) m shelf (map wordToPointer (take count out)) (undoUpto m placed segments shelf) r pool′ ws′
+        → prev′ ≡ map pointerWord (turn withBlanks shelf blocks (map wordToPointer prev)) → TurnedOr others most m image shelf (map wordToPointer prev) placed r pool′ ws′ prev′
+    turned-settled others most r pool′ ws′ prev′ d w =
+        go (beyond others most m shelf ps)
+        (subst (λ (k : ℕ). Settled (beyond others most m shelf ps) m shelf ps (undoUpto m placed k shelf) r pool′ ws′) q
+        (subst (λ (qs : List Pointer). Settled (beyond others most m shelf qs) m shelf qs (undoUpto m placed segments shelf) r pool′ ws′) gone-is d))
+      where
+        go : (b : Bool) → Settled b m shelf ps (undoUpto m placed (segmentsIn m image) shelf) r pool′ ws′ → TurnedIf b m shelf blocks (map wordToPointer prev) (undoUpto m placed (segmentsIn m image) shelf) r pool′ ws′ prev′
+        go true x = x
+        go false x = (x .0, record { told = x .1; words = w })
 
 -- ---- after placing
 
-module _ (m : Measures) (image pool ws words prev : List ℕ) (h : Readied m image pool ws words prev) where
+module _ (m : Measures) (image pool ws words prev : List ℕ) (h : Readied m image pool ws words prev) (others most : ℕ) where
   abbrev o : Outcome Placed
   o = placedIn m image pool ws
 
-  module _ (r : ℕ) (pool′ ws′ words′ : List ℕ) (d : DidAll m o r pool ws pool′ ws′ words′) where
-    pub refused-so : (prev′ : List ℕ) → (r ≡ 0 → ⊥) → DidShelve m image (map wordToPointer prev) o r pool ws pool′ ws′ words′ prev′
+  abbrev qs : List Pointer
+  qs = map wordToPointer prev
+
+  abbrev bs : List Block
+  bs = imageBlocks (m .blockBytes) image
+
+  module _ (r : ℕ) (pool′ ws′ placed′ words′ : List ℕ) (d : DidAll m image o r pool ws pool′ ws′ placed′ words′) where
+    pub refused-so : (prev′ : List ℕ) → (r ≡ 0 → ⊥) → DidShelve m image qs (limited others most m bs qs o) r pool ws pool′ ws′ words′ prev′
     refused-so prev′ z = go o refl d
       where
-        go : (x : Outcome Placed) → o ≡ x → DidAll m x r pool ws pool′ ws′ words′ → DidShelve m image (map wordToPointer prev) x r pool ws pool′ ws′ words′ prev′
+        go : (x : Outcome Placed) → o ≡ x → DidAll m image x r pool ws pool′ ws′ placed′ words′ → DidShelve m image qs (limited others most m bs qs x) r pool ws pool′ ws′ words′ prev′
         go (refused n) e q = (q .0, refusal-positive (shelfIn m pool ws) (imageSegments (m .blockBytes) (m .segmentBlocks) image) n e, q .1, q .2)
         go (done p) e q = absurd (z (q .0))
 
-    pub turnable-so : r ≡ 0 → Turnable m image pool′ ws′ prev
-    turnable-so z = go o refl d
+    pub turnable-so : r ≡ 0 → length placed′ ≡ 256 → Turnable m image pool′ ws′ prev placed′
+    turnable-so z l = go o refl d
       where
-        go : (x : Outcome Placed) → o ≡ x → DidAll m x r pool ws pool′ ws′ words′ → Turnable m image pool′ ws′ prev
+        go : (x : Outcome Placed) → o ≡ x → DidAll m image x r pool ws pool′ ws′ placed′ words′ → Turnable m image pool′ ws′ prev placed′
         go (refused n) e q = absurd (omega (arith, z, q .0, refusal-positive (shelfIn m pool ws) (imageSegments (m .blockBytes) (m .segmentBlocks) image) n e))
-        go (done p) e q = record {
-          short = h .ready .most;
-          stored = placed-stored m image pool ws (h .ready .stored) (h .fits) p e pool′ ws′ (q .1 .told);
-          pointers = subst (λ (l : ℕ). Pointed (m .segmentBlocks) l prev) (sym (placed-words m image pool ws (h .ready .stored) (h .fits) p e pool′ ws′ (q .1 .told))) (h .pointers);
-        }
+        go (done p) e q =
+            let is : recordsIn (m .segmentBlocks) ws′ ≡ p .shelf .records = sym (records-of m pool′ ws′) ∙ ap (λ (x : Shelf). x .records) (placed-shelf m image pool ws (h .ready .stored) (h .fits) p e pool′ ws′ (q .1 .told)) in
+            record {
+              short = h .ready .most;
+              stored = placed-stored m image pool ws (h .ready .stored) (h .fits) p e pool′ ws′ (q .1 .told);
+              pointers = subst (λ (l : ℕ). Pointed (m .segmentBlocks) l prev) (sym (placed-words m image pool ws (h .ready .stored) (h .fits) p e pool′ ws′ (q .1 .told))) (h .pointers);
+              suffices = subst (λ (x : List Segment). Suffices x qs) (sym is) (placed-enough m image pool ws (h .ready .stored) (h .fits) p e qs (rw (records-of m pool ws) (h .suffices)));
+              counts = subst (Countable 2147483904) (sym is) (q .1 .counts);
+              placings = l;
+            }
 
-    pub shelved-so : r ≡ 0 → (pool″ ws″ prev″ : List ℕ)
-        → Turned m (shelfIn m pool′ ws′) (imageBlocks (m .blockBytes) image) (map wordToPointer prev) pool″ ws″ prev″
-        → DidShelve m image (map wordToPointer prev) o 0 pool ws pool″ ws″ words′ prev″
-    shelved-so z pool″ ws″ prev″ t = go o refl d
+    pub shelved-so : r ≡ 0 → (r′ : ℕ) (pool″ ws″ prev″ : List ℕ) → TurnedOr others most m image (shelfIn m pool′ ws′) qs placed′ r′ pool″ ws″ prev″
+        → DidShelve m image qs (limited others most m bs qs o) r′ pool ws pool″ ws″ words′ prev″
+    shelved-so z r′ pool″ ws″ prev″ t = go o refl d
       where
-        go : (x : Outcome Placed) → o ≡ x → DidAll m x r pool ws pool′ ws′ words′ → DidShelve m image (map wordToPointer prev) x 0 pool ws pool″ ws″ words′ prev″
+        go : (x : Outcome Placed) → o ≡ x → DidAll m image x r pool ws pool′ ws′ placed′ words′ → DidShelve m image qs (limited others most m bs qs x) r′ pool ws pool″ ws″ words′ prev″
         go (refused n) e q = absurd (omega (arith, z, q .0, refusal-positive (shelfIn m pool ws) (imageSegments (m .blockBytes) (m .segmentBlocks) image) n e))
-        go (done p) e q = (
-          refl,
-          subst (λ (s : Shelf). Turned m s (imageBlocks (m .blockBytes) image) (map wordToPointer prev) pool″ ws″ prev″) (placed-shelf m image pool ws (h .ready .stored) (h .fits) p e pool′ ws′ (q .1 .told)) t,
-          q .1 .pointers,
-        )
+        go (done p) e q =
+            either (beyond others most m (p .shelf) (turning withBlanks (p .shelf) bs qs))
+            (subst (λ (s : Shelf). TurnedOr others most m image s qs placed′ r′ pool″ ws″ prev″) (placed-shelf m image pool ws (h .ready .stored) (h .fits) p e pool′ ws′ (q .1 .told)) t)
+          where
+            either : (b : Bool) → TurnedIf b m (p .shelf) bs qs (undoUpto m placed′ (segmentsIn m image) (p .shelf)) r′ pool″ ws″ prev″
+                → DidShelve m image qs (cond b (refused 21) (done p)) r′ pool ws pool″ ws″ words′ prev″
+            either true x =
+                let b : Told m pool″ ws″ (shelfIn m pool ws) = subst (Told m pool″ ws″) (q .1 .back) (x .1) in
+                (x .0, lit< tt, b .cells .joins ∙ sym (h .ready .stored .told .cells .joins), b .records .words ∙ sym (h .ready .stored .told .records .words))
+            either false x = (x .0, x .1, q .1 .pointers)

@@ -28,6 +28,7 @@ use restore::Restored;
 use retire::Retired;
 use rights::Right;
 use rights::Rights;
+use shelve::Limit;
 use stream_write::StreamWritten;
 use tally::Tally;
 use tills::Listing;
@@ -54,7 +55,7 @@ pub fn backup(pool: &mut [u8], table: &mut [u32], user: u32, till: u32, image: &
             version: 0,
         };
     }
-    user_calls::backup(pool, table, user, till, image)
+    user_calls::backup(pool, table, user, till, image, Limit::none())
 }
 
 // With a day for the new version.
@@ -74,7 +75,7 @@ pub fn backup_dated(
             version: 0,
         };
     }
-    user_calls::backup_dated(pool, table, user, till, day, image)
+    user_calls::backup_dated(pool, table, user, till, day, image, Limit::none())
 }
 
 pub fn restore(
@@ -229,6 +230,7 @@ pub fn backup_sent(
         fingerprints,
         marks,
         segments,
+        Limit::none(),
     )
 }
 
@@ -250,7 +252,7 @@ pub fn backup_all(
             versions: [0u32; 16],
         };
     }
-    closing_backup::back_up_all(pool, table, user, tills, lengths, images)
+    closing_backup::back_up_all(pool, table, user, tills, lengths, images, Limit::none())
 }
 
 // The owner sets what another user may do with a till. The answer is the refusal, or 0.

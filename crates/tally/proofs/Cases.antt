@@ -3,11 +3,11 @@ use mathlib.Core.Path.{_≡_, refl, sym, ap, _∙_, subst}
 use mathlib.Core.Bool.{cond, not}
 use mathlib.Core.List.{List, [], _∷_, _++_, map}
 use Prim.Native.Nat.{ℕ, zero, suc, _+_, _*_, _-_, _/_, _≤_, _<_}
-use native.Mathlib.Nat.{zero-add, zero-mul, suc-mul, mul-le-mul, mul-le-mul-right}
+use native.Mathlib.Nat.{zero-add, add-zero, zero-mul, suc-mul, mul-le-mul, mul-le-mul-right}
 use native.Mathlib.Omega.{arith}
 use lib.ListN.{length, getD, take, drop, length-append, length-map}
 use lib.Count.{ones}
-use lib.Seq.{drop-at, drop-drop}
+use lib.Seq.{drop-at, drop-drop, getD-take, getD-drop}
 use Rattle.lists.specs.Lists.{every, count, total}
 use Rattle.lists.specs.Each.{Each}
 use Rattle.lists.specs.Masks.{maskOf}
@@ -21,7 +21,7 @@ use Rattle.model.specs.Measures.{Measures, recordWords, tableWords}
 use Rattle.model.specs.State.{nullPosition, blankPosition, held, removed, Segment}
 use Rattle.model.specs.Records.{isHeld, isRemoved, isFree, cellOf, cellsOf, namedCells, countOf, isBlankPosition}
 use Rattle.model.specs.Table.{recordToWords, segmentIn, recordsIn, shapeOf, stateIn, shelfIn, recordsPart}
-use Rattle.model.specs.Calls.{tallyIn, tallyOf}
+use Rattle.model.specs.Calls.{TallyAnswer, tallyIn, tallyOf}
 use Rattle.laws.proofs.Bounds.{counts-most}
 use Rattle.laws.proofs.RoundTrip.{length-record, segment-back, records-part}
 use Rattle.laws.specs.Stores.{recordsFrom, Sound}
@@ -157,6 +157,21 @@ module _ (n w : ℕ) (ew : w ≡ recordWords n) (most : n ≤ 16) (ws : List ℕ
       few = omega (arith, ap (total countOf) segment-is, total-one k segs inside, h .few);
     }
 
+    -- the row's first word is its mask of held positions
+    mask-is : getD ws (k * w) 0 ≡ maskOf isHeld (getD segs k [])
+    unfolding recordToWords
+    mask-is =
+        sym (getD-take (k * w + w - k * w) (drop (k * w) ws) 0 0 (omega (arith, ew)) ∙ getD-drop (k * w) ws 0 0 ∙ ap (λ (j : ℕ). getD ws j 0) (add-zero (k * w)))
+        ∙ ap (λ (xs : List ℕ). getD xs 0 0) row-is
+
+    pub cells-next : (c : ℕ) → c + length (namedCells (drop k segs)) ≡ length (namedCells segs)
+        → ((c + ones (getD ws (k * w) 0)) + length (namedCells (drop (k + 1) segs)) ≡ length (namedCells segs)) × (c + ones (getD ws (k * w) 0) ≤ 65536)
+    cells-next c g =
+        let d = ap (λ (xs : List Segment). length (namedCells xs)) (drop-next segs k [] inside) in
+        let o : ones (getD ws (k * w) 0) ≡ length (cellsOf (getD segs k [])) = ap ones mask-is ∙ ones-mask isHeld (getD segs k []) ∙ held-cells (getD segs k []) in
+        let e = named-next (getD segs k []) (drop (k + 1) segs) in
+        (omega (arith, g, d, o, e), omega (arith, g, d, o, e, named-most n segs (h .told .sized), mul-le-mul few-records most))
+
     module _ (c r m : ℕ) (g : Going segs k c r m) (one : Tally) (o : Counts (segmentIn n row) one) where
       next : drop k segs ≡ getD segs k [] ∷ drop (k + 1) segs
       next = drop-next segs k [] inside
@@ -185,6 +200,13 @@ module _ (n w : ℕ) (ew : w ≡ recordWords n) (most : n ≤ 16) (ws : List ℕ
       let b : r ≡ count (λ seg. not (isFree seg)) segs = omega (arith, g .records, ap (count (λ seg. not (isFree seg))) d) in
       let e : m ≡ total (total countOf) segs = omega (arith, g .counts, ap (total (total countOf)) d) in
       λ i. record { refusal = 0; cells = a i; records = b i; counts = e i }
+
+  pub cells-end : (k c : ℕ) → length ws / w ≤ k → c + length (namedCells (drop k segs)) ≡ length (namedCells segs) → (c ≡ length (namedCells segs)) × (c ≤ 65536)
+  unfolding namedCells joined
+  cells-end k c l g =
+      let d : drop k segs ≡ [] = drop-end segs k (omega (arith, l, count-is)) in
+      let a = ap (λ (xs : List Segment). length (namedCells xs)) d in
+      (omega (arith, g, a), omega (arith, g, a, named-most n segs (h .told .sized), mul-le-mul few-records most))
 
 -- ---- a sound store
 
@@ -231,3 +253,6 @@ module _ {pool table : List ℕ} (h : Sound pool table) (at : ℕ) (e : at ≡ r
 
     pub tally-read : tallied (recordsIn (m .segmentBlocks) (take (length table - at) (drop at table))) ≡ tallyOf pool table
     tally-read = rw em tally-is
+
+    pub cells-read : length (namedCells (recordsIn (m .segmentBlocks) (take (length table - at) (drop at table)))) ≡ tallyOf pool table .cells
+    cells-read = ap {B = ℕ} (λ (a : TallyAnswer). a .cells) tally-read

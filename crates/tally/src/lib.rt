@@ -1,6 +1,8 @@
 // The tally: occupied cells, records in use and the sum of all counts.
 ghost use mathlib.Core.Path.{_≡_};
 ghost use Prim.Native.Nat.{_≤_};
+ghost use lib.ListN.{length};
+ghost use Rattle.model.specs.Records.{namedCells};
 ghost use Rattle.model.specs.Table.{segmentIn, recordsIn};
 ghost use Rattle.model.specs.Calls.{tallyOf};
 ghost use Rattle.laws.specs.Stores.{Sound};
@@ -94,4 +96,29 @@ pub fn tally_store(pool: &[u8], table: &[u32]) -> Tally
     let m = layout::measures_in(table);
     let at = tills::records_at(table);
     tally_rows(&table[at..], m.blocks)
+}
+
+// The cells alone: one pass over the records' masks of held positions.
+fn cells_in(words: &[u32], n: usize) -> u32
+    requires { ⌜ (n ≤ 16) × Rows n (now words) ⌝ }
+    ensures { λ r. ⌜ (r ≡ length (namedCells (recordsIn n (now (words .entry))))) × (r ≤ 65536) ⌝ }
+{
+    let width = numbers::row_words(n);
+    let count = numbers::parts(words.len(), width);
+    let mut cells: u32 = 0;
+    let mut k: usize = 0;
+    while k < count {
+        cells = cells + u32::count_ones(words[k * width]);
+        k = k + 1;
+    }
+    cells
+}
+
+pub fn occupied_cells(pool: &[u8], table: &[u32]) -> u32
+    requires { ⌜ Sound (now pool) (now table) ⌝ }
+    ensures { λ r. ⌜ (r ≡ tallyOf (now (pool .entry)) (now (table .entry)) .cells) × (r ≤ 65536) ⌝ }
+{
+    let m = layout::measures_in(table);
+    let at = tills::records_at(table);
+    cells_in(&table[at..], m.blocks)
 }

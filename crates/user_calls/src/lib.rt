@@ -1,9 +1,12 @@
-// The calls of a user on a sound store: who may not make the call is refused with 22 or 23, and everyone else gets the call's own answer.
+// The calls of a user on a sound store: who may not make the call is refused with 22 or 23, and everyone else gets the call's own answer. Those that back
+// up bring the limit of a chain.
 ghost use mathlib.Core.Path.{_≡_};
 ghost use mathlib.Core.Option.{none, some};
+ghost use Prim.Native.Nat.{_≤_};
 ghost use Rattle.model.specs.Image.{withBlanks};
 ghost use Rattle.model.specs.Rights.{backupAs, restoreAs, retireAs, listingAs, versionOnAs, tallyAs};
 ghost use Rattle.laws.specs.Stores.{Sound};
+ghost use Rattle.chain.specs.Limit.{within};
 ghost use Rattle.backup.specs.Call.{backedUpAnswer};
 ghost use Rattle.tills.specs.Answers.{listingAnswer, versionFound};
 ghost use Rattle.restore.specs.Answers.{restoreAnswer};
@@ -20,14 +23,22 @@ use bill_sums::Bill;
 use restore::Restored;
 use retire::Retired;
 use rights::Right;
+use shelve::Limit;
 use stream_write::StreamWritten;
 use tally::Tally;
 use tills::Listing;
 use tills::VersionFound;
 
-pub fn backup(pool: &mut [u8], table: &mut [u32], user: u32, till: u32, image: &[u8]) -> BackedUp
-    requires { ⌜ Sound (now pool) (now table) ⌝ }
-    ensures { λ r. ⌜ backedUpAnswer r (now (pool .exit)) (now (table .exit)) ≡ backupAs withBlanks (now (pool .entry)) (now (table .entry)) user till none (now (image .entry)) ⌝ }
+pub fn backup(
+    pool: &mut [u8],
+    table: &mut [u32],
+    user: u32,
+    till: u32,
+    image: &[u8],
+    limit: Limit,
+) -> BackedUp
+    requires { ⌜ Sound (now pool) (now table) × (limit .others ≤ 524288) ⌝ }
+    ensures { λ r. ⌜ backedUpAnswer r (now (pool .exit)) (now (table .exit)) ≡ within (limit .others) (limit .most) (now (pool .entry)) (now (table .entry)) (backupAs withBlanks (now (pool .entry)) (now (table .entry)) user till none (now (image .entry))) ⌝ }
 {
     let refusal = rights::refusal(pool, table, user, till, Right::BackUp);
     if refusal != 0 {
@@ -36,7 +47,7 @@ pub fn backup(pool: &mut [u8], table: &mut [u32], user: u32, till: u32, image: &
             version: 0,
         };
     }
-    backup::back_up(pool, table, till, image)
+    backup::back_up(pool, table, till, image, limit)
 }
 
 // With a day for the new version.
@@ -47,9 +58,10 @@ pub fn backup_dated(
     till: u32,
     day: u32,
     image: &[u8],
+    limit: Limit,
 ) -> BackedUp
-    requires { ⌜ Sound (now pool) (now table) ⌝ }
-    ensures { λ r. ⌜ backedUpAnswer r (now (pool .exit)) (now (table .exit)) ≡ backupAs withBlanks (now (pool .entry)) (now (table .entry)) user till (some day) (now (image .entry)) ⌝ }
+    requires { ⌜ Sound (now pool) (now table) × (limit .others ≤ 524288) ⌝ }
+    ensures { λ r. ⌜ backedUpAnswer r (now (pool .exit)) (now (table .exit)) ≡ within (limit .others) (limit .most) (now (pool .entry)) (now (table .entry)) (backupAs withBlanks (now (pool .entry)) (now (table .entry)) user till (some day) (now (image .entry))) ⌝ }
 {
     let refusal = rights::refusal(pool, table, user, till, Right::BackUp);
     if refusal != 0 {
@@ -58,7 +70,7 @@ pub fn backup_dated(
             version: 0,
         };
     }
-    backup::back_up_dated(pool, table, till, day, image)
+    backup::back_up_dated(pool, table, till, day, image, limit)
 }
 
 pub fn restore(
@@ -211,9 +223,10 @@ pub fn backup_sent(
     fingerprints: &[u8],
     marks: &[u8],
     segments: &[u8],
+    limit: Limit,
 ) -> BackedUp
-    requires { ⌜ Sound (now pool) (now table) ⌝ }
-    ensures { λ r. ⌜ backedUpAnswer r (now (pool .exit)) (now (table .exit)) ≡ backupSentAs (now (pool .entry)) (now (table .entry)) user till length (now (fingerprints .entry)) (now (marks .entry)) (now (segments .entry)) ⌝ }
+    requires { ⌜ Sound (now pool) (now table) × (limit .others ≤ 524288) ⌝ }
+    ensures { λ r. ⌜ backedUpAnswer r (now (pool .exit)) (now (table .exit)) ≡ within (limit .others) (limit .most) (now (pool .entry)) (now (table .entry)) (backupSentAs (now (pool .entry)) (now (table .entry)) user till length (now (fingerprints .entry)) (now (marks .entry)) (now (segments .entry))) ⌝ }
 {
     let refusal = rights::refusal(pool, table, user, till, Right::BackUp);
     if refusal != 0 {
@@ -222,5 +235,14 @@ pub fn backup_sent(
             version: 0,
         };
     }
-    sent_backup::back_up_sent(pool, table, till, length, fingerprints, marks, segments)
+    sent_backup::back_up_sent(
+        pool,
+        table,
+        till,
+        length,
+        fingerprints,
+        marks,
+        segments,
+        limit,
+    )
 }

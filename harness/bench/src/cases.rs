@@ -104,7 +104,7 @@ impl Kept {
     }
 
     /// The same store, where so many tills have room for one version more.
-    fn with_room(&self, tills: usize) -> Kept {
+    pub fn with_room(&self, tills: usize) -> Kept {
         let Kept { name, capacities, .. } = *self;
         let mut kept = Kept { name, capacities, pool: self.pool.clone(), table: self.table.clone() };
         for till in 1..tills as u32 {
@@ -151,11 +151,15 @@ pub fn all() -> Vec<Vec<Case>> {
     [page_cases(), large_cases(), small_cases()].into_iter().flatten().collect()
 }
 
+/// The full store of the page's measures, and the next closing of each till.
+pub fn full() -> (Rc<Kept>, Vec<Vec<u8>>) {
+    Kept::of_dense("full", Capacities::LARGEST, Fill { tills: 16, length: 65_536, changes: 2 })
+}
+
 fn page_cases() -> Vec<Vec<Case>> {
     let empty = Rc::new(Kept::empty("empty", Capacities::LARGEST));
     let (typical, day) = Kept::of_shop("typical", Capacities::LARGEST);
-    let fill = Fill { tills: 16, length: 65_536, changes: 2 };
-    let (full, long) = Kept::of_dense("full", Capacities::LARGEST, fill);
+    let (full, long) = full();
     let mut of_full = of_store(&full, &long, true);
     let more = [What::Backup { image: long[0].clone() }, What::Sha1];
     of_full.extend(more.map(|what| Case { store: full.clone(), what, passes: None }));

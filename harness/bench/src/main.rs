@@ -3,11 +3,13 @@
 //!
 //! `bench [ROUNDS] [--write]`: with `--write` the run is put into docs/PERFORMANCE.md too.
 //! `bench --backups [--write]`: the same for the tool's backups.
+//! `bench --chain [ROUNDS]`: only the calls on a chain.
 //! `bench --erased`: only what chips that erase to 255 take.
 //! `bench --line [--write]`: only what a till puts on the line, with the picture.
 
 mod backups;
 mod cases;
+mod chain;
 mod erased;
 mod line;
 mod picture;
@@ -29,8 +31,13 @@ fn main() -> io::Result<()> {
     }
     let words: Vec<String> = env::args().skip(1).collect();
     let has = |option: &str| words.iter().any(|word| word == option);
+    let rounds = words.iter().find_map(|word| word.parse().ok()).unwrap_or(25);
     if has("--erased") {
         print!("{}", erased::report());
+        return Ok(());
+    }
+    if has("--chain") {
+        chain::time_all(rounds).iter().for_each(|line| println!("{line}"));
         return Ok(());
     }
     let (report, from) = if has("--backups") {
@@ -40,7 +47,6 @@ fn main() -> io::Result<()> {
         fs::write(docs("line.svg"), line::svg(&closings))?;
         (line::table(&closings), LINE_FROM)
     } else {
-        let rounds = words.iter().find_map(|word| word.parse().ok()).unwrap_or(25);
         let days = space::days();
         fs::write(docs("space.svg"), space::svg(&days))?;
         let space = format!("## Space\n\n{}\n### Erased memory\n\n{}", space::table(&days), erased::report());
@@ -62,12 +68,15 @@ fn time_report(rounds: usize) -> String {
     let mut text = format!("## Time\n\nBest of {rounds}, microseconds.\n\n");
     text += "| store | call | proved | twin | ratio | passes | at most |\n|---|---|---:|---:|---:|---:|---|\n";
     let (mut stores, mut over) = (Vec::new(), Vec::new());
-    for cases in cases::all() {
-        stores.push(cases[0].store.to_string());
-        let lines = timing::time_all(cases, rounds);
+    let mut add = |name: String, lines: Vec<timing::Line>| {
+        stores.push(name);
         lines.iter().for_each(|line| text += &format!("{line}\n"));
         over.extend(lines.iter().flat_map(|line| line.misses()));
+    };
+    for cases in cases::all() {
+        add(cases[0].store.to_string(), timing::time_all(cases, rounds));
     }
+    add(chain::described(), chain::time_all(rounds));
     text += &format!("\nThe stores: {}.\n", stores.join("; "));
     match over.as_slice() {
         [] => text + "\nAll targets are met.\n",

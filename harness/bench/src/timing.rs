@@ -14,6 +14,10 @@ const MOST: f64 = 1.25;
 /// Most that a bill may take of a tally's time.
 const MOST_OF_TALLY: f64 = 1.5;
 
+/// Most that a call on a chain may take of a tally of each store, which is little but its check, and the call on one
+/// alone.
+const MOST_OF_CHECKS: f64 = 1.1;
+
 /// The best times of one call.
 pub struct Line {
     store: &'static str,
@@ -27,8 +31,8 @@ pub struct Line {
     beside: Option<Beside>,
 }
 
-/// Another call of the proved store on the same store, which a call is set beside: a closing beside its images in a call
-/// each, a bill beside a tally.
+/// Other calls of the proved store on the same store, which a call is set beside: a closing beside its images in a call
+/// each, a bill beside a tally, a call on a chain beside calls on its stores.
 struct Beside {
     name: &'static str,
     time: f64,
@@ -76,7 +80,7 @@ fn time(case: Case, rounds: usize) -> Line {
     for round in 0..rounds {
         for turn in 0..3 {
             match (round + turn) % 3 {
-                2 => best[2] = best[2].min(read_pass(&work)),
+                2 => best[2] = best[2].min(read_pass(&work.pool, &work.table)),
                 who => {
                     let store: &dyn Calls = if who == 0 { &Proved } else { &Twin };
                     let (refusal, taken) = once(&case, store, &mut work);
@@ -95,9 +99,9 @@ fn time(case: Case, rounds: usize) -> Line {
         }
     }
     assert_eq!(refusals[0], refusals[1]);
-    let restored = restored.map(|time: Duration| time.as_nanos() as f64 / 1_000.0);
+    let restored = restored.map(micros);
     let refused = if refusals[0] == 0 { String::new() } else { format!(", refused {}", refusals[0]) };
-    let [proved, twin, pass] = best.map(|time| time.as_nanos() as f64 / 1_000.0);
+    let [proved, twin, pass] = best.map(micros);
     let call = case.what.name() + &refused;
     let (store, most_passes) = (case.store.name, case.passes);
     Line { store, call, proved, twin, pass, most_passes, restored, beside: None }
@@ -124,14 +128,26 @@ fn once(case: &Case, store: &dyn Calls, work: &mut Work) -> (u32, Duration) {
 }
 
 /// The least that checking a store can cost: reading it all once.
-fn read_pass(work: &Work) -> Duration {
+pub fn read_pass(pool: &[u8], table: &[u32]) -> Duration {
     let start = Instant::now();
-    black_box(black_box(&work.pool).iter().map(|&byte| byte as u64).sum::<u64>());
-    black_box(black_box(&work.table).iter().map(|&word| word as u64).sum::<u64>());
+    black_box(black_box(pool).iter().map(|&byte| byte as u64).sum::<u64>());
+    black_box(black_box(table).iter().map(|&word| word as u64).sum::<u64>());
     start.elapsed()
 }
 
+fn micros(time: Duration) -> f64 {
+    time.as_nanos() as f64 / 1_000.0
+}
+
 impl Line {
+    /// Of a call on a chain: the proved chain's, the twin's, a pass over all stores, and a tally of each store with the
+    /// call on one alone.
+    pub fn of_chain(store: &'static str, call: String, times: [Duration; 4]) -> Line {
+        let [proved, twin, pass, alone] = times.map(micros);
+        let beside = Beside { name: "a tally of each and the call alone", time: alone, most: Some(MOST_OF_CHECKS) };
+        Line { store, call, proved, twin, pass, most_passes: None, restored: None, beside: Some(beside) }
+    }
+
     fn ratio(&self) -> f64 {
         self.proved / self.twin
     }

@@ -48,19 +48,19 @@ fn too_many(random: &mut Random, collected: &mut Collected) {
     }
 }
 
-/// One image ends, or begins, a byte elsewhere: the sum stays.
-fn shift(lengths: &mut [u32], one: usize, other: usize) {
+/// One part ends, or begins, an element elsewhere: the sum stays.
+pub(crate) fn shift(lengths: &mut [u32], one: usize, other: usize) {
     if lengths[one] > 0 {
         lengths[one] -= 1;
-        lengths[other] += 1;
+        lengths[other] = lengths[other].wrapping_add(1);
     }
 }
 
 /// Two lengths of which the sum is larger by 2^32: right for whoever adds up in 32 bits.
-fn wrap(lengths: &mut [u32], one: usize, other: usize) {
+pub(crate) fn wrap(lengths: &mut [u32], one: usize, other: usize) {
     if one != other {
-        let sum = lengths[one] + lengths[other];
-        (lengths[one], lengths[other]) = (u32::MAX, sum + 1);
+        let sum = lengths[one].wrapping_add(lengths[other]);
+        (lengths[one], lengths[other]) = (u32::MAX, sum.wrapping_add(1));
     }
 }
 

@@ -16,7 +16,7 @@ use terms::{
 };
 
 /// What outputs are filled with before they are lent.
-const UNTOUCHED: u8 = 0xa5;
+pub(crate) const UNTOUCHED: u8 = 0xa5;
 
 /// A store with its two buffers.
 pub struct Lane {
@@ -296,10 +296,8 @@ impl Course {
         kept.for_each(|(till, version)| self.restored(call, till, version));
     }
 
-    /// Cells with a byte other than zero.
-    fn occupied(&self) -> u32 {
-        let cells = self.pool.chunks(self.capacities.block_bytes as usize);
-        cells.filter(|cell| cell.iter().any(|&byte| byte != 0)).count() as u32
+    pub(crate) fn occupied(&self) -> u32 {
+        occupied(&self.pool, self.capacities)
     }
 
     /// The sums are what the table's words have each till owe, and add up to the price of all occupied cells.
@@ -344,13 +342,19 @@ impl Course {
     }
 }
 
+/// Cells with a byte other than zero.
+pub(crate) fn occupied(pool: &[u8], capacities: Capacities) -> u32 {
+    let cells = pool.chunks(capacities.block_bytes as usize);
+    cells.filter(|cell| cell.iter().any(|&byte| byte != 0)).count() as u32
+}
+
 /// Whether an accepted call changes the store.
 fn changes(call: &Call) -> bool {
     files(call) || matches!(call, Call::Retire { .. } | Call::SetRights { .. } | Call::All(_))
 }
 
 /// Whether it files one image.
-fn files(call: &Call) -> bool {
+pub(crate) fn files(call: &Call) -> bool {
     matches!(call, Call::Backup { .. } | Call::Dated { .. } | Call::Earlier { .. } | Call::Sent { .. })
 }
 
@@ -426,10 +430,10 @@ fn answer_by(earlier: Option<Backup>, lane: &mut Lane, user: u32, call: &Call) -
 }
 
 /// The letter of what an image of a closing was answered.
-const IN_A_CLOSING: char = 'c';
+pub(crate) const IN_A_CLOSING: char = 'c';
 
 /// The call's letter in what was met.
-fn letter(call: &Call) -> char {
+pub(crate) fn letter(call: &Call) -> char {
     match call {
         Call::TableLength(_) => 'l',
         Call::LayOut(_) => 'o',

@@ -2,9 +2,12 @@
 //! course that puts one list of calls to several stores and the keeper and compares all they answer and leave.
 
 pub mod apart;
+pub mod beside;
 pub mod bills;
 pub mod blanks;
 pub mod calls;
+pub mod chain;
+pub mod chains;
 pub mod closings;
 pub mod collected;
 pub mod collision;
@@ -13,18 +16,21 @@ pub mod dated;
 pub mod day;
 pub mod days;
 pub mod dense;
+pub mod disks;
 pub mod events;
 mod expected;
 pub mod flash;
 pub mod images;
 pub mod inspect;
 pub mod keys;
+pub mod limits;
 pub mod lookups;
 pub mod messages;
 pub mod retires;
 pub mod sent;
 pub mod settings;
 pub mod sketch;
+pub mod small;
 pub mod staff;
 pub mod stock;
 pub mod together;

@@ -13,11 +13,14 @@ struct Scene {
     prepare: fn(&Bench),
 }
 
-const SCENES: [Scene; 15] = [
+const SCENES: [Scene; 18] = [
     Scene { name: "init", line: "init new --tills 2 --blocks 16 --cells 64 --records 8", file: "new", prepare: |_| {} },
     Scene { name: "backup", line: "backup s 0 image", file: "s", prepare: |_| {} },
     Scene { name: "dated", line: "backup s 0 image --day 7", file: "s", prepare: |_| {} },
     Scene { name: "closing", line: "closing s 0=image 1=image", file: "s", prepare: |_| {} },
+    Scene { name: "chained", line: "backup s 0 image --with t --limit 20", file: "s", prepare: second },
+    Scene { name: "chained-closing", line: "closing s 1=image --with t --limit 99", file: "s", prepare: second },
+    Scene { name: "over-limit", line: "backup s 0 image --with t --limit 1", file: "s", prepare: second },
     Scene { name: "backup-sent", line: "backup-sent s 0 message", file: "s", prepare: message },
     Scene { name: "offer", line: "offer s 0 prints out", file: "out", prepare: message },
     Scene { name: "retire", line: "retire s 0 1", file: "s", prepare: |_| {} },
@@ -40,6 +43,12 @@ const SCENES: [Scene; 15] = [
     },
     Scene { name: "refused", line: "backup s 7 image", file: "s", prepare: |_| {} },
 ];
+
+/// Another store on the disk, with three cells occupied.
+fn second(bench: &Bench) {
+    bench.run("init t --tills 1 --blocks 16 --cells 64 --records 8").accepted();
+    bench.fed("backup t 0 -", &letters("xyz")).accepted();
+}
 
 /// Till 0 holds as many versions as it can.
 fn filled(bench: &Bench) {
@@ -64,6 +73,11 @@ impl Scene {
         bench
     }
 
+    /// Whether the store refuses it.
+    fn is_refused(&self) -> bool {
+        ["refused", "over-limit"].contains(&self.name)
+    }
+
     /// The file before the run, if there is one, and after it.
     fn old_and_new(&self) -> [Option<Vec<u8>>; 2] {
         let bench = self.bench("whole", 0);
@@ -86,7 +100,7 @@ impl Scene {
         assert!(again.status.is_some(), "{again:?}");
         let made = ["init", "grow"].contains(&self.name) && again.err.contains("exists already");
         let retired = self.name == "retire" && again.err.contains("refused, 18");
-        assert!(again.status == Some(0) || self.name == "refused" || made || retired, "{again:?}");
+        assert!(again.status == Some(0) || self.is_refused() || made || retired, "{again:?}");
         bench.fed("backup s 1 -", &letters("QQQ")).accepted();
         assert!(bench.drafts().is_empty(), "{:?}", bench.names());
     }
@@ -115,7 +129,7 @@ fn killed_at_every_step() {
     for scene in SCENES {
         let met = killed_everywhere(&scene);
         match scene.name {
-            "refused" => assert_eq!(met, [0, 1]), // the old file is the new one
+            _ if scene.is_refused() => assert_eq!(met, [0, 1]), // the old file is the new one
             "leftover" => assert!(met[0] >= 6 && met[1] == 2, "{met:?}"),
             // create, write, its middle, sync and rename before the change; sync of the folder and the end after it
             name => assert_eq!(met, [5, 2], "{name}"),
@@ -132,7 +146,7 @@ fn failing_at_every_step() {
             let bench = scene.bench("fail", n);
             let run = bench.run_with(scene.line, "LURDEMPOS_FAIL_AT", n);
             let left = !bench.drafts().is_empty();
-            if run.err.is_empty() || scene.name == "refused" && run.status == Some(1) {
+            if run.err.is_empty() || scene.is_refused() && run.status == Some(1) {
                 break;
             }
             if run.err.contains("its folder could not be synced") {

@@ -31,6 +31,10 @@ impl Fields<BILL_NUMBERS> for Bill {
         numbers[1..].copy_from_slice(&self.sums);
         numbers
     }
+
+    fn of_fields([_, sums @ ..]: [u32; BILL_NUMBERS]) -> Bill {
+        Bill { sums }
+    }
 }
 
 #[cfg(test)]

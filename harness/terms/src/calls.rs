@@ -74,20 +74,28 @@ pub trait Calls {
 /// A backup alone, such as one by an earlier rule, when there were no users.
 pub type Backup = fn(&mut [u8], &mut [u32], u32, &[u8]) -> [u32; 2];
 
-/// An accepted answer as bare numbers.
+/// An accepted answer as bare numbers, and back.
 pub trait Fields<const N: usize> {
     fn fields(self) -> [u32; N];
+    /// From the fields behind the refusal's, which is 0.
+    fn of_fields(fields: [u32; N]) -> Self;
 }
 
 impl Fields<1> for () {
     fn fields(self) -> [u32; 1] {
         [0]
     }
+
+    fn of_fields(_: [u32; 1]) {}
 }
 
 impl Fields<2> for u32 {
     fn fields(self) -> [u32; 2] {
         [0, self]
+    }
+
+    fn of_fields([_, one]: [u32; 2]) -> u32 {
+        one
     }
 }
 
@@ -95,17 +103,29 @@ impl Fields<3> for Restored {
     fn fields(self) -> [u32; 3] {
         [0, self.length, self.hops]
     }
+
+    fn of_fields([_, length, hops]: [u32; 3]) -> Restored {
+        Restored { length, hops }
+    }
 }
 
 impl Fields<4> for Listing {
     fn fields(self) -> [u32; 4] {
         [0, self.oldest, self.newest, self.last]
     }
+
+    fn of_fields([_, oldest, newest, last]: [u32; 4]) -> Listing {
+        Listing { oldest, newest, last }
+    }
 }
 
 impl Fields<4> for Tally {
     fn fields(self) -> [u32; 4] {
         [0, self.cells, self.records, self.counts]
+    }
+
+    fn of_fields([_, cells, records, counts]: [u32; 4]) -> Tally {
+        Tally { cells, records, counts }
     }
 }
 
@@ -115,4 +135,17 @@ pub fn numbers<const N: usize>(answer: Result<impl Fields<N>, Refusal>) -> [u32;
         |refusal| std::array::from_fn(|i| if i == 0 { refusal.number() } else { 0 }),
         |accepted| accepted.fields(),
     )
+}
+
+/// The answer that bare numbers are.
+pub fn answer<const N: usize, T: Fields<N>>(numbers: [u32; N]) -> Result<T, Refusal> {
+    accepted(numbers[0]).map(|()| T::of_fields(numbers))
+}
+
+/// The refusal of this number, or none for 0.
+pub fn accepted(number: u32) -> Result<(), Refusal> {
+    match number {
+        0 => Ok(()),
+        _ => Err(Refusal::from_number(number).expect("the page has this number")),
+    }
 }

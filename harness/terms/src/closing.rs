@@ -1,6 +1,6 @@
 //! A closing: the images of several tills, which one call files.
 
-use crate::{Fields, Refusal};
+use crate::{accepted, Fields, Refusal};
 
 /// Most images that one closing can have.
 pub const MOST_IMAGES: usize = 16;
@@ -60,11 +60,18 @@ impl Fields<CLOSING_NUMBERS> for Each {
         }
         numbers
     }
+
+    /// One of every place, also of those past the last image.
+    fn of_fields([_, rest @ ..]: [u32; CLOSING_NUMBERS]) -> Each {
+        let (refusals, versions) = rest.split_at(MOST_IMAGES);
+        let one = |(&refusal, &version): (&u32, &u32)| accepted(refusal).map(|()| version);
+        refusals.iter().zip(versions).map(one).collect()
+    }
 }
 
 #[cfg(test)]
 mod tests {
-    use super::{Closing, Collected};
+    use super::{Closing, Collected, MOST_IMAGES};
     use crate::{numbers, Refusal};
 
     #[test]
@@ -79,6 +86,8 @@ mod tests {
         let answer = numbers(Ok(vec![Ok(7), Err(Refusal::NoRun), Ok(65_535)]));
         assert_eq!((&answer[..5], &answer[17..21]), (&[0, 0, 16, 0, 0][..], &[7, 0, 65_535, 0][..]));
         assert_eq!(answer.iter().sum::<u32>(), 7 + 16 + 65_535);
+        let back: super::Each = crate::answer(answer).expect("it was accepted");
+        assert_eq!((&back[..4], back.len()), (&[Ok(7), Err(Refusal::NoRun), Ok(65_535), Ok(0)][..], MOST_IMAGES));
         let refused: Result<super::Each, Refusal> = Err(Refusal::ImageLength);
         let answer = numbers(refused);
         assert_eq!((answer[0], answer[1..].iter().sum::<u32>()), (4, 0));

@@ -3,14 +3,16 @@
 mod bill;
 mod calls;
 mod capacities;
+mod chain;
 mod closing;
 mod refusal;
 mod rights;
 mod sending;
 
 pub use bill::{Bill, BILL_NUMBERS, HIGHEST_PRICE, MOST_TILLS};
-pub use calls::{numbers, Backup, Calls, Fields};
+pub use calls::{accepted, answer, numbers, Backup, Calls, Fields};
 pub use capacities::{Capacities, BASE, BLOCK_BYTES, LONGEST_IMAGE, SEGMENT_BLOCKS};
+pub use chain::{ChainCalls, Disk, Part, PartMut, Target, MOST_STORES, NO_LIMIT};
 pub use closing::{Closing, Collected, Each, CLOSING_NUMBERS, MOST_IMAGES};
 pub use refusal::Refusal;
 pub use rights::{Right, Rights, OWNER, USERS};

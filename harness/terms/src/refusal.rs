@@ -3,7 +3,8 @@
 use std::fmt;
 
 /// A refusal, with the page's number as its value and the page's words as its text. 13 and 15 are no longer
-/// answered.
+/// answered. A chain has 1 for no store, more than eight or lists of unequal count, 10 for lengths that do not add up or
+/// any unsound store, and 3 for a store number outside it.
 #[derive(Clone, Copy, Debug, PartialEq, Eq, PartialOrd, Ord, Hash)]
 #[repr(u32)]
 pub enum Refusal {
@@ -21,6 +22,7 @@ pub enum Refusal {
     NoLongerHeld = 18,
     OtherSegment = 19,
     NoSegment = 20,
+    OverLimit = 21,
     UnknownUser = 22,
     NoRight = 23,
     StreamSize = 24,
@@ -33,7 +35,7 @@ pub enum Refusal {
 }
 
 impl Refusal {
-    pub const ALL: [Refusal; 23] = [
+    pub const ALL: [Refusal; 24] = [
         Refusal::Capacity,
         Refusal::Lengths,
         Refusal::NoSuchTill,
@@ -48,6 +50,7 @@ impl Refusal {
         Refusal::NoLongerHeld,
         Refusal::OtherSegment,
         Refusal::NoSegment,
+        Refusal::OverLimit,
         Refusal::UnknownUser,
         Refusal::NoRight,
         Refusal::StreamSize,
@@ -90,6 +93,7 @@ impl Refusal {
                 "a sent segment with another fingerprint, or a sent or had one with a byte other than zero after the length"
             }
             Refusal::NoSegment => "a segment neither sent nor had",
+            Refusal::OverLimit => "a backup after which the chain would have more cells occupied than its limit",
             Refusal::UnknownUser => "an unknown user, or a change to user 0's rights",
             Refusal::NoRight => "a missing right",
             Refusal::StreamSize => "a stream too short or too long",
@@ -122,7 +126,7 @@ mod tests {
         for refusal in Refusal::ALL {
             assert_eq!(Refusal::from_number(refusal.number()), Some(refusal));
         }
-        for number in [0, 6, 7, 8, 9, 13, 15, 21, 31, u32::MAX] {
+        for number in [0, 6, 7, 8, 9, 13, 15, 31, u32::MAX] {
             assert_eq!(Refusal::from_number(number), None);
         }
     }

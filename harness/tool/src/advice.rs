@@ -3,11 +3,12 @@
 use crate::arguments::Named;
 use crate::calendar;
 use crate::names::{quoted, shown};
+use crate::store::Store;
 use crate::words::{bytes, cents, counted};
 use crate::{image, numbers, rights, table, Failure};
 use lurdempos::{
-    Capacities, Listing, Message, Refusal, Right, Store, FINGERPRINT, HIGHEST_PRICE, LAST_NUMBER, LONGEST_IMAGE,
-    MOST_IMAGES, MOST_SEGMENTS, OWNER, USERS,
+    Capacities, Listing, Message, Refusal, Right, FINGERPRINT, HIGHEST_PRICE, LAST_NUMBER, LONGEST_IMAGE, MOST_IMAGES,
+    MOST_SEGMENTS, OWNER, USERS,
 };
 use std::collections::HashSet;
 use std::path::Path;
@@ -84,6 +85,7 @@ impl<'a> Call<'a> {
             Refusal::StreamSize | Refusal::StreamLength | Refusal::StreamBits => unforeseen(),
             // A bill names no till.
             Refusal::HighPrice => unforeseen(),
+            Refusal::OverLimit => self.over_limit(),
             Refusal::OtherSegment | Refusal::NoSegment => return self.message_refused(refusal, "the message"),
         };
         Failure::refused(refusal, here, advice)
@@ -254,6 +256,27 @@ impl<'a> Call<'a> {
             false => format!("go on in a larger store: `lurdempos grow {} NEW {option} N`", quoted(self.file)),
         };
         (here, format!("retire the oldest versions of any till, which frees room, or {larger}."))
+    }
+
+    /// The cells that are occupied are the tally's, and so told to the owner alone.
+    fn over_limit(&self) -> (String, String) {
+        let Some((chained, limit)) = self.store.in_chain().and_then(|chained| Some((chained, chained.limit?))) else {
+            return unforeseen();
+        };
+        let (all, they, of_them) = match chained.stores() {
+            1 => ("the store".into(), "it", ""),
+            stores => (format!("the {stores} stores together"), "they", " of any of them"),
+        };
+        let (before, tells) = match self.by.user {
+            OWNER => (
+                format!("; before this run {they} occupied {}", chained.before),
+                "; `--dry-run` without --limit tells how many it takes",
+            ),
+            _ => (String::new(), ""),
+        };
+        let limit = counted(limit, "cell");
+        let here = format!("with this image {all} would occupy more than the {limit} of --limit{before}");
+        (here, format!("retire old versions{of_them}, which frees cells, or give a higher --limit{tells}."))
     }
 
     fn retire_oldest(&self) -> String {

@@ -2,7 +2,7 @@
 
 use crate::calendar::{self, NoDay};
 use crate::names::{quoted, shown};
-use crate::syntax::{Argument, Command, Opt, Takes, DAY, USER};
+use crate::syntax::{Argument, Command, Opt, Takes, DAY, USER, WITH};
 use crate::{streams, Failure};
 use lurdempos::OWNER;
 use std::ffi::{OsStr, OsString};
@@ -50,7 +50,7 @@ impl Arguments {
         let (name, attached) = (parts.next().unwrap_or_default(), parts.next());
         let known = self.command.all_options().find(|option| name == option.name);
         match known.filter(|option| option.has_value() || attached.is_none()) {
-            Some(option) if self.has(option.name) || self.value(option.name).is_some() => {
+            Some(option) if !option.repeated && (self.has(option.name) || self.value(option.name).is_some()) => {
                 Err(self.wrong(&format!("option {} is given twice", option.name)))
             }
             Some(Opt { name, value: "", .. }) => {
@@ -149,19 +149,43 @@ impl Arguments {
         Ok(path)
     }
 
+    /// The files of several stores, which all arguments name.
+    pub fn stores(&self) -> Result<Vec<&Path>, Failure> {
+        let name = self.name(0);
+        self.words.iter().map(|word| self.store_named(name, word)).collect()
+    }
+
+    /// The files of the other stores on the disk.
+    pub fn others(&self) -> Result<Vec<&Path>, Failure> {
+        let named = self.values.iter().filter(|(name, _)| *name == WITH.name);
+        named.map(|(name, value)| self.store_named(name, value)).collect()
+    }
+
+    fn store_named<'a>(&self, name: &str, word: &'a OsStr) -> Result<&'a Path, Failure> {
+        let path = Path::new(word);
+        if word.is_empty() {
+            return Err(self.wrong(&format!("{name} needs the name of a file")));
+        }
+        self.no_stream(name, Takes::File, path)?;
+        streams::apart_from(path)?;
+        Ok(path)
+    }
+
     /// The argument at this place as a file or a folder, and not as a stream.
     pub fn place(&self, at: usize) -> Result<&Path, Failure> {
         let path = self.path(at)?;
-        if path == Path::new("-") {
-            let what = match self.command.arguments[at].takes {
-                Takes::Folder => "folder",
-                _ => "file",
-            };
-            let name = self.name(at);
-            let words = format!("{name} has to be a {what}; `-` can stand for an image or an output only");
-            return Err(self.wrong(&words));
-        }
+        self.no_stream(self.name(at), self.command.arguments[at].takes, path)?;
         Ok(path)
+    }
+
+    fn no_stream(&self, name: &str, takes: Takes, path: &Path) -> Result<(), Failure> {
+        let what = if takes == Takes::Folder { "folder" } else { "file" };
+        match path == Path::new("-") {
+            true => {
+                Err(self.wrong(&format!("{name} has to be a {what}; `-` can stand for an image or an output only")))
+            }
+            false => Ok(()),
+        }
     }
 
     /// The argument at this place as a number.

@@ -1,7 +1,7 @@
 //! Completions for bash, made from the same table as the help texts.
 
 use crate::commands::COMMANDS;
-use crate::syntax::{Command, Opt, Takes};
+use crate::syntax::{Argument, Command, Opt, Takes};
 
 /// What a right can be: as the words on a command line have it.
 const RIGHTS: &str = "right";
@@ -35,7 +35,7 @@ fn case(command: &Command) -> String {
         let wanted = |option: &&'static Opt| option.has_value() && takes.is_none_or(|takes| option.takes == takes);
         command.all_options().filter(wanted).map(|option| option.name).collect::<Vec<&str>>()
     };
-    let kinds: Vec<&str> = command.arguments.iter().map(|argument| kind(argument.takes)).collect();
+    let kinds: Vec<&str> = command.arguments.iter().map(kind).collect();
     format!(
         "    {}) options='{}' values=' {} ' files=' {} ' folders=' {} ' kinds=({}) ;;\n",
         command.name,
@@ -47,8 +47,9 @@ fn case(command: &Command) -> String {
     )
 }
 
-fn kind(takes: Takes) -> &'static str {
-    match takes {
+fn kind(argument: &Argument) -> &'static str {
+    match argument.takes {
+        Takes::File if argument.repeated => "files",
         Takes::File => "file",
         Takes::Folder => "folder",
         Takes::Version => VERSIONS,
@@ -79,15 +80,15 @@ const TAIL: &str = r#"    if [[ $files == *" $before "* ]]; then
     done
     # A day stands in a version's place.
     [[ " ${COMP_WORDS[*]} " == *' --day '* ]] && kinds=(${kinds[@]/newest/})
-    # Pairs and rights can come again. An equals sign is a word of its own to bash; what follows it is the file.
-    if [[ ${#kinds[@]} != 0 && ${kinds[-1]} == @(pair|right) ]] && ((place >= ${#kinds[@]})); then place=$((${#kinds[@]} - 1)); fi
+    # Pairs, rights and some files can come again. An equals sign is a word of its own to bash; what follows it is the file.
+    if [[ ${#kinds[@]} != 0 && ${kinds[-1]} == @(pair|right|files) ]] && ((place >= ${#kinds[@]})); then place=$((${#kinds[@]} - 1)); fi
     case ${kinds[place]} in
     pair)
         if [[ $word == = ]]; then word=''; elif [[ $before != = ]]; then return; fi
         compopt -o filenames 2> /dev/null
         mapfile -t COMPREPLY < <(compgen -f -- "$word")
         ;;
-    file) compopt -o filenames 2> /dev/null; mapfile -t COMPREPLY < <(compgen -f -- "$word") ;;
+    file|files) compopt -o filenames 2> /dev/null; mapfile -t COMPREPLY < <(compgen -f -- "$word") ;;
     folder) compopt -o filenames 2> /dev/null; mapfile -t COMPREPLY < <(compgen -d -- "$word") ;;
     right) COMPREPLY=($(compgen -W 'list backup restore retire all' -- "$word")) ;;
     newest) COMPREPLY=($(compgen -W newest -- "$word")) ;;

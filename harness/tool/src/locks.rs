@@ -11,7 +11,16 @@ use std::path::Path;
 
 /// Locks the file; false if somebody else has it locked.
 pub fn lock(file: &File) -> io::Result<bool> {
-    match file.try_lock() {
+    is_locked(file.try_lock())
+}
+
+/// The same together with others who only want the file to stay as it is.
+pub fn share(file: &File) -> io::Result<bool> {
+    is_locked(file.try_lock_shared())
+}
+
+fn is_locked(tried: Result<(), TryLockError>) -> io::Result<bool> {
+    match tried {
         Ok(()) => Ok(true),
         Err(TryLockError::WouldBlock) => Ok(false),
         Err(TryLockError::Error(error)) => Err(error),

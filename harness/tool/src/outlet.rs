@@ -26,7 +26,10 @@ impl<'a> Outlet<'a> {
             let words = format!("--json and {what} cannot go to one output; name a file for it");
             return Err(arguments.wrong(&words));
         }
-        output::apart(arguments.store()?, path)?;
+        output::apart(arguments.store()?, "the store itself", path)?;
+        for other in arguments.others()? {
+            output::apart(other, "another store on the disk", path)?;
+        }
         Ok(Outlet { path, stream, force: arguments.has("--force"), patience })
     }
 

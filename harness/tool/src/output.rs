@@ -84,13 +84,13 @@ fn pass_on(path: &Path, bytes: &[u8]) -> Result<(), Failure> {
     opened.and_then(|mut file| file.write_all(bytes)).map_err(|error| Failure::io(path, "could not be written", &error))
 }
 
-/// Wrong use if the output is the store's own file, which would be lost, or a descriptor that leads there.
-pub fn apart(store: &Path, output: &Path) -> Result<(), Failure> {
+/// Wrong use if the output is a store's own file, which would be lost, or a descriptor that leads there.
+pub fn apart(store: &Path, what: &str, output: &Path) -> Result<(), Failure> {
     let (Ok(one), Ok(other)) = (fs::metadata(store), fs::metadata(output)) else {
         return Ok(());
     };
     if same(&one, &other) && output != Path::new("-") {
-        return Err(Failure::usage(format!("{} is the store itself; the output needs another file", shown(output))));
+        return Err(Failure::usage(format!("{} is {what}; the output needs another file", shown(output))));
     }
     Ok(())
 }

@@ -1,16 +1,18 @@
 //! A store in its file: read, or read, changed and replaced.
 
 use crate::attributes::Attributes;
+use crate::disk::{Disk, Targets};
 use crate::draft::{exists, replaced, Draft, Over, PRIVATE, USUAL};
 use crate::files::means;
 use crate::form::{self, decode, encode, Content, Misfit};
 use crate::names::{quoted, shown};
 use crate::patience::Patience;
 use crate::steps::phase;
+use crate::store::Store;
 use crate::target::{cannot_read, refused_access, regular, Target};
 use crate::{advice, locks, Failure};
-use lurdempos::Store;
 use std::fs::{self, File, Metadata, OpenOptions};
+use std::io;
 use std::os::unix::fs::{FileExt, MetadataExt};
 use std::path::Path;
 
@@ -63,19 +65,29 @@ pub struct Change<'a> {
     file: File,
     /// As the file was when it was read.
     metadata: Metadata,
+    /// The others on its disk, which are to stay as they are until this one is written.
+    _others: Vec<File>,
 }
 
 impl<'a> Change<'a> {
-    /// Locks and reads a store.
-    pub fn begin(target: &'a Target, patience: &Patience) -> Result<Change<'a>, Failure> {
+    /// Locks and reads a store, and the others on its disk. All runs lock in one order, by where the files lie, so that
+    /// no two of them wait for each other.
+    pub fn begin(disk: &Disk, targets: &'a Targets, patience: &Patience) -> Result<Change<'a>, Failure> {
+        let Targets { file: target, others } = targets;
+        let (before, behind) = others.split_at(others.partition_point(|other| other.path < target.path));
+        let mut held = hold(before, patience)?;
         let draft = Draft::begin(target, patience, PRIVATE)?;
         let (file, metadata) = lock(target, &draft, patience)?;
         if metadata.nlink() > 1 {
             return Err(several_names(&target.shown, metadata.nlink()));
         }
+        held.extend(hold(behind, patience)?);
         let Opened { store, file, metadata, .. } = sound_store(&target.shown, file, metadata)?;
+        let read = |(other, (file, metadata)): (&Target, _)| sound_store(&other.shown, file, metadata);
+        let others: Vec<Opened> = others.iter().zip(held).map(read).collect::<Result<_, _>>()?;
+        let (others, _others) = others.into_iter().map(|other| (other.store, other.file)).unzip();
         phase("make the call");
-        Ok(Change { store, draft, file, metadata })
+        Ok(Change { store: disk.joined(store, others), draft, file, metadata, _others })
     }
 
     /// Puts the changed store in the old one's place.
@@ -87,25 +99,50 @@ impl<'a> Change<'a> {
     }
 }
 
-/// The store's file, locked, for as long as its name means it.
+/// The store's file, locked.
 ///
-/// The draft's lock is enough among runs of this tool. This one is for others that want the store to stay as it is for
-/// a while, and holds until the folder is synced: the file that is renamed is locked too.
+/// The draft's lock is enough among runs of this tool that change it. This one is for others that want the store to stay
+/// as it is for a while, and holds until the folder is synced: the file that is renamed is locked too.
 fn lock(target: &Target, draft: &Draft, patience: &Patience) -> Result<(File, Metadata), Failure> {
     let failed = |error| refused_access(&target.shown, "cannot be changed", &error);
-    loop {
+    let open = || {
         // For writing too, though nothing is written here: so a file that is write-protected is left alone.
         let file = OpenOptions::new().read(true).write(true).open(&target.path).map_err(failed)?;
         draft.take_after(Attributes { metadata: &file.metadata().map_err(failed)?, file: Some(&file) })?;
-        while !locks::lock(&file).map_err(failed)? {
+        Ok(file)
+    };
+    let (file, metadata) = locked(target, patience, open, locks::lock, failed)?;
+    // Somebody may have given it other rights while this run has waited.
+    draft.take_after(Attributes { metadata: &metadata, file: Some(&file) })?;
+    Ok((file, metadata))
+}
+
+/// Other stores, locked. They are only read, and several runs can have them locked so; who wants to change one waits.
+fn hold(others: &[Target], patience: &Patience) -> Result<Vec<(File, Metadata)>, Failure> {
+    let one = |other: &Target| {
+        let failed = |error| cannot_read(&other.shown, &error);
+        locked(other, patience, || File::open(&other.path).map_err(failed), locks::share, failed)
+    };
+    others.iter().map(one).collect()
+}
+
+/// A file that is opened and locked so, for as long as its name means it.
+fn locked(
+    target: &Target,
+    patience: &Patience,
+    open: impl Fn() -> Result<File, Failure>,
+    lock: impl Fn(&File) -> io::Result<bool>,
+    failed: impl Fn(io::Error) -> Failure,
+) -> Result<(File, Metadata), Failure> {
+    loop {
+        let file = open()?;
+        while !lock(&file).map_err(&failed)? {
             if !patience.pause() {
                 return Err(locks::busy(&target.shown, Some(&file), patience));
             }
         }
-        let metadata = file.metadata().map_err(failed)?;
-        if means(&target.path, &file).map_err(failed)? {
-            // Somebody may have given it other rights while this run has waited.
-            draft.take_after(Attributes { metadata: &metadata, file: Some(&file) })?;
+        let metadata = file.metadata().map_err(&failed)?;
+        if means(&target.path, &file).map_err(&failed)? {
             return Ok((file, metadata));
         }
         // Another file has its name now; if that is a link, it is not for this run to say where it will lead.

@@ -34,6 +34,8 @@ pub struct Opt {
     /// What its value is called; empty for an option that has none.
     pub value: &'static str,
     pub takes: Takes,
+    /// Whether it can be given several times.
+    pub repeated: bool,
     pub about: &'static str,
 }
 
@@ -68,6 +70,16 @@ pub const DAY: Opt =
 
 /// The option of every command that makes a call in somebody's name.
 pub const USER: Opt = Opt::with("--user", "N", "make the call as user N, 0 to 7 (default 0, the owner)");
+
+/// The option of every command that makes a call on a store, for the other stores on its disk.
+pub const WITH: Opt = Opt {
+    repeated: true,
+    ..Opt::with_file("--with", "STORE", "another store on the disk of FILE; up to 7 of them, each after a --with")
+};
+
+/// The option of every command that backs up.
+pub const LIMIT: Opt =
+    Opt::with("--limit", "CELLS", "keep nothing if FILE and all others would then occupy more cells than this");
 
 /// The options of commands that can be tried out.
 pub const DRY_RUN: Opt = Opt::flag("--dry-run", "change nothing; tell what would come of it, with the cells in use");
@@ -109,19 +121,19 @@ impl Argument {
 
 impl Opt {
     pub const fn flag(name: &'static str, about: &'static str) -> Opt {
-        Opt { name, value: "", takes: Takes::Anything, about }
+        Opt { name, value: "", takes: Takes::Anything, repeated: false, about }
     }
 
     pub const fn with(name: &'static str, value: &'static str, about: &'static str) -> Opt {
-        Opt { name, value, takes: Takes::Anything, about }
+        Opt { name, value, takes: Takes::Anything, repeated: false, about }
     }
 
     pub const fn with_file(name: &'static str, value: &'static str, about: &'static str) -> Opt {
-        Opt { name, value, takes: Takes::File, about }
+        Opt { takes: Takes::File, ..Opt::with(name, value, about) }
     }
 
     pub const fn with_folder(name: &'static str, value: &'static str, about: &'static str) -> Opt {
-        Opt { name, value, takes: Takes::Folder, about }
+        Opt { takes: Takes::Folder, ..Opt::with(name, value, about) }
     }
 
     pub fn has_value(&self) -> bool {

@@ -1,7 +1,8 @@
 //! What the words of a sound store's table say about each version and each record (docs/FORMAT.md). Only for stores
 //! that the library has found sound; what the library answers itself is asked of it.
 
-use lurdempos::{Capacities, Rights, Store};
+use crate::store::Store;
+use lurdempos::{Capacities, Rights};
 
 /// Words before the tills.
 pub const HEADER_WORDS: usize = 8;

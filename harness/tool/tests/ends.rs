@@ -106,13 +106,16 @@ fn with_memory(bench: &Bench, kib: u32, line: &str) -> (Option<i32>, String) {
 fn no_memory() {
     let bench = Bench::new("no-memory");
     bench.run("init s").accepted();
+    bench.run("init t").accepted();
     bench.write("image", vec![9; 33_268]);
     std::fs::create_dir(bench.path("tmp")).unwrap();
     for till in 0..6 {
         bench.run(&format!("backup s {till} image")).accepted();
     }
     let before = bench.read("s");
-    for line in ["backup s 3 image", "export-all s out", "salvage s out", "grow s out", "demo"] {
+    let lines =
+        ["backup s 3 image", "backup s 3 image --with t", "export-all s out", "salvage s out", "grow s out", "demo"];
+    for line in lines {
         let mut met = [0, 0];
         for kib in (4_000..60_000).step_by(2_000) {
             let (status, words) = with_memory(&bench, kib, line);
@@ -125,7 +128,7 @@ fn no_memory() {
                 met[1] += 1;
                 continue;
             }
-            assert!(bench.read("s") == before && bench.names() == ["image", "s", "tmp"], "{line} with {kib} KiB");
+            assert!(bench.read("s") == before && bench.names() == ["image", "s", "t", "tmp"], "{line} with {kib} KiB");
             // With hardly any the program cannot be loaded, or Rust's own start fails; the tool has not begun then.
             let begun = words.starts_with("lurdempos: ") && !words.contains("shared libraries");
             assert!(status == Some(3) || !begun, "{line} with {kib} KiB: {status:?} {words}");

@@ -34,15 +34,18 @@ const COMMANDS: [(&str, &[&str]); 16] = [
     ("retire s 0 --keep 1", &["list", "retire"]),
 ];
 
-/// Each command is accepted with the rights that it takes and no others, and refused if one of them is missing.
+/// Each command is accepted with the rights that it takes and no others, and refused if one of them is missing; so it is
+/// with another store on the disk, on which the user has none.
 #[test]
 fn every_command() {
     let bench = shop("keys-commands");
+    bench.run("init other --tills 1 --cells 1 --blocks 1").accepted();
     for line in ["export s 0 1 stream", "fingerprints s a prints", "offer s 0 prints marks", "sent s a marks message"] {
         bench.run(line).accepted();
     }
     let before = bench.read("s");
-    for (line, rights) in COMMANDS {
+    let both = |(line, rights)| ["", " --with other"].map(|with| (format!("{line}{with}"), rights));
+    for (line, rights) in COMMANDS.into_iter().flat_map(both) {
         bench.write("s", &before);
         bench.run(&format!("grant s 0 3 {}", rights.join(" "))).accepted();
         let granted = bench.read("s");

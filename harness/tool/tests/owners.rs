@@ -226,6 +226,26 @@ fn folders_without_access_are_named() {
     assert_eq!(shop.names(), ["closed", "image", "s", "tool"]);
 }
 
+/// Another store on the disk has to be one that this user may read, and no more.
+#[test]
+fn stores_of_others_on_the_disk() {
+    let Some(shop) = Shop::new("owners-disk") else { return };
+    shop.run(0, "init t --tills 1 --blocks 16 --records 8 --cells 64").accepted();
+    shop.give("t", BOB, OTHERS, 0o644);
+    let before = fs::metadata(shop.path("t")).unwrap();
+    shop.run(ALICE, "backup t 0 image --with s").fails(3, &["t: cannot be changed"]);
+    shop.run(ALICE, "backup s 0 image --with t --limit 1").fails(1, &["refused, 21: "]);
+    shop.run(ALICE, "backup s 0 image --with t --limit 2").accepted();
+    shop.run(ALICE, "chain s t").accepted();
+    shop.give("t", BOB, OTHERS, 0o640);
+    for line in ["backup s 0 image --with t", "list s --with t", "chain s t"] {
+        shop.run(ALICE, line).fails(3, &["t: cannot be read", "ask its owner for access to the file"]);
+    }
+    let after = fs::metadata(shop.path("t")).unwrap();
+    assert_eq!((before.ino(), before.mtime_nsec()), (after.ino(), after.mtime_nsec()));
+    assert_eq!(shop.names(), ["image", "s", "t", "tool"], "no draft is left");
+}
+
 /// What a user may not write is not replaced in a folder that the user may write.
 #[test]
 fn outputs_that_a_user_may_not_write() {

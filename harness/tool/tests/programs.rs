@@ -5,7 +5,7 @@ use common::{letters, Bench, Run};
 use std::process::Command;
 
 /// Every command that answers, in an order in which all succeed.
-const LINES: [&str; 32] = [
+const LINES: [&str; 36] = [
     "init n --tills 1",
     "backup s 0 image",
     "backup s 0 image --unless-same",
@@ -31,6 +31,10 @@ const LINES: [&str; 32] = [
     "list s 1",
     "tally s",
     "bill s --price 25",
+    "chain s n",
+    "tally n --with s",
+    "backup n 0 image --with s --limit 99 --dry-run",
+    "backup n 0 image --with s --limit 99",
     "check s",
     "map s",
     "map s --output m.svg",
@@ -215,6 +219,13 @@ fn completions_for_bash() {
     assert_eq!(offered(&bench, &["lurdempos", "map", "s", "--output", "ot"]), ["other"]);
     assert_eq!(offered(&bench, &["lurdempos", "export-all", "s", ""]), ["folder"]);
     assert!(offered(&bench, &["lurdempos", "tally", "--"]).contains(&"--json".to_string()));
+    // Stores can come again.
+    assert_eq!(offered(&bench, &["lurdempos", "chain", "im"]), ["image"]);
+    assert_eq!(offered(&bench, &["lurdempos", "chain", "s", "image", "--user", "0", "ot"]), ["other"]);
+    assert_eq!(offered(&bench, &["lurdempos", "backup", "s", "--with", "ot"]), ["other"]);
+    assert_eq!(offered(&bench, &["lurdempos", "backup", "s", "--with", "x", "0", "--with", "y", "im"]), ["image"]);
+    assert!(offered(&bench, &["lurdempos", "backup", "s", "--limit", ""]).is_empty());
+    assert!(offered(&bench, &["lurdempos", "check", "s", ""]).is_empty());
     // Rights can come again.
     let rights = ["all", "backup", "list", "restore", "retire"];
     for words in

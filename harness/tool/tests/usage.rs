@@ -3,7 +3,7 @@
 mod common;
 use common::Bench;
 
-const COMMANDS: [&str; 25] = [
+const COMMANDS: [&str; 26] = [
     "init",
     "backup",
     "closing",
@@ -14,6 +14,7 @@ const COMMANDS: [&str; 25] = [
     "list",
     "tally",
     "bill",
+    "chain",
     "check",
     "map",
     "export",
@@ -62,7 +63,7 @@ fn no_command() {
 }
 
 /// Wrong lines, and what is said about them.
-const WRONG: [(&str, &str); 77] = [
+const WRONG: [(&str, &str); 88] = [
     ("init", "FILE is missing"),
     ("init n m", "one argument too many: m"),
     ("init n --till 3", "unknown option --till"),
@@ -133,6 +134,17 @@ const WRONG: [(&str, &str); 77] = [
     ("bill s --price", "option --price needs a value, P"),
     ("bill s --price 2.5", "--price has to be a number in plain digits, not `2.5`"),
     ("bill s 0 --price 25", "one argument too many: 0"),
+    ("chain", "FILE is missing"),
+    ("chain -", "FILE has to be a file"),
+    ("chain s s", "s is named twice; name each store once"),
+    ("chain s --limit 9", "unknown option --limit"),
+    ("list s --with", "option --with needs a value, STORE"),
+    ("list s --with=", "--with needs the name of a file"),
+    ("list s --with -", "--with has to be a file"),
+    ("list s --with ./s", "s and ./s are one file; name each store once"),
+    ("backup s 0 image --limit many", "--limit has to be a number in plain digits, not `many`"),
+    ("backup s 0 image --limit 1 --limit 2", "option --limit is given twice"),
+    ("retire s 0 1 --limit 9", "unknown option --limit"),
     ("check", "FILE is missing"),
     ("check -", "FILE has to be a file"),
     ("map s --output", "option --output needs a value"),

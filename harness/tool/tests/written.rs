@@ -37,3 +37,13 @@ fn once_for_all_tills() {
     let bytes = written_by(&bench, &format!("closing s{line}"), &reply);
     assert_eq!((bytes, bench.read("s").len()), (4_586_536, 4_586_536));
 }
+
+/// Of the stores on a disk one is written.
+#[test]
+fn one_store_of_several() {
+    let bench = Bench::new("written-one");
+    ["s", "t"].iter().for_each(|name| drop(bench.run(&format!("init {name}")).accepted().out.clone()));
+    bench.write("image", vec![7; 33_268]);
+    let line = "backup s 3 image --with t --limit 16";
+    assert_eq!(written_by(&bench, line, "till 3: version 1 kept, 33268 bytes\n"), 4_586_536);
+}

@@ -1,14 +1,20 @@
 //! The proved store and the twin, call by call.
 
+pub mod chained;
 pub mod compare;
 pub mod damage;
 pub mod history;
 
 use std::env;
-use terms::Calls;
+use terms::{Calls, ChainCalls};
 
 /// The proved store first, then the twin.
 pub fn stores() -> Vec<Box<dyn Calls>> {
+    vec![Box::new(lurdempos::Proved), Box::new(twin::Twin)]
+}
+
+/// Their chains, in the same order.
+pub fn chains() -> Vec<Box<dyn ChainCalls>> {
     vec![Box::new(lurdempos::Proved), Box::new(twin::Twin)]
 }
 

@@ -2,8 +2,11 @@
 
 use keeper::trial::{self, Trial};
 use std::collections::BTreeSet;
-use terms::{Calls, Capacities, Closing, Refusal, Right, Rights, Sending, BASE, BLOCK_BYTES, OWNER, SEGMENT_BLOCKS};
-use trials::stores;
+use terms::{
+    Calls, Capacities, ChainCalls, Closing, Disk, Refusal, Right, Rights, Sending, Target, BASE, BLOCK_BYTES, OWNER,
+    SEGMENT_BLOCKS,
+};
+use trials::chains;
 use twin::fingerprint_of;
 
 const TILL: usize = 8;
@@ -14,8 +17,13 @@ fn letters(text: &str) -> Vec<u8> {
 
 /// Puts the cases to both stores; answers the numbers met.
 fn numbers(cases: impl Fn(&dyn Calls) -> Vec<(u32, u32)>) -> BTreeSet<u32> {
+    numbers_of_chains(|chain| cases(chain))
+}
+
+/// The same with cases of chains.
+fn numbers_of_chains(cases: impl Fn(&dyn ChainCalls) -> Vec<(u32, u32)>) -> BTreeSet<u32> {
     let mut met = BTreeSet::new();
-    for store in stores() {
+    for store in chains() {
         for (n, (said, expected)) in cases(store.as_ref()).into_iter().enumerate() {
             assert_eq!(said, expected, "case {n} of the {}", store.name());
             met.insert(said);
@@ -465,6 +473,33 @@ fn turns(store: &dyn Calls) -> Vec<(u32, u32)> {
     cases.map(|(record, expected)| (store.turn(record)[0], expected)).collect()
 }
 
+/// A backup on a chain 1, 10, 3, then its own, then 21.
+fn on_chains(chain: &dyn ChainCalls) -> Vec<(u32, u32)> {
+    let one = Trial::new(chain, Capacities::new(1, 2, 16, 1, 4));
+    let part = (&one.pool[..], &one.table[..]);
+    let (two, nine) = (Disk::of([part; 2]), Disk::of([part; 9]));
+    let unequal = Disk { pool_lengths: vec![256], ..two.clone() };
+    let off = Disk { pool_lengths: vec![256, 255], ..two.clone() };
+    let mut unsound = two.clone();
+    unsound.pools[0] = 1;
+    let make = |disk: &Disk, store, limit, till, image: &[u8]| {
+        let mut left = disk.clone();
+        let refusal = chain.chain_backup(&mut left, Target { store, limit }, OWNER, till, image)[0];
+        assert!((refusal != 0) == (left == *disk), "refused with {refusal}");
+        refusal
+    };
+    let mut cases: Vec<(u32, u32)> =
+        [Disk::default(), nine, unequal].iter().map(|disk| (make(disk, 9, 0, 9, &[]), 1)).collect();
+    cases.extend([off, unsound].iter().map(|disk| (make(disk, 9, 0, 9, &[]), 10)));
+    cases.extend([2, 9, u32::MAX].map(|store| (make(&two, store, 0, 9, &[]), 3)));
+    cases.extend([(make(&two, 1, 0, 1, &[]), 3), (make(&two, 1, 0, 0, &[]), 4)]);
+    cases.extend(
+        [("A.......B", 14), ("ABCDE", 16), ("AB", 21)].map(|(text, said)| (make(&two, 1, 1, 0, &letters(text)), said)),
+    );
+    cases.push((make(&two, 1, 2, 0, &letters("AB")), 0));
+    cases
+}
+
 #[test]
 fn every_number() {
     let mut met = numbers(capacities);
@@ -478,6 +513,7 @@ fn every_number() {
     met.extend(numbers(days));
     met.extend(numbers(users));
     met.extend(numbers(turns));
+    met.extend(numbers_of_chains(on_chains));
     let all: BTreeSet<u32> = Refusal::ALL.iter().map(|refusal| refusal.number()).chain([0]).collect();
     assert_eq!(met, all);
 }

@@ -10,13 +10,16 @@ type Sharing = [bool; MOST_TILLS];
 
 /// What each till's share of the storage costs at this price of a cell; for the owner.
 pub fn bill(pool: &[u8], table: &[u32], user: u32, price: u32) -> Result<Bill, Refusal> {
-    let layout = sound::check(pool, table)?.layout;
+    bill_in(&sound::check(pool, table)?.layout, table, user, price)
+}
+
+pub fn bill_in(layout: &Layout, table: &[u32], user: u32, price: u32) -> Result<Bill, Refusal> {
     owned(user)?;
     if price > HIGHEST_PRICE {
         return Err(Refusal::HighPrice);
     }
     let mut bill = Bill::default();
-    cells(&layout, table).iter().for_each(|sharing| divide(price, sharing, &mut bill));
+    cells(layout, table).iter().for_each(|sharing| divide(price, sharing, &mut bill));
     Ok(bill)
 }
 

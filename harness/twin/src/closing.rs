@@ -8,16 +8,21 @@ use terms::{Closing, Each, Refusal, MOST_IMAGES};
 /// checked once, since a backup leaves it sound.
 pub fn backup_all(pool: &mut [u8], table: &mut [u32], user: u32, closing: Closing) -> Result<Each, Refusal> {
     let mut found = sound::check(pool, table)?;
+    each(closing, |till, image| backup_in(&mut found, pool, table, By { user, till }, New::now(image)))
+}
+
+/// What `file` makes of the images of a closing, one after the other.
+pub fn each(closing: Closing, mut file: impl FnMut(u32, &[u8]) -> Result<u32, Refusal>) -> Result<Each, Refusal> {
     if !fits(closing) {
         return Err(Refusal::ImageLength);
     }
     let mut left = closing.images;
-    let file = |(&till, &length): (&u32, &u32)| {
+    let one = |(&till, &length): (&u32, &u32)| {
         let image;
         (image, left) = left.split_at(length as usize);
-        backup_in(&mut found, pool, table, By { user, till }, New::now(image))
+        file(till, image)
     };
-    Ok(closing.tills.iter().zip(closing.lengths).map(file).collect())
+    Ok(closing.tills.iter().zip(closing.lengths).map(one).collect())
 }
 
 /// Whether there are no more images than may be, a till for each, and lengths that add up to the bytes. So few lengths

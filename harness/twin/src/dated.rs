@@ -1,5 +1,6 @@
 //! Versions by their day.
 
+use crate::layout::Layout;
 use crate::users::By;
 use crate::{backup_in, sound, New};
 use terms::{Refusal, Right};
@@ -25,8 +26,11 @@ pub fn backup_dated(
 /// The newest held version of a till that is not after a day. Days need not rise in a sound store, so that all are
 /// looked at, the newest first.
 pub fn version_on(pool: &[u8], table: &[u32], user: u32, till: u32, day: u32) -> Result<u32, Refusal> {
-    let layout = sound::check(pool, table)?.layout;
-    let till = layout.till_of(table, By { user, till }.with(Right::List, &layout, table)?);
+    version_on_in(&sound::check(pool, table)?.layout, table, By { user, till }, day)
+}
+
+pub fn version_on_in(layout: &Layout, table: &[u32], by: By, day: u32) -> Result<u32, Refusal> {
+    let till = layout.till_of(table, by.with(Right::List, layout, table)?);
     let slot = (0..till.held()).rev().find(|&slot| till.day(slot) <= day);
     slot.map(|slot| till.number(slot)).ok_or(Refusal::NoneSoEarly)
 }

@@ -3,6 +3,7 @@
 
 mod bare;
 mod bill;
+mod chain;
 mod closing;
 mod dated;
 mod era;
@@ -62,15 +63,22 @@ pub fn is_sound(pool: &[u8], table: &[u32]) -> bool {
 
 /// Oldest and newest held number of a till, and the last given.
 pub fn listing(pool: &[u8], table: &[u32], user: u32, till: u32) -> Result<Listing, Refusal> {
-    let layout = sound::check(pool, table)?.layout;
-    let till = layout.till_of(table, By { user, till }.with(Right::List, &layout, table)?);
+    listing_in(&sound::check(pool, table)?.layout, table, By { user, till })
+}
+
+/// The same in a store that was found sound, as all that are named so.
+fn listing_in(layout: &Layout, table: &[u32], by: By) -> Result<Listing, Refusal> {
+    let till = layout.till_of(table, by.with(Right::List, layout, table)?);
     let [oldest, newest] = [till.numbers().next(), till.numbers().last()].map(|number| number.unwrap_or(0));
     Ok(Listing { oldest, newest, last: till.last() })
 }
 
 /// Occupied cells, records in use, sum of all counts; for the owner.
 pub fn tally(pool: &[u8], table: &[u32], user: u32) -> Result<Tally, Refusal> {
-    let layout = sound::check(pool, table)?.layout;
+    tally_in(&sound::check(pool, table)?.layout, table, user)
+}
+
+fn tally_in(layout: &Layout, table: &[u32], user: u32) -> Result<Tally, Refusal> {
     owned(user)?;
     Ok(layout.records_of(table).iter().fold(Tally::default(), |sum, words| Tally {
         cells: sum.cells + words[0].count_ones(),
@@ -174,8 +182,18 @@ pub fn restore(
     version: u32,
     output: &mut [u8],
 ) -> Result<Restored, Refusal> {
-    let layout = sound::check(pool, table)?.layout;
-    let till = layout.till_of(table, By { user, till }.with(Right::Restore, &layout, table)?);
+    restore_in(&sound::check(pool, table)?.layout, pool, table, By { user, till }, version, output)
+}
+
+fn restore_in(
+    layout: &Layout,
+    pool: &[u8],
+    table: &[u32],
+    by: By,
+    version: u32,
+    output: &mut [u8],
+) -> Result<Restored, Refusal> {
+    let till = layout.till_of(table, by.with(Right::Restore, layout, table)?);
     let slot = till.slot_with(version)?;
     let length = till.length(slot);
     let output = output.get_mut(..length).ok_or(Refusal::ShortOutput)?;
@@ -195,8 +213,12 @@ pub fn restore(
 
 /// Takes a held version away and answers its length.
 pub fn retire(pool: &mut [u8], table: &mut [u32], user: u32, till: u32, version: u32) -> Result<u32, Refusal> {
-    let Found { layout, mut occupied } = sound::check(pool, table)?;
-    let till = By { user, till }.with(Right::Retire, &layout, table)?;
+    retire_in(sound::check(pool, table)?, pool, table, By { user, till }, version)
+}
+
+fn retire_in(found: Found, pool: &mut [u8], table: &mut [u32], by: By, version: u32) -> Result<u32, Refusal> {
+    let Found { layout, mut occupied } = found;
+    let till = by.with(Right::Retire, &layout, table)?;
     let before = layout.till_of(table, till);
     let slot = before.slot_with(version)?;
     let (length, held) = (before.length(slot), before.held());

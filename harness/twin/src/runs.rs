@@ -28,6 +28,11 @@ impl Occupied {
         self.words[cell / 64] &= !(1 << (cell % 64));
     }
 
+    /// How many cells are occupied.
+    pub fn count(&self) -> usize {
+        (0..self.words.len()).map(|n| self.word(n).count_ones() as usize).sum()
+    }
+
     /// The bits of cells 64 × n on, with those past the last cell cleared.
     pub fn word(&self, n: usize) -> u64 {
         let left = self.cells - 64 * n;
@@ -88,6 +93,7 @@ mod tests {
         assert_eq!(occupied.best_run(3), Some(8));
         assert_eq!(occupied.best_run(4), Some(0));
         assert_eq!(occupied.best_run(5), None);
+        assert_eq!((occupied.count(), of(".").count()), (4, 0));
     }
 
     #[test]

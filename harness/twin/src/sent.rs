@@ -3,6 +3,7 @@
 use crate::layout::{ones, Layout, Record};
 use crate::rows::{is_blank, Blocks, Records};
 use crate::sha1::fingerprint_of;
+use crate::sound::Found;
 use crate::users::By;
 use crate::{file, room_in, sound, New};
 use std::borrow::Cow;
@@ -18,13 +19,23 @@ pub fn offer(
     fingerprints: &[u8],
     marks: &mut [u8],
 ) -> Result<(), Refusal> {
-    let layout = sound::check(pool, table)?.layout;
-    By { user, till }.with(Right::BackUp, &layout, table)?;
+    offer_in(&sound::check(pool, table)?.layout, pool, table, By { user, till }, fingerprints, marks)
+}
+
+pub fn offer_in(
+    layout: &Layout,
+    pool: &[u8],
+    table: &[u32],
+    by: By,
+    fingerprints: &[u8],
+    marks: &mut [u8],
+) -> Result<(), Refusal> {
+    by.with(Right::BackUp, layout, table)?;
     let most = layout.blocks.div_ceil(layout.positions);
     if !(1..=most).contains(&marks.len()) || fingerprints.len() != FINGERPRINT * marks.len() {
         return Err(Refusal::ImageLength);
     }
-    let kept = Kept::of(&layout, pool, table);
+    let kept = Kept::of(layout, pool, table);
     for (mark, print) in marks.iter_mut().zip(fingerprints.as_chunks().0) {
         *mark = (*print == kept.zero || kept.lowest.contains_key(print)) as u8;
     }
@@ -33,14 +44,23 @@ pub fn offer(
 
 /// Puts an image together from what was sent and what the box has, files it and answers its number.
 pub fn backup_sent(pool: &mut [u8], table: &mut [u32], user: u32, till: u32, message: Message) -> Result<u32, Refusal> {
-    let mut found = sound::check(pool, table)?;
-    let till = By { user, till }.with(Right::BackUp, &found.layout, table)?;
+    backup_sent_in(&mut sound::check(pool, table)?, pool, table, By { user, till }, message)
+}
+
+pub fn backup_sent_in(
+    found: &mut Found,
+    pool: &mut [u8],
+    table: &mut [u32],
+    by: By,
+    message: Message,
+) -> Result<u32, Refusal> {
+    let till = by.with(Right::BackUp, &found.layout, table)?;
     if !fits(message, &found.layout) {
         return Err(Refusal::ImageLength);
     }
     room_in(&found.layout, table, till)?;
     let image = assembled(message, &Kept::of(&found.layout, pool, table))?;
-    file(&mut found, pool, table, till, New::now(&image))
+    file(found, pool, table, till, New::now(&image))
 }
 
 /// Whether a message has a length that an image can have, and lists that fit it.

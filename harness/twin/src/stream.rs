@@ -1,5 +1,8 @@
 //! A version as a stream, for moving it to another box: blocks of 64 bytes, eight to a bit map byte.
 
+use crate::layout::Layout;
+use crate::users::By;
+use crate::{restore_in, sound};
 use terms::{Refusal, LONGEST_IMAGE};
 
 const BLOCK: usize = 64;
@@ -31,8 +34,19 @@ pub fn write_stream(
     version: u32,
     output: &mut [u8],
 ) -> Result<u32, Refusal> {
+    write_stream_in(&sound::check(pool, table)?.layout, pool, table, By { user, till }, version, output)
+}
+
+pub fn write_stream_in(
+    layout: &Layout,
+    pool: &[u8],
+    table: &[u32],
+    by: By,
+    version: u32,
+    output: &mut [u8],
+) -> Result<u32, Refusal> {
     let mut image = vec![0; LONGEST_IMAGE as usize];
-    let restored = crate::restore(pool, table, user, till, version, &mut image)?;
+    let restored = restore_in(layout, pool, table, by, version, &mut image)?;
     let stream = stream_of(&image[..restored.length as usize]);
     output.get_mut(..stream.len()).ok_or(Refusal::ShortOutput)?.copy_from_slice(&stream);
     Ok(stream.len() as u32)

@@ -59,7 +59,16 @@ pub fn set_rights(
     till: u32,
     rights: Rights,
 ) -> Result<(), Refusal> {
-    let layout = sound::check(pool, table)?.layout;
+    set_rights_in(&sound::check(pool, table)?.layout, table, By { user, till }, subject, rights)
+}
+
+pub fn set_rights_in(
+    layout: &Layout,
+    table: &mut [u32],
+    By { user, till }: By,
+    subject: u32,
+    rights: Rights,
+) -> Result<(), Refusal> {
     let till = layout.till(till)?;
     known(user)?;
     known(subject)?;

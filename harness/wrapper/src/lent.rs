@@ -66,15 +66,11 @@ impl Calls for Proved {
         let (bytes, words) = (pool.len(), table.len());
         let (pool, table) = (pool.as_mut_ptr(), table.as_mut_ptr());
         // SAFETY: all five are slices, the first two lent for writing to this call alone.
-        let raw::BackupAllAnswer { refusal, refusals, versions } = unsafe {
+        closed(unsafe {
             let (named, told, sent) = (tills.len(), lengths.len(), images.len());
             let (tills, lengths, images) = (tills.as_ptr(), lengths.as_ptr(), images.as_ptr());
             raw::lurdempos_backup_all(pool, bytes, table, words, user, tills, named, lengths, told, images, sent)
-        };
-        let mut numbers = [refusal; CLOSING_NUMBERS];
-        numbers[1..=MOST_IMAGES].copy_from_slice(&refusals);
-        numbers[1 + MOST_IMAGES..].copy_from_slice(&versions);
-        numbers
+        })
     }
 
     fn restore(&self, pool: &[u8], table: &[u32], user: u32, till: u32, version: u32, output: &mut [u8]) -> [u32; 3] {
@@ -119,10 +115,7 @@ impl Calls for Proved {
     fn bill(&self, pool: &[u8], table: &[u32], user: u32, price: u32) -> [u32; BILL_NUMBERS] {
         let (bytes, words) = (pool.len(), table.len());
         // SAFETY: both parts are slices, lent for reading.
-        let answer = unsafe { raw::lurdempos_bill(pool.as_ptr(), bytes, table.as_ptr(), words, user, price) };
-        let mut numbers = [answer.refusal; BILL_NUMBERS];
-        numbers[1..].copy_from_slice(&answer.sums);
-        numbers
+        billed(unsafe { raw::lurdempos_bill(pool.as_ptr(), bytes, table.as_ptr(), words, user, price) })
     }
 
     fn set_rights(
@@ -228,4 +221,19 @@ impl Calls for Proved {
         let raw::TurnResult { answer, turn } = unsafe { raw::lurdempos_turn(raw::TurnRecord { tills, waiting, last }) };
         [answer.refusal, answer.served as u32, answer.till, turn.tills, turn.waiting, turn.last]
     }
+}
+
+/// A closing's numbers.
+pub fn closed(raw::BackupAllAnswer { refusal, refusals, versions }: raw::BackupAllAnswer) -> [u32; CLOSING_NUMBERS] {
+    let mut numbers = [refusal; CLOSING_NUMBERS];
+    numbers[1..=MOST_IMAGES].copy_from_slice(&refusals);
+    numbers[1 + MOST_IMAGES..].copy_from_slice(&versions);
+    numbers
+}
+
+/// A bill's numbers.
+pub fn billed(raw::BillAnswer { refusal, sums }: raw::BillAnswer) -> [u32; BILL_NUMBERS] {
+    let mut numbers = [refusal; BILL_NUMBERS];
+    numbers[1..].copy_from_slice(&sums);
+    numbers
 }

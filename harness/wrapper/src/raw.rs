@@ -339,4 +339,223 @@ extern "C" {
     pub fn lurdempos_sha1(message: *const u8, message_len: usize) -> Digest;
 
     pub fn lurdempos_turn(turn: TurnRecord) -> TurnResult;
+
+    pub fn lurdempos_chain_backup(
+        pools: *mut u8,
+        pools_len: usize,
+        tables: *mut u32,
+        tables_len: usize,
+        pool_lengths: *const u32,
+        pool_lengths_len: usize,
+        table_lengths: *const u32,
+        table_lengths_len: usize,
+        store: u32,
+        limit: u32,
+        user: u32,
+        till: u32,
+        image: *const u8,
+        image_len: usize,
+    ) -> BackupAnswer;
+
+    pub fn lurdempos_chain_backup_dated(
+        pools: *mut u8,
+        pools_len: usize,
+        tables: *mut u32,
+        tables_len: usize,
+        pool_lengths: *const u32,
+        pool_lengths_len: usize,
+        table_lengths: *const u32,
+        table_lengths_len: usize,
+        store: u32,
+        limit: u32,
+        user: u32,
+        till: u32,
+        day: u32,
+        image: *const u8,
+        image_len: usize,
+    ) -> BackupAnswer;
+
+    pub fn lurdempos_chain_backup_sent(
+        pools: *mut u8,
+        pools_len: usize,
+        tables: *mut u32,
+        tables_len: usize,
+        pool_lengths: *const u32,
+        pool_lengths_len: usize,
+        table_lengths: *const u32,
+        table_lengths_len: usize,
+        store: u32,
+        limit: u32,
+        user: u32,
+        till: u32,
+        length: u32,
+        fingerprints: *const u8,
+        fingerprints_len: usize,
+        marks: *const u8,
+        marks_len: usize,
+        segments: *const u8,
+        segments_len: usize,
+    ) -> BackupAnswer;
+
+    pub fn lurdempos_chain_backup_all(
+        pools: *mut u8,
+        pools_len: usize,
+        tables: *mut u32,
+        tables_len: usize,
+        pool_lengths: *const u32,
+        pool_lengths_len: usize,
+        table_lengths: *const u32,
+        table_lengths_len: usize,
+        store: u32,
+        limit: u32,
+        user: u32,
+        tills: *const u32,
+        tills_len: usize,
+        lengths: *const u32,
+        lengths_len: usize,
+        images: *const u8,
+        images_len: usize,
+    ) -> BackupAllAnswer;
+
+    pub fn lurdempos_chain_restore(
+        pools: *const u8,
+        pools_len: usize,
+        tables: *const u32,
+        tables_len: usize,
+        pool_lengths: *const u32,
+        pool_lengths_len: usize,
+        table_lengths: *const u32,
+        table_lengths_len: usize,
+        store: u32,
+        user: u32,
+        till: u32,
+        version: u32,
+        output: *mut u8,
+        output_len: usize,
+    ) -> RestoreAnswer;
+
+    pub fn lurdempos_chain_retire(
+        pools: *mut u8,
+        pools_len: usize,
+        tables: *mut u32,
+        tables_len: usize,
+        pool_lengths: *const u32,
+        pool_lengths_len: usize,
+        table_lengths: *const u32,
+        table_lengths_len: usize,
+        store: u32,
+        user: u32,
+        till: u32,
+        version: u32,
+    ) -> RetireAnswer;
+
+    pub fn lurdempos_chain_listing(
+        pools: *const u8,
+        pools_len: usize,
+        tables: *const u32,
+        tables_len: usize,
+        pool_lengths: *const u32,
+        pool_lengths_len: usize,
+        table_lengths: *const u32,
+        table_lengths_len: usize,
+        store: u32,
+        user: u32,
+        till: u32,
+    ) -> ListingAnswer;
+
+    pub fn lurdempos_chain_version_on(
+        pools: *const u8,
+        pools_len: usize,
+        tables: *const u32,
+        tables_len: usize,
+        pool_lengths: *const u32,
+        pool_lengths_len: usize,
+        table_lengths: *const u32,
+        table_lengths_len: usize,
+        store: u32,
+        user: u32,
+        till: u32,
+        day: u32,
+    ) -> VersionOnAnswer;
+
+    pub fn lurdempos_chain_tally(
+        pools: *const u8,
+        pools_len: usize,
+        tables: *const u32,
+        tables_len: usize,
+        pool_lengths: *const u32,
+        pool_lengths_len: usize,
+        table_lengths: *const u32,
+        table_lengths_len: usize,
+        store: u32,
+        user: u32,
+    ) -> TallyAnswer;
+
+    pub fn lurdempos_chain_bill(
+        pools: *const u8,
+        pools_len: usize,
+        tables: *const u32,
+        tables_len: usize,
+        pool_lengths: *const u32,
+        pool_lengths_len: usize,
+        table_lengths: *const u32,
+        table_lengths_len: usize,
+        store: u32,
+        user: u32,
+        price: u32,
+    ) -> BillAnswer;
+
+    pub fn lurdempos_chain_write_stream(
+        pools: *const u8,
+        pools_len: usize,
+        tables: *const u32,
+        tables_len: usize,
+        pool_lengths: *const u32,
+        pool_lengths_len: usize,
+        table_lengths: *const u32,
+        table_lengths_len: usize,
+        store: u32,
+        user: u32,
+        till: u32,
+        version: u32,
+        output: *mut u8,
+        output_len: usize,
+    ) -> WriteStreamAnswer;
+
+    pub fn lurdempos_chain_offer(
+        pools: *const u8,
+        pools_len: usize,
+        tables: *const u32,
+        tables_len: usize,
+        pool_lengths: *const u32,
+        pool_lengths_len: usize,
+        table_lengths: *const u32,
+        table_lengths_len: usize,
+        store: u32,
+        user: u32,
+        till: u32,
+        fingerprints: *const u8,
+        fingerprints_len: usize,
+        marks: *mut u8,
+        marks_len: usize,
+    ) -> OfferAnswer;
+
+    pub fn lurdempos_chain_set_rights(
+        pools: *const u8,
+        pools_len: usize,
+        tables: *mut u32,
+        tables_len: usize,
+        pool_lengths: *const u32,
+        pool_lengths_len: usize,
+        table_lengths: *const u32,
+        table_lengths_len: usize,
+        store: u32,
+        user: u32,
+        subject: u32,
+        till: u32,
+        list: bool,
+        back_up: bool,
+        restore: bool,
+        retire: bool,
+    ) -> SetRightsAnswer;
 }

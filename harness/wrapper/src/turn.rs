@@ -1,8 +1,7 @@
 //! Fair turns of the tills that wait for one line.
 
-use crate::store::accepted;
 use crate::Proved;
-use terms::{Calls, Refusal};
+use terms::{accepted, Calls, Refusal};
 
 /// The turn record that a dispatcher keeps. Between two turns it sets and takes away marks as tills come and go; till
 /// count and last till stay as the turn before left them, and then a till that keeps waiting is served within as many

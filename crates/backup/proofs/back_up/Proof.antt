@@ -29,7 +29,7 @@ returns : tie.Need-returns
 returns c =
     let a = c .before .before .before .before .before .before .before .before .before .before .before .before .before in
     let n = c .before .before .before .before .before .before .before .newest-day in
-    undated (a .pre) (a .args .till) (now (a .args .image)) (n .result) (n .ensures) _ (c .before .before .before .before .back-up-dated .ensures)
+    undated (a .pre .0) (a .args .limit .others) (a .args .limit .most) (a .args .till) (now (a .args .image)) (n .result) (n .ensures) _ (c .before .before .before .before .back-up-dated .ensures)
 
 pub back-up-spec : {M : Type 1} → statement M
 back-up-spec =

@@ -1,5 +1,6 @@
 use mathlib.Core.Path.{sym}
-use native.Mathlib.Omega.{arith}
+use denote.Ref.{now}
+use Rattle.chain.proofs.Within.{within-still}
 use borrow.Author.Needs.{needs}
 use Rattle.backup.proofs.back_up_dated.Statement.{statement}
 use Rattle.backup.proofs.back_up_dated.Tie as tie
@@ -22,11 +23,14 @@ same-length-2 c = search needs
 
 -- src/lib.rt:129:9
 returns : tie.Need-returns
-returns c = sym (c .before .backup-refusal .ensures .refusal (c .if1 .taken))
+returns c =
+    let a = c .before .before .before .before .before .before .before in
+    let r = c .before .backup-refusal in
+    within-still (a .args .limit .others) (a .args .limit .most) (now (a .args .pool)) (now (a .args .table)) _ _ (sym (r .ensures .refusal (c .if1 .taken))) (c .if1 .taken)
 
 -- src/lib.rt:134:5
 back-up-accepted-requires : tie.Need-back-up-accepted-requires
-back-up-accepted-requires c κs = (c .before .before .before .before .before .before .before .before .before .pre, c .before .before .before .backup-refusal .ensures .accepted (c .before .before .if1 .left))
+back-up-accepted-requires c κs = (c .before .before .before .before .before .before .before .before .before .pre .0, c .before .before .before .backup-refusal .ensures .accepted (c .before .before .if1 .left), c .before .before .before .before .before .before .before .before .before .pre .1)
 
 -- src/lib.rt:123:1
 same-length-3 : tie.Need-same-length-3

@@ -50,7 +50,7 @@ slice-aggregate-shelve-and-file-2 c = sym (length-take-le _ _ (omega (arith, cou
 
 -- src/lib.rt:121:5
 shelve-and-file-requires : tie.Need-shelve-and-file-requires
-shelve-and-file-requires c κs = begun (c .before .before .before .before .before .before .before .before .before .before .before .before .before .before .before .before .before .before .before .before .pre .0) (c .before .before .before .before .before .before .before .before .before .before .before .before .before .before .before .before .before .before .before .before .pre .4) (c .before .before .before .before .before .before .before .before .before .before .before .before .before .before .before .before .before .before .before .before .pre .1) _ (c .before .before .before .before .before .before .before .before .before .before .before .before .till-head .ensures) _ _ _ _ (omega (arith, c .before .before .before .before .before .before .before .before .copy-newest .ensures .1, header (c .before .before .before .before .before .before .before .before .before .before .before .before .before .before .before .before .before .before .before .before .pre .0) .blocks, c .before .before .before .before .before .before .before .before .copy-newest .kept .1 .1 .1 .1 .0, c .before .before .before .before .before .before .before .before .before .before .before .before .before .before .before .before .before .before .before .before .pre .2)) (c .before .before .before .before .before .before .before .before .copy-newest .ensures .0) (c .before .before .before .before .before .before .before .before .copy-newest .ensures .1) (c .before .before .before .before .before .before .before .before .before .before .before .before .before .before .before .before .before .before .before .before .pre .3) (count-is (measuresOf (c .before .before .before .before .before .before .before .before .before .before .before .before .before .before .before .before .before .before .before .before .args .m)) (now (c .before .before .before .before .before .before .before .before .before .before .before .before .before .before .before .before .before .before .before .before .args .image)) (c .before .before .before .before .before .segments .result) (c .before .before .before .before .before .segments .ensures))
+shelve-and-file-requires c κs = (begun (c .before .before .before .before .before .before .before .before .before .before .before .before .before .before .before .before .before .before .before .before .pre .0) (c .before .before .before .before .before .before .before .before .before .before .before .before .before .before .before .before .before .before .before .before .pre .4) (c .before .before .before .before .before .before .before .before .before .before .before .before .before .before .before .before .before .before .before .before .pre .1) _ (c .before .before .before .before .before .before .before .before .before .before .before .before .till-head .ensures) _ _ _ _ (omega (arith, c .before .before .before .before .before .before .before .before .copy-newest .ensures .1, header (c .before .before .before .before .before .before .before .before .before .before .before .before .before .before .before .before .before .before .before .before .pre .0) .blocks, c .before .before .before .before .before .before .before .before .copy-newest .kept .1 .1 .1 .1 .0, c .before .before .before .before .before .before .before .before .before .before .before .before .before .before .before .before .before .before .before .before .pre .2)) (c .before .before .before .before .before .before .before .before .copy-newest .ensures .0) (c .before .before .before .before .before .before .before .before .copy-newest .ensures .1) (c .before .before .before .before .before .before .before .before .before .before .before .before .before .before .before .before .before .before .before .before .pre .3) (count-is (measuresOf (c .before .before .before .before .before .before .before .before .before .before .before .before .before .before .before .before .before .before .before .before .args .m)) (now (c .before .before .before .before .before .before .before .before .before .before .before .before .before .before .before .before .before .before .before .before .args .image)) (c .before .before .before .before .before .segments .result) (c .before .before .before .before .before .segments .ensures)), c .before .before .before .before .before .before .before .before .before .before .before .before .before .before .before .before .before .before .before .before .pre .5)
 
 -- src/lib.rt:106:1
 same-length : tie.Need-same-length

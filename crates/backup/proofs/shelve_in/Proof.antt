@@ -11,15 +11,15 @@ use Rattle.shelve.proofs.shelve.Reads as shelve-reads
 
 -- src/lib.rt:24:33
 mul-shelve : tie.Need-mul-shelve
-mul-shelve c = let q = from-small (measuresOf (c .before .before .before .before .before .before .args .m)) (now (c .before .before .before .before .before .before .args .image)) (now (c .before .before .before .before .before .before .args .pool)) (now (c .before .before .before .before .before .before .args .table)) (c .before .before .before .before .before .before .args .from) (now (c .before .before .before .before .before .before .args .words)) (now (c .before .before .before .before .before .before .args .prev)) (c .before .before .before .before .before .before .pre) in omega (arith, q)
+mul-shelve c = let q = from-small (measuresOf (c .before .before .before .before .before .before .args .m)) (now (c .before .before .before .before .before .before .args .image)) (now (c .before .before .before .before .before .before .args .pool)) (now (c .before .before .before .before .before .before .args .table)) (c .before .before .before .before .before .before .args .from) (now (c .before .before .before .before .before .before .args .words)) (now (c .before .before .before .before .before .before .args .prev)) (c .before .before .before .before .before .before .pre .0) in omega (arith, q)
 
 -- src/lib.rt:24:33
 sub-shelve : tie.Need-sub-shelve
-sub-shelve c = from-in (measuresOf (c .before .before .before .before .before .before .args .m)) (now (c .before .before .before .before .before .before .args .image)) (now (c .before .before .before .before .before .before .args .pool)) (now (c .before .before .before .before .before .before .args .table)) (c .before .before .before .before .before .before .args .from) (now (c .before .before .before .before .before .before .args .words)) (now (c .before .before .before .before .before .before .args .prev)) (c .before .before .before .before .before .before .pre)
+sub-shelve c = from-in (measuresOf (c .before .before .before .before .before .before .args .m)) (now (c .before .before .before .before .before .before .args .image)) (now (c .before .before .before .before .before .before .args .pool)) (now (c .before .before .before .before .before .before .args .table)) (c .before .before .before .before .before .before .args .from) (now (c .before .before .before .before .before .before .args .words)) (now (c .before .before .before .before .before .before .args .prev)) (c .before .before .before .before .before .before .pre .0)
 
 -- src/lib.rt:24:33
 part-shelve-start : tie.Need-part-shelve-start
-part-shelve-start c = let q = from-in (measuresOf (c .before .before .before .before .before .before .args .m)) (now (c .before .before .before .before .before .before .args .image)) (now (c .before .before .before .before .before .before .args .pool)) (now (c .before .before .before .before .before .before .args .table)) (c .before .before .before .before .before .before .args .from) (now (c .before .before .before .before .before .before .args .words)) (now (c .before .before .before .before .before .before .args .prev)) (c .before .before .before .before .before .before .pre) in omega (arith, q)
+part-shelve-start c = let q = from-in (measuresOf (c .before .before .before .before .before .before .args .m)) (now (c .before .before .before .before .before .before .args .image)) (now (c .before .before .before .before .before .before .args .pool)) (now (c .before .before .before .before .before .before .args .table)) (c .before .before .before .before .before .before .args .from) (now (c .before .before .before .before .before .before .args .words)) (now (c .before .before .before .before .before .before .args .prev)) (c .before .before .before .before .before .before .pre .0) in omega (arith, q)
 
 -- src/lib.rt:24:33
 part-shelve-end : tie.Need-part-shelve-end
@@ -27,7 +27,9 @@ part-shelve-end c = search needs
 
 -- src/lib.rt:24:5
 shelve-requires : tie.Need-shelve-requires
-shelve-requires c κs = readied (measuresOf (c .before .before .before .before .before .before .before .before .before .args .m)) (now (c .before .before .before .before .before .before .before .before .before .args .image)) (now (c .before .before .before .before .before .before .before .before .before .args .pool)) (now (c .before .before .before .before .before .before .before .before .before .args .table)) (c .before .before .before .before .before .before .before .before .before .args .from) (now (c .before .before .before .before .before .before .before .before .before .args .words)) (now (c .before .before .before .before .before .before .before .before .before .args .prev)) (c .before .before .before .before .before .before .before .before .before .pre)
+shelve-requires c κs =
+    let a = c .before .before .before .before .before .before .before .before .before in
+    (readied (measuresOf (a .args .m)) (now (a .args .image)) (now (a .args .pool)) (now (a .args .table)) (a .args .from) (now (a .args .words)) (now (a .args .prev)) (a .pre .0), a .pre .1)
 
 -- src/lib.rt:13:1
 same-length : tie.Need-same-length
@@ -47,7 +49,9 @@ same-length-4 c = search needs
 
 -- src/lib.rt:13:1
 returns : tie.Need-returns
-returns c = done-on (measuresOf (c .before .before .before .before .before .before .before .before .before .before .before .before .before .before .before .before .before .before .args .m)) (now (c .before .before .before .before .before .before .before .before .before .before .before .before .before .before .before .before .before .before .args .image)) (now (c .before .before .before .before .before .before .before .before .before .before .before .before .before .before .before .before .before .before .args .pool)) (now (c .before .before .before .before .before .before .before .before .before .before .before .before .before .before .before .before .before .before .args .table)) (c .before .before .before .before .before .before .before .before .before .before .before .before .before .before .before .before .before .before .args .from) (now (c .before .before .before .before .before .before .before .before .before .before .before .before .before .before .before .before .before .before .args .words)) (now (c .before .before .before .before .before .before .before .before .before .before .before .before .before .before .before .before .before .before .args .prev)) (c .before .before .before .before .before .before .before .before .before .before .before .before .before .before .before .before .before .before .pre) _ _ _ _ _ _ (c .before .before .before .before .before .before .before .before .shelve .ensures)
+returns c =
+    let a = c .before .before .before .before .before .before .before .before .before .before .before .before .before .before .before .before .before .before in
+    done-on (measuresOf (a .args .m)) (now (a .args .image)) (now (a .args .pool)) (now (a .args .table)) (a .args .from) (now (a .args .words)) (now (a .args .prev)) (a .pre .0) (a .args .limit .others) (a .args .limit .most) _ _ _ _ _ _ (c .before .before .before .before .before .before .before .before .shelve .ensures)
 
 pub shelve-in-spec : {M : Type 1} → statement M
 shelve-in-spec =

@@ -13,7 +13,7 @@ lists-fit-requires c κs = search needs
 returns : tie.Need-returns
 returns c =
     let a = c .before .before .before .before .before .before .before .args in
-    refused-whole (now (a .pool)) (now (a .table)) (a .user) (now (a .tills)) (now (a .lengths)) (now (a .images)) (c .before .before .before .before .before .before .before .pre) (sym (c .before .lists-fit .ensures) ∙ not-true _ (c .if1 .taken))
+    refused-whole (a .limit .others) (a .limit .most) (now (a .pool)) (now (a .table)) (a .user) (now (a .tills)) (now (a .lengths)) (now (a .images)) (sym (c .before .lists-fit .ensures) ∙ not-true _ (c .if1 .taken))
 
 slice-aggregate-back-up-each : tie.Need-slice-aggregate-back-up-each
 slice-aggregate-back-up-each c = search needs
@@ -22,7 +22,9 @@ slice-aggregate-back-up-each-2 : tie.Need-slice-aggregate-back-up-each-2
 slice-aggregate-back-up-each-2 c = search needs
 
 back-up-each-requires : tie.Need-back-up-each-requires
-back-up-each-requires c κs = (c .before .before .before .before .before .before .before .before .before .before .before .pre, answer-yes (c .before .before .before .before .before .lists-fit .ensures) (c .before .before .before .before .if1 .left), refl, refl)
+back-up-each-requires c κs =
+    let a = c .before .before .before .before .before .before .before .before .before .before .before in
+    (a .pre .0, answer-yes (c .before .before .before .before .before .lists-fit .ensures) (c .before .before .before .before .if1 .left), refl, refl, a .pre .1)
 
 same-length : tie.Need-same-length
 same-length c = search needs
@@ -33,7 +35,7 @@ same-length-2 c = search needs
 returns-2 : tie.Need-returns-2
 returns-2 c =
     let a = c .before .before .before .before .before .before .before .before .before .before .before .before .before .before .before .before .before .before .args in
-    done-whole (now (a .pool)) (now (a .table)) (a .user) (now (a .tills)) (now (a .lengths)) (now (a .images)) (c .before .before .before .before .before .before .before .before .before .before .before .before .before .before .before .before .before .before .pre) (answer-yes (c .before .before .before .before .before .before .before .before .before .before .before .before .lists-fit .ensures) (c .before .before .before .before .before .before .before .before .before .before .before .if1 .left)) _ (c .before .before .before .before .before .before .back-up-each .ensures)
+    done-whole (a .limit .others) (a .limit .most) (now (a .pool)) (now (a .table)) (a .user) (now (a .tills)) (now (a .lengths)) (now (a .images)) (answer-yes (c .before .before .before .before .before .before .before .before .before .before .before .before .lists-fit .ensures) (c .before .before .before .before .before .before .before .before .before .before .before .if1 .left)) _ (c .before .before .before .before .before .before .back-up-each .ensures)
 
 pub back-up-all-spec : {M : Type 1} → statement M
 back-up-all-spec =

@@ -10,17 +10,17 @@ use Rattle.closing_backup.proofs.back_up_each.Statement.{statement}
 use Rattle.closing_backup.proofs.back_up_each.Tie as tie
 
 abbrev Inv-loop : tie.InvT-loop
-Inv-loop pool₀ table₀ user tills lengths images refusals₀ versions₀ from₀ i₀ pool table refusals versions from i =
-    Going pool₀ table₀ user tills lengths images pool table refusals versions from i × (length pool ≡ length pool₀) × (length table ≡ length table₀)
+Inv-loop pool₀ table₀ user tills lengths images refusals₀ versions₀ limit from₀ i₀ pool table refusals versions from i =
+    Going (limit .others) (limit .most) pool₀ table₀ user tills lengths images pool table refusals versions from i × (length pool ≡ length pool₀) × (length table ≡ length table₀)
 
 abbrev μ-loop : tie.MeasureT-loop
-μ-loop pool₀ table₀ user tills lengths images refusals₀ versions₀ from₀ i₀ pool table refusals versions from i = length tills - i
+μ-loop pool₀ table₀ user tills lengths images refusals₀ versions₀ limit from₀ i₀ pool table refusals versions from i = length tills - i
 
 loop-holds : tie.Need-loop-holds Inv-loop μ-loop
 loop-holds c =
     let a = c .before .before .before .before .before .before .before .args in
     let p = c .before .before .before .before .before .before .before .pre in
-    (going-start _ _ _ _ _ _ _ _ (p .0) (fits-are (now (a .tills)) (now (a .lengths)) (now (a .images)) (p .1)) (p .2) (p .3), search needs, search needs)
+    (going-start _ _ _ _ _ _ _ _ _ _ (p .0) (fits-are (now (a .tills)) (now (a .lengths)) (now (a .images)) (p .1)) (p .2) (p .3), search needs, search needs)
 
 mul-end : tie.Need-mul-end Inv-loop μ-loop
 mul-end c = search needs
@@ -50,7 +50,7 @@ part-back-up-one-end : tie.Need-part-back-up-one-end Inv-loop μ-loop
 part-back-up-one-end c = omega (arith, image-in (c .before .before .before .before .before .loop .inv .0) (omega arith))
 
 back-up-one-requires : tie.Need-back-up-one-requires Inv-loop μ-loop
-back-up-one-requires c κs = c .before .before .before .before .before .before .loop .inv .0 .sound
+back-up-one-requires c κs = (c .before .before .before .before .before .before .loop .inv .0 .sound, c .before .before .before .before .before .before .before .before .before .before .before .before .before .before .pre .4)
 
 mul-refusals : tie.Need-mul-refusals Inv-loop μ-loop
 mul-refusals c = search needs

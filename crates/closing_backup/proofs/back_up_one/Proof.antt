@@ -1,5 +1,10 @@
+use mathlib.Core.Path.{sym, _∙_}
+use mathlib.Core.Option.{none}
 use native.Mathlib.Omega.{arith}
+use denote.Ref.{now}
+use Rattle.chain.proofs.Within.{within-still, within-as}
 use Rattle.model.specs.Calls.{backupOf}
+use Rattle.model.specs.Image.{withBlanks}
 use Rattle.model.specs.Rights.{backupRefusal, backupAs}
 use Rattle.closing_backup.proofs.Users.{user-refused, user-served}
 use borrow.Author.Needs.{needs}
@@ -16,7 +21,9 @@ same-length-2 : tie.Need-same-length-2
 same-length-2 c = search needs
 
 returns : tie.Need-returns
-returns c = unfold backupAs backupRefusal in user-refused (backupRefusal _ _) _ _ _ (c .before .refusal .ensures) (λ q. omega (arith, q, c .if1 .taken))
+returns c =
+    let a = c .before .before .before .before .before .before .before in
+    unfold backupAs backupRefusal in within-still (a .args .limit .others) (a .args .limit .most) (now (a .args .pool)) (now (a .args .table)) _ _ (user-refused (backupRefusal _ _) _ _ _ (c .before .refusal .ensures) (λ q. omega (arith, q, c .if1 .taken))) (λ q. omega (arith, q, c .if1 .taken))
 
 back-up-requires : tie.Need-back-up-requires
 back-up-requires c κs = search needs
@@ -29,8 +36,10 @@ same-length-4 c = search needs
 
 returns-2 : tie.Need-returns-2
 returns-2 c =
-    unfold backupAs backupOf in
-    user-served (backupRefusal _ _) _ _ _ (c .before .before .before .before .before .before .before .before .refusal .ensures) (omega (arith, c .before .before .before .before .before .before .before .if1 .left)) _ (c .before .before .before .before .back-up .ensures)
+    let a = c .before .before .before .before .before .before .before .before .before .before .before .before .before .before in
+    unfold backupOf in
+    (user-served (backupRefusal _ _) _ _ _ (c .before .before .before .before .before .before .before .before .refusal .ensures) (omega (arith, c .before .before .before .before .before .before .before .if1 .left)) _ (c .before .before .before .before .back-up .ensures)
+    ∙ sym (within-as (a .args .limit .others) (a .args .limit .most) (now (a .args .pool)) (now (a .args .table)) withBlanks (a .args .user) (a .args .till) none (now (a .args .image))))
 
 pub back-up-one-spec : {M : Type 1} → statement M
 back-up-one-spec =

@@ -151,7 +151,10 @@ same-length-10 : tie.Need-same-length-10 Inv-loop μ-loop
 same-length-10 c = c .before .loop .inv .sameWords
 
 returns-2 : tie.Need-returns-2 Inv-loop μ-loop
-returns-2 c = let l = c .before .loop in along-end (l .inv) (omega (arith, l .inv .within)) (c .before .before .before .before .before .before .before .before .before .before .before .before .pre .0 .room)
+returns-2 c =
+    let a = c .before .before .before .before .before .before .before .before .before .before .before .before in
+    let l = c .before .loop in
+    along-end (l .inv) (omega (arith, l .inv .within)) (omega (arith, l .inv .all, few-segments (measuresOf (a .args .m)) (now (a .args .image)) (a .pre .0 .stored .measured) (a .pre .0 .most))) (a .pre .0 .room)
 
 pub place-segments-spec : {M : Type 1} → statement M
 place-segments-spec =

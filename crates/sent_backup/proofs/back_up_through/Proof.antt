@@ -1,9 +1,11 @@
-use mathlib.Core.Path.{sym, _∙_}
+use mathlib.Core.Path.{sym, ap, _∙_}
 use native.Mathlib.Omega.{arith}
 use lib.ListN.{length, take}
 use lib.Seq.{length-take-le}
 use denote.Ref.{now}
 use Rattle.laws.proofs.Stores.{header}
+use Rattle.chain.specs.Limit.{within}
+use Rattle.chain.proofs.Within.{within-still}
 use Rattle.sent_accept.proofs.Fits.{fits-message}
 use Rattle.sent_accept.proofs.After.{sent-early, sent-fits, sent-late, sent-backed}
 use borrow.Author.Needs.{needs}
@@ -29,7 +31,7 @@ same-length-2 c = search needs
 
 -- src/lib.rt:57:9
 returns : tie.Need-returns
-returns c = sent-early (c .before .before .before .before .before .before .before .before .before .before .pre .0) (c .before .before .before .before .before .before .before .before .before .before .args .till) (c .before .before .before .before .before .before .before .before .before .before .args .bytes) (now (c .before .before .before .before .before .before .before .before .before .before .args .fingerprints)) (now (c .before .before .before .before .before .before .before .before .before .before .args .marks)) (now (c .before .before .before .before .before .before .before .before .before .before .args .segments)) _ (c .before .sent-refusal .ensures) (c .if1 .taken)
+returns c = let a = c .before .before .before .before .before .before .before .before .before .before in within-still (a .args .limit .others) (a .args .limit .most) (now (a .args .pool)) (now (a .args .table)) _ _ (sent-early (c .before .before .before .before .before .before .before .before .before .before .pre .0) (c .before .before .before .before .before .before .before .before .before .before .args .till) (c .before .before .before .before .before .before .before .before .before .before .args .bytes) (now (c .before .before .before .before .before .before .before .before .before .before .args .fingerprints)) (now (c .before .before .before .before .before .before .before .before .before .before .args .marks)) (now (c .before .before .before .before .before .before .before .before .before .before .args .segments)) _ (c .before .sent-refusal .ensures) (c .if1 .taken)) (c .if1 .taken)
 
 -- src/lib.rt:62:9
 assemble-in-requires : tie.Need-assemble-in-requires
@@ -49,7 +51,7 @@ same-length-5 c = search needs
 
 -- src/lib.rt:64:9
 returns-2 : tie.Need-returns-2
-returns-2 c = sent-late (c .before .before .before .before .before .before .before .before .before .before .before .before .before .before .before .before .before .pre .0) (c .before .before .before .before .before .before .before .before .before .before .before .before .before .before .before .before .before .args .till) (c .before .before .before .before .before .before .before .before .before .before .before .before .before .before .before .before .before .args .bytes) (now (c .before .before .before .before .before .before .before .before .before .before .before .before .before .before .before .before .before .args .fingerprints)) (now (c .before .before .before .before .before .before .before .before .before .before .before .before .before .before .before .before .before .args .marks)) (now (c .before .before .before .before .before .before .before .before .before .before .before .before .before .before .before .before .before .args .segments)) (sym (c .before .before .before .before .before .before .before .before .sent-refusal .ensures) ∙ c .before .before .before .before .before .before .before .if1 .left) (c .before .before .before .assemble-in .result) _ (c .before .before .before .assemble-in .ensures) (c .if2 .taken)
+returns-2 c = let a = c .before .before .before .before .before .before .before .before .before .before .before .before .before .before .before .before .before in within-still (a .args .limit .others) (a .args .limit .most) (now (a .args .pool)) (now (a .args .table)) _ _ (sent-late (c .before .before .before .before .before .before .before .before .before .before .before .before .before .before .before .before .before .pre .0) (c .before .before .before .before .before .before .before .before .before .before .before .before .before .before .before .before .before .args .till) (c .before .before .before .before .before .before .before .before .before .before .before .before .before .before .before .before .before .args .bytes) (now (c .before .before .before .before .before .before .before .before .before .before .before .before .before .before .before .before .before .args .fingerprints)) (now (c .before .before .before .before .before .before .before .before .before .before .before .before .before .before .before .before .before .args .marks)) (now (c .before .before .before .before .before .before .before .before .before .before .before .before .before .before .before .before .before .args .segments)) (sym (c .before .before .before .before .before .before .before .before .sent-refusal .ensures) ∙ c .before .before .before .before .before .before .before .if1 .left) (c .before .before .before .assemble-in .result) _ (c .before .before .before .assemble-in .ensures) (c .if2 .taken)) (c .if2 .taken)
 
 -- src/lib.rt:70:40
 slice-reshare-prefix-back-up : tie.Need-slice-reshare-prefix-back-up
@@ -61,7 +63,7 @@ slice-aggregate-back-up c = sym (length-take-le (c .before .before .before .befo
 
 -- src/lib.rt:70:5
 back-up-requires : tie.Need-back-up-requires
-back-up-requires c κs = c .before .before .before .before .before .before .before .before .before .before .before .before .before .before .before .before .before .before .before .before .pre .0
+back-up-requires c κs = let a = c .before .before .before .before .before .before .before .before .before .before .before .before .before .before .before .before .before .before .before .before in (a .pre .0, a .pre .2)
 
 -- src/lib.rt:42:1
 same-length-6 : tie.Need-same-length-6
@@ -77,7 +79,9 @@ same-length-8 c = search needs
 
 -- src/lib.rt:42:1
 returns-3 : tie.Need-returns-3
-returns-3 c = c .before .before .before .before .back-up .ensures ∙ sent-backed (c .before .before .before .before .before .before .before .before .before .before .before .before .before .before .before .before .before .before .before .before .before .before .before .before .before .pre .0) (c .before .before .before .before .before .before .before .before .before .before .before .before .before .before .before .before .before .before .before .before .before .before .before .before .before .args .till) (c .before .before .before .before .before .before .before .before .before .before .before .before .before .before .before .before .before .before .before .before .before .before .before .before .before .args .bytes) (now (c .before .before .before .before .before .before .before .before .before .before .before .before .before .before .before .before .before .before .before .before .before .before .before .before .before .args .fingerprints)) (now (c .before .before .before .before .before .before .before .before .before .before .before .before .before .before .before .before .before .before .before .before .before .before .before .before .before .args .marks)) (now (c .before .before .before .before .before .before .before .before .before .before .before .before .before .before .before .before .before .before .before .before .before .before .before .before .before .args .segments)) (sym (c .before .before .before .before .before .before .before .before .before .before .before .before .before .before .before .before .sent-refusal .ensures) ∙ c .before .before .before .before .before .before .before .before .before .before .before .before .before .before .before .if1 .left) (c .before .before .before .before .before .before .before .before .before .before .before .assemble-in .result) _ (c .before .before .before .before .before .before .before .before .before .before .before .assemble-in .ensures) (c .before .before .before .before .before .before .before .before .if2 .left)
+returns-3 c =
+    let a = c .before .before .before .before .before .before .before .before .before .before .before .before .before .before .before .before .before .before .before .before .before .before .before .before .before in
+    c .before .before .before .before .back-up .ensures ∙ ap (within (a .args .limit .others) (a .args .limit .most) (now (a .args .pool)) (now (a .args .table))) (sent-backed (c .before .before .before .before .before .before .before .before .before .before .before .before .before .before .before .before .before .before .before .before .before .before .before .before .before .pre .0) (c .before .before .before .before .before .before .before .before .before .before .before .before .before .before .before .before .before .before .before .before .before .before .before .before .before .args .till) (c .before .before .before .before .before .before .before .before .before .before .before .before .before .before .before .before .before .before .before .before .before .before .before .before .before .args .bytes) (now (c .before .before .before .before .before .before .before .before .before .before .before .before .before .before .before .before .before .before .before .before .before .before .before .before .before .args .fingerprints)) (now (c .before .before .before .before .before .before .before .before .before .before .before .before .before .before .before .before .before .before .before .before .before .before .before .before .before .args .marks)) (now (c .before .before .before .before .before .before .before .before .before .before .before .before .before .before .before .before .before .before .before .before .before .before .before .before .before .args .segments)) (sym (c .before .before .before .before .before .before .before .before .before .before .before .before .before .before .before .before .sent-refusal .ensures) ∙ c .before .before .before .before .before .before .before .before .before .before .before .before .before .before .before .if1 .left) (c .before .before .before .before .before .before .before .before .before .before .before .assemble-in .result) _ (c .before .before .before .before .before .before .before .before .before .before .before .assemble-in .ensures) (c .before .before .before .before .before .before .before .before .if2 .left))
 
 pub back-up-through-spec : {M : Type 1} → statement M
 back-up-through-spec =

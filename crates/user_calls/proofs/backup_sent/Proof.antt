@@ -1,8 +1,12 @@
 use native.Mathlib.Omega.{arith}
+use borrow.Author.Needs.{needs}
+use mathlib.Core.Path.{sym, _∙_}
+use denote.Ref.{now}
 use Rattle.model.specs.Rights.{backupRefusal}
 use Rattle.sent.specs.Sent.{backupSentAs}
+use Rattle.chain.proofs.Within.{within-still}
 use Rattle.closing_backup.proofs.Users.{user-refused, user-served}
-use borrow.Author.Needs.{needs}
+use Rattle.user_calls.proofs.Sent.{within-sent}
 use Rattle.user_calls.proofs.backup_sent.Statement.{statement}
 use Rattle.user_calls.proofs.backup_sent.Tie as tie
 
@@ -16,7 +20,9 @@ same-length-2 : tie.Need-same-length-2
 same-length-2 c = search needs
 
 returns : tie.Need-returns
-returns c = unfold backupSentAs backupRefusal in user-refused (backupRefusal _ _) _ _ _ (c .before .refusal .ensures) (λ q. omega (arith, q, c .if1 .taken))
+returns c =
+    let a = c .before .before .before .before .before .before .before .before .before .args in
+    unfold backupSentAs backupRefusal in within-still (a .limit .others) (a .limit .most) (now (a .pool)) (now (a .table)) _ _ (user-refused (backupRefusal _ _) _ _ _ (c .before .refusal .ensures) (λ q. omega (arith, q, c .if1 .taken))) (λ q. omega (arith, q, c .if1 .taken))
 
 back-up-sent-requires : tie.Need-back-up-sent-requires
 back-up-sent-requires c κs = search needs
@@ -29,8 +35,9 @@ same-length-4 c = search needs
 
 returns-2 : tie.Need-returns-2
 returns-2 c =
-    unfold backupSentAs in
+    let a = c .before .before .before .before .before .before .before .before .before .before .before .before .before .before .before .before .args in
     user-served (backupRefusal _ _) _ _ _ (c .before .before .before .before .before .before .before .before .refusal .ensures) (omega (arith, c .before .before .before .before .before .before .before .if1 .left)) _ (c .before .before .before .before .back-up-sent .ensures)
+    ∙ sym (within-sent (a .limit .others) (a .limit .most) (now (a .pool)) (now (a .table)) (a .user) (a .till) (a .length) (now (a .fingerprints)) (now (a .marks)) (now (a .segments)))
 
 pub backup-sent-spec : {M : Type 1} → statement M
 backup-sent-spec =

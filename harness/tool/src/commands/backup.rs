@@ -3,15 +3,16 @@
 use super::dry_run::{tried, Cells};
 use crate::advice::{By, Call};
 use crate::arguments::Arguments;
+use crate::disk::Disk;
 use crate::json::Json;
 use crate::patience::Patience;
 use crate::reply::Reply;
+use crate::store::Store;
 use crate::storefile::Change;
-use crate::syntax::{Argument, Command, Opt, Takes, DAY, DRY_RUN, FILE, TILL, USER, WAIT};
-use crate::target::Target;
+use crate::syntax::{Argument, Command, Opt, Takes, DAY, DRY_RUN, FILE, LIMIT, TILL, USER, WAIT, WITH};
 use crate::words::bytes;
 use crate::{calendar, image, table, Failure};
-use lurdempos::{Refusal, Right, Store, LONGEST_IMAGE};
+use lurdempos::{Refusal, Right, LONGEST_IMAGE};
 use std::path::Path;
 
 pub static COMMAND: Command = Command {
@@ -27,6 +28,9 @@ A version has a day, by which `restore --day` finds it. D is a number up to 4294
 2026-03-31: the days since 1970-01-01. It must not be before the day of the till's newest version. Without
 --day the version takes that one's day, or 0, which is no day, if the till holds none.
 
+With other stores on the disk of FILE, --with names each of them, and --limit says how many cells all may occupy
+in the end; an image that would take more is refused. FILE alone is changed, and `chain` shows what each has.
+
 Another user than the owner needs the right backup on the till; with --rotate also list and retire, and with
 --unless-same also list and restore.
 ",
@@ -34,12 +38,14 @@ Another user than the owner needs the right backup on the till; with --rotate al
 };
 
 /// The options of commands that keep an image.
-pub(super) static OPTIONS: [Opt; 7] = [
+pub(super) static OPTIONS: [Opt; 9] = [
     Opt::with(DAY.name, DAY.value, "the version's day, a number or a date; else that of the till's newest version"),
     Opt::flag("--rotate", "retire the till's oldest version first if the till is full, in the same write"),
     Opt::flag("--unless-same", "keep no new version if the till's newest has the same bytes"),
     Opt::with("--bytes", "N", "keep the image only if it has exactly N bytes"),
     DRY_RUN,
+    WITH,
+    LIMIT,
     USER,
     WAIT,
 ];
@@ -73,20 +79,20 @@ pub(super) fn keep(
     arguments: &Arguments,
     read: impl FnOnce(&Path) -> Result<Vec<u8>, Failure>,
 ) -> Result<Reply, Failure> {
-    let (file, day) = (arguments.store()?, arguments.day()?);
+    let (disk, day) = (Disk::asked(arguments)?, arguments.day()?);
     let by = By { user: arguments.user()?, till: arguments.number(1)? };
     let patience = Patience::asked(arguments)?;
-    let target = Target::existing(file)?;
+    let targets = disk.targets()?;
     // Before the lock is taken: standard input may come slowly.
     let image = read(arguments.path(2)?)?;
     refuse_length(arguments, &image)?;
     let (rotate, unless_same) = (arguments.has("--rotate"), arguments.has("--unless-same"));
-    let asked = Asked { file, by, day, image: &image, rotate, unless_same };
+    let asked = Asked { file: disk.file, by, day, image: &image, rotate, unless_same };
     if arguments.has("--dry-run") {
-        let (outcome, cells) = tried(file, by.user, |store| asked.keep(store))?;
+        let (outcome, cells) = tried(&disk, by.user, |store| asked.keep(store))?;
         return Ok(asked.reply(&outcome, Some(&cells)));
     }
-    let mut change = Change::begin(&target, &patience)?;
+    let mut change = Change::begin(&disk, &targets, &patience)?;
     let outcome = asked.keep(&mut change.store)?;
     if outcome.kept {
         change.finish()?;

@@ -3,21 +3,22 @@
 use super::dry_run::{tried, Cells};
 use crate::advice::{By, Call};
 use crate::arguments::Arguments;
+use crate::disk::Disk;
 use crate::json::Json;
 use crate::patience::Patience;
 use crate::reply::Reply;
+use crate::store::Store;
 use crate::storefile::Change;
-use crate::syntax::{Argument, Command, Takes, DRY_RUN, FILE, TILL, USER, WAIT};
-use crate::target::Target;
+use crate::syntax::{Argument, Command, Takes, DRY_RUN, FILE, LIMIT, TILL, USER, WAIT, WITH};
 use crate::words::bytes;
 use crate::{advice, image, Failure};
-use lurdempos::{Message, Refusal, Right, Store, LONGEST_MESSAGE};
+use lurdempos::{Message, Refusal, Right, LONGEST_MESSAGE};
 use std::path::Path;
 
 pub static COMMAND: Command = Command {
     name: "backup-sent",
     arguments: &[FILE, TILL, Argument::needed("MESSAGE", Takes::File)],
-    options: &[DRY_RUN, USER, WAIT],
+    options: &[DRY_RUN, WITH, LIMIT, USER, WAIT],
     about: "keep what a till has sent as its next version",
     help: "
 MESSAGE is a file with a till's second message, or - for standard input: the image's length in four bytes,
@@ -40,19 +41,19 @@ struct Asked<'a> {
 }
 
 fn run(arguments: &Arguments) -> Result<Reply, Failure> {
-    let file = arguments.store()?;
+    let disk = Disk::asked(arguments)?;
     let by = By { user: arguments.user()?, till: arguments.number(1)? };
     let patience = Patience::asked(arguments)?;
-    let target = Target::existing(file)?;
+    let targets = disk.targets()?;
     // Before the lock is taken: standard input may come slowly.
     let path = arguments.path(2)?;
     let bytes = image::read_beginning(path, LONGEST_MESSAGE + 1)?;
-    let asked = Asked { file, by, name: image::name(path), bytes: &bytes };
+    let asked = Asked { file: disk.file, by, name: image::name(path), bytes: &bytes };
     if arguments.has("--dry-run") {
-        let (version, cells) = tried(file, by.user, |store| asked.keep(store))?;
+        let (version, cells) = tried(&disk, by.user, |store| asked.keep(store))?;
         return Ok(version.reply(&asked, Some(&cells)));
     }
-    let mut change = Change::begin(&target, &patience)?;
+    let mut change = Change::begin(&disk, &targets, &patience)?;
     let version = asked.keep(&mut change.store)?;
     change.finish()?;
     Ok(version.reply(&asked, None))

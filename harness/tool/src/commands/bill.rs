@@ -2,12 +2,14 @@
 
 use super::tally;
 use crate::arguments::Arguments;
+use crate::disk::Disk;
 use crate::json::Json;
 use crate::reply::Reply;
-use crate::syntax::{Command, Opt, FILE, USER};
+use crate::store::Store;
+use crate::syntax::{Command, Opt, FILE, USER, WITH};
 use crate::words::{cents, counted};
-use crate::{advice, storefile, Failure};
-use lurdempos::{Bill, Refusal, Store};
+use crate::{advice, Failure};
+use lurdempos::{Bill, Refusal};
 use std::path::Path;
 
 const PRICE: Opt = Opt::with("--price", "P", "the price of a cell in tenths of a cent, 0 to 10000; has to be given");
@@ -15,7 +17,7 @@ const PRICE: Opt = Opt::with("--price", "P", "the price of a cell in tenths of a
 pub static COMMAND: Command = Command {
     name: "bill",
     arguments: &[FILE],
-    options: &[PRICE, USER],
+    options: &[PRICE, WITH, USER],
     about: "show what each till's share of the storage costs",
     help: "
 At --price P for each occupied cell, in tenths of a cent: 25 is 2.5 cents. The price of a cell is divided among
@@ -38,9 +40,10 @@ struct Billed {
 }
 
 fn run(arguments: &Arguments) -> Result<Reply, Failure> {
-    let (file, user) = (arguments.store()?, arguments.user()?);
+    let (disk, user) = (Disk::asked(arguments)?, arguments.user()?);
+    let file = disk.file;
     let price = arguments.option_number(PRICE.name)?.ok_or_else(|| arguments.missing(PRICE.name))?;
-    let store = storefile::read(file)?;
+    let store = disk.read()?;
     let billed = billed(file, &store, user, price)?;
     let reply = Reply::text(text(&billed), fields(file, &billed));
     Ok(reply.with_difference(!billed.agrees()))

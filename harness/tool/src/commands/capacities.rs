@@ -2,10 +2,11 @@
 
 use crate::arguments::Arguments;
 use crate::json::Json;
+use crate::store::Store;
 use crate::syntax::{Opt, WAIT};
 use crate::words::{bytes, counted};
 use crate::Failure;
-use lurdempos::{table_length, Capacities, Refusal, Store, BASE, BLOCK_BYTES, LONGEST_IMAGE, SEGMENT_BLOCKS};
+use lurdempos::{table_length, Capacities, Refusal, BASE, BLOCK_BYTES, LONGEST_IMAGE, SEGMENT_BLOCKS};
 
 /// An option for each, in the page's order; the third is asked for in bytes or in blocks.
 const NAMES: [&str; 8] = [

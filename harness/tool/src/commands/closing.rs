@@ -4,15 +4,16 @@ use super::dry_run::{tried, Cells};
 use crate::advice::{self, By, Call};
 use crate::arguments::Arguments;
 use crate::day::{self, Sent};
+use crate::disk::Disk;
 use crate::json::Json;
 use crate::names::shown;
 use crate::patience::Patience;
 use crate::reply::{warn, Reply};
+use crate::store::Store;
 use crate::storefile::Change;
-use crate::syntax::{Argument, Command, Opt, Takes, DRY_RUN, FILE, USER, WAIT};
-use crate::target::Target;
+use crate::syntax::{Argument, Command, Opt, Takes, DRY_RUN, FILE, LIMIT, USER, WAIT, WITH};
 use crate::{image, Failure};
-use lurdempos::{Refusal, Right, Store};
+use lurdempos::{Refusal, Right};
 use std::path::Path;
 
 pub static COMMAND: Command = Command {
@@ -21,6 +22,8 @@ pub static COMMAND: Command = Command {
     options: &[
         Opt::with_folder("--folder", "DAY", "in TILL=IMAGE's place: keep the images in a folder"),
         DRY_RUN,
+        WITH,
+        LIMIT,
         USER,
         WAIT,
     ],
@@ -33,7 +36,8 @@ they are kept in the order of the tills. Anything else in it is wrong use, so th
 of a misspelt name.
 
 An image that is refused does not stop the others: these are kept. The reply tells what became of each, and
-the exit status is 1 if one was refused. Send that one again by itself.
+the exit status is 1 if one was refused. Send that one again by itself. With --limit each image is held against
+it by itself, with the cells that are occupied then.
 
 No day can be given: each version takes that of its till's newest one, or 0, which is no day, if the till
 holds none.
@@ -57,18 +61,18 @@ struct Asked<'a> {
 type Outcome = Result<u32, (Refusal, Failure)>;
 
 fn run(arguments: &Arguments) -> Result<Reply, Failure> {
-    let (file, user, named) = (arguments.store()?, arguments.user()?, day::named(arguments)?);
+    let (disk, user, named) = (Disk::asked(arguments)?, arguments.user()?, day::named(arguments)?);
     let patience = Patience::asked(arguments)?;
-    let target = Target::existing(file)?;
+    let targets = disk.targets()?;
     let count = named.len();
     // Before the lock is taken: standard input may come slowly.
     let images = day::read(named)?;
-    let asked = Asked { file, user, count, images: &images };
+    let asked = Asked { file: disk.file, user, count, images: &images };
     if arguments.has("--dry-run") {
-        let (outcomes, cells) = tried(file, user, |store| asked.keep(store))?;
+        let (outcomes, cells) = tried(&disk, user, |store| asked.keep(store))?;
         return Ok(asked.reply(&outcomes, Some(&cells)));
     }
-    let mut change = Change::begin(&target, &patience)?;
+    let mut change = Change::begin(&disk, &targets, &patience)?;
     let outcomes = asked.keep(&mut change.store)?;
     if outcomes.iter().any(Result::is_ok) {
         change.finish()?;

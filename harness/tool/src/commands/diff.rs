@@ -2,18 +2,19 @@
 
 use crate::advice::{By, Call};
 use crate::arguments::Arguments;
+use crate::disk::Disk;
 use crate::json::Json;
 use crate::reply::Reply;
-use crate::syntax::{Argument, Command, Takes, FILE, TILL, USER};
+use crate::syntax::{Argument, Command, Takes, FILE, TILL, USER, WITH};
 use crate::words::{bytes, counted};
-use crate::{image, ranges, storefile, Failure};
+use crate::{image, ranges, Failure};
 use lurdempos::Right;
 use std::ops::Range;
 
 pub static COMMAND: Command = Command {
     name: "diff",
     arguments: &[FILE, TILL, Argument::needed("VERSION", Takes::Version), Argument::needed("OTHER", Takes::Version)],
-    options: &[USER],
+    options: &[WITH, USER],
     about: "show in which bytes two versions differ",
     help: "
 VERSION and OTHER are numbers, or the word newest; `list` shows which day each has. Bytes are counted from 0.
@@ -32,9 +33,10 @@ struct Pair {
 }
 
 fn run(arguments: &Arguments) -> Result<Reply, Failure> {
-    let (file, user, till) = (arguments.store()?, arguments.user()?, arguments.number(1)?);
+    let (disk, user, till) = (Disk::asked(arguments)?, arguments.user()?, arguments.number(1)?);
+    let file = disk.file;
     let (one, other) = (arguments.version(2)?, arguments.version(3)?);
-    let store = storefile::read(file)?;
+    let store = disk.read()?;
     let call = Call::of_till(file, &store, By { user, till }, Right::Restore);
     let (one, other) = (call.image_of(one)?, call.image_of(other)?);
     let differing = ranges::differing(&one.1, &other.1);

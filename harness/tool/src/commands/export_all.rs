@@ -2,12 +2,13 @@
 
 use crate::advice::{By, Call};
 use crate::arguments::{Arguments, Named};
+use crate::disk::Disk;
 use crate::folder::NewFolder;
 use crate::json::Json;
 use crate::names::shown;
 use crate::reply::Reply;
-use crate::storefile::{self, Opened};
-use crate::syntax::{Argument, Command, Takes, FILE, USER};
+use crate::storefile::Opened;
+use crate::syntax::{Argument, Command, Takes, FILE, USER, WITH};
 use crate::table::Version;
 use crate::words::{bytes, counted};
 use crate::{calendar, image, table, Failure};
@@ -17,7 +18,7 @@ use std::os::unix::fs::MetadataExt;
 pub static COMMAND: Command = Command {
     name: "export-all",
     arguments: &[FILE, Argument::needed("FOLDER", Takes::Folder)],
-    options: &[USER],
+    options: &[WITH, USER],
     about: "write the images of all versions to a folder",
     help: "
 FOLDER must not exist yet; it is there with all images or not at all. They are called till-T-version-V.img.
@@ -27,8 +28,9 @@ Another user than the owner needs the right restore on every till that holds a v
 };
 
 fn run(arguments: &Arguments) -> Result<Reply, Failure> {
-    let (file, user, path) = (arguments.store()?, arguments.user()?, arguments.place(1)?);
-    let Opened { store, metadata, .. } = storefile::open(file)?;
+    let (disk, user, path) = (Disk::asked(arguments)?, arguments.user()?, arguments.place(1)?);
+    let file = disk.file;
+    let Opened { store, metadata, .. } = disk.open()?;
     let folder = NewFolder::begin(path, metadata.mode())?;
     let mut written = Vec::new();
     for (till, versions) in (0..).zip(table::tills(&store)) {

@@ -3,15 +3,16 @@
 use super::rights::each;
 use crate::advice::{self, By, Call};
 use crate::arguments::Arguments;
+use crate::disk::Disk;
 use crate::json::Json;
 use crate::names::shown;
 use crate::patience::Patience;
 use crate::reply::Reply;
+use crate::store::Store;
 use crate::storefile::Change;
-use crate::syntax::{Argument, Command, Opt, Takes, FILE, TILL, USER, WAIT};
-use crate::target::Target;
+use crate::syntax::{Argument, Command, Opt, Takes, FILE, TILL, USER, WAIT, WITH};
 use crate::{rights, table, Failure};
-use lurdempos::{Refusal, Right, Rights, Store, OWNER};
+use lurdempos::{Refusal, Right, Rights, OWNER};
 use std::path::Path;
 
 pub static GRANT: Command = Command {
@@ -48,7 +49,7 @@ do this.
 static ARGUMENTS: [Argument; 4] =
     [FILE, TILL, Argument::needed("USER", Takes::Anything), Argument::several("RIGHT", Takes::Right)];
 
-static OPTIONS: [Opt; 2] = [USER, WAIT];
+static OPTIONS: [Opt; 3] = [WITH, USER, WAIT];
 
 /// A change that is asked for.
 struct Asked<'a> {
@@ -60,12 +61,12 @@ struct Asked<'a> {
 }
 
 fn run(arguments: &Arguments, given: bool) -> Result<Reply, Failure> {
-    let file = arguments.store()?;
+    let disk = Disk::asked(arguments)?;
     let by = By { user: arguments.user()?, till: arguments.number(1)? };
-    let asked = Asked { file, by, subject: arguments.number(2)?, rights: named(arguments)?, given };
+    let asked = Asked { file: disk.file, by, subject: arguments.number(2)?, rights: named(arguments)?, given };
     let patience = Patience::asked(arguments)?;
-    let target = Target::existing(file)?;
-    let mut change = Change::begin(&target, &patience)?;
+    let targets = disk.targets()?;
+    let mut change = Change::begin(&disk, &targets, &patience)?;
     let before = table::rights(&change.store, by.till, asked.subject);
     let after = asked.set(&mut change.store, before)?;
     if before != after {

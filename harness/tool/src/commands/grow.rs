@@ -8,11 +8,12 @@ use crate::json::Json;
 use crate::names::shown;
 use crate::patience::Patience;
 use crate::reply::Reply;
+use crate::store::Store;
 use crate::syntax::{Argument, Command, Opt, Takes, USER};
 use crate::table::{self, Layout};
 use crate::words::counted;
 use crate::{storefile, Failure};
-use lurdempos::{Capacities, Right, Rights, Store, OWNER, USERS};
+use lurdempos::{Capacities, Right, Rights, OWNER, USERS};
 use std::path::Path;
 
 pub static COMMAND: Command = Command {

@@ -3,18 +3,20 @@
 use super::capacities;
 use crate::advice::{By, Call};
 use crate::arguments::Arguments;
+use crate::disk::Disk;
 use crate::json::Json;
 use crate::reply::Reply;
-use crate::syntax::{Argument, Command, Takes, FILE, USER};
+use crate::store::Store;
+use crate::syntax::{Argument, Command, Takes, FILE, USER, WITH};
 use crate::table::{self, Version};
-use crate::{calendar, numbers, storefile, Failure};
-use lurdempos::{Listing, Refusal, Right, Store};
+use crate::{calendar, numbers, Failure};
+use lurdempos::{Listing, Refusal, Right};
 use std::path::Path;
 
 pub static COMMAND: Command = Command {
     name: "list",
     arguments: &[FILE, Argument::optional("TILL", Takes::Anything)],
-    options: &[USER],
+    options: &[WITH, USER],
     about: "show the versions held",
     help: "
 Of all tills, or of one. For each version, the oldest first: its number and bytes; the longest chain,
@@ -38,9 +40,10 @@ struct Till {
 }
 
 fn run(arguments: &Arguments) -> Result<Reply, Failure> {
-    let (file, user) = (arguments.store()?, arguments.user()?);
+    let (disk, user) = (Disk::asked(arguments)?, arguments.user()?);
+    let file = disk.file;
     let asked = arguments.word(1).map(|_| arguments.number(1)).transpose()?;
-    let store = storefile::read(file)?;
+    let store = disk.read()?;
     let tills = tills(file, &store, user, asked)?;
     let fields = Json::object([
         ("file", file.into()),

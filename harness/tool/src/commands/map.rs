@@ -40,7 +40,7 @@ fn run(arguments: &Arguments) -> Result<Reply, Failure> {
         );
     }
     if let Some(to) = to {
-        output::apart(file, to)?;
+        output::apart(file, "the store itself", to)?;
     }
     let store = storefile::read(file)?;
     let (tills, records) = (table::tills(&store), table::records(&store));

@@ -4,6 +4,7 @@ mod backup;
 mod backup_sent;
 mod bill;
 mod capacities;
+mod chain;
 mod check;
 mod closing;
 mod demo;
@@ -35,7 +36,7 @@ use crate::syntax::Command;
 use crate::{completions, help, manual, Failure};
 use std::ffi::{OsStr, OsString};
 
-pub static COMMANDS: [&Command; 25] = [
+pub static COMMANDS: [&Command; 26] = [
     &init::COMMAND,
     &backup::COMMAND,
     &closing::COMMAND,
@@ -46,6 +47,7 @@ pub static COMMANDS: [&Command; 25] = [
     &list::COMMAND,
     &tally::COMMAND,
     &bill::COMMAND,
+    &chain::COMMAND,
     &check::COMMAND,
     &map::COMMAND,
     &export::COMMAND,

@@ -3,19 +3,20 @@
 use super::sent::OUT;
 use crate::advice::{By, Call};
 use crate::arguments::Arguments;
+use crate::disk::Disk;
 use crate::json::Json;
 use crate::names::shown;
 use crate::outlet::Outlet;
 use crate::reply::Reply;
-use crate::storefile::{self, Opened};
-use crate::syntax::{Argument, Command, Takes, FILE, FORCE, TILL, USER, WAIT};
+use crate::storefile::Opened;
+use crate::syntax::{Argument, Command, Takes, FILE, FORCE, TILL, USER, WAIT, WITH};
 use crate::{advice, image, Failure};
 use lurdempos::{Refusal, Right, FINGERPRINT, MOST_SEGMENTS};
 
 pub static COMMAND: Command = Command {
     name: "offer",
     arguments: &[FILE, TILL, Argument::needed("FINGERPRINTS", Takes::File), OUT],
-    options: &[FORCE, USER, WAIT],
+    options: &[FORCE, WITH, USER, WAIT],
     about: "mark which segments of a till's image the store has",
     help: "
 FINGERPRINTS is a file with a till's first message, or - for standard input: 20 bytes, the SHA-1, for each
@@ -27,11 +28,12 @@ changed. What the till then sends goes in with `lurdempos backup-sent`.
 };
 
 fn run(arguments: &Arguments) -> Result<Reply, Failure> {
-    let (file, user, till) = (arguments.store()?, arguments.user()?, arguments.number(1)?);
+    let (disk, user, till) = (Disk::asked(arguments)?, arguments.user()?, arguments.number(1)?);
+    let file = disk.file;
     let (path, outlet) = (arguments.path(2)?, Outlet::asked(arguments, 3, "marks")?);
     // One byte more than there can be is enough to refuse them.
     let prints = image::read_beginning(path, FINGERPRINT * MOST_SEGMENTS + 1)?;
-    let Opened { store, metadata, .. } = storefile::open(file)?;
+    let Opened { store, metadata, .. } = disk.open()?;
     let marks = store.offer(user, till, &prints).map_err(|refusal| match refusal {
         Refusal::ImageLength => advice::no_fingerprints(file, &store, &image::name(path), prints.len()),
         _ => Call::of_till(file, &store, By { user, till }, Right::BackUp).refused(refusal),

@@ -3,15 +3,16 @@
 use super::dry_run::{tried, Cells};
 use crate::advice::{By, Call};
 use crate::arguments::Arguments;
+use crate::disk::Disk;
 use crate::json::Json;
 use crate::patience::Patience;
 use crate::reply::Reply;
+use crate::store::Store;
 use crate::storefile::Change;
-use crate::syntax::{Argument, Command, Opt, Takes, DRY_RUN, FILE, TILL, USER, WAIT};
-use crate::target::Target;
+use crate::syntax::{Argument, Command, Opt, Takes, DRY_RUN, FILE, TILL, USER, WAIT, WITH};
 use crate::words::bytes;
 use crate::{image, numbers, table, Failure};
-use lurdempos::{Right, Store};
+use lurdempos::Right;
 use std::path::Path;
 
 pub static COMMAND: Command = Command {
@@ -20,6 +21,7 @@ pub static COMMAND: Command = Command {
     options: &[
         Opt::with("--keep", "N", "in VERSION's place: retire the oldest versions until N are left, in one write"),
         DRY_RUN,
+        WITH,
         USER,
         WAIT,
     ],
@@ -27,7 +29,8 @@ pub static COMMAND: Command = Command {
     help: "
 VERSION is the number of any version that the till holds, also of its newest. The others keep their numbers
 and images; the number that is gone is not given again. The reply tells the bytes of the image that is gone.
-Another user than the owner needs the right retire on the till, and with --keep also list.
+Another user than the owner needs the right retire on the till, and with --keep also list. No limit on the
+cells of a disk refuses it, so that there is no --limit here.
 ",
     run,
 };
@@ -44,16 +47,17 @@ enum Which {
 type Retired = Vec<(u32, u32)>;
 
 fn run(arguments: &Arguments) -> Result<Reply, Failure> {
-    let file = arguments.store()?;
+    let disk = Disk::asked(arguments)?;
+    let file = disk.file;
     let by = By { user: arguments.user()?, till: arguments.number(1)? };
     let which = which(arguments)?;
     let patience = Patience::asked(arguments)?;
-    let target = Target::existing(file)?;
+    let targets = disk.targets()?;
     if arguments.has("--dry-run") {
-        let (retired, cells) = tried(file, by.user, |store| retire(file, store, by, which))?;
+        let (retired, cells) = tried(&disk, by.user, |store| retire(file, store, by, which))?;
         return Ok(reply(file, by.till, &retired, Some(&cells)));
     }
-    let mut change = Change::begin(&target, &patience)?;
+    let mut change = Change::begin(&disk, &targets, &patience)?;
     let retired = retire(file, &mut change.store, by, which)?;
     if !retired.is_empty() {
         change.finish()?;

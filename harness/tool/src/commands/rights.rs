@@ -4,9 +4,10 @@ use crate::arguments::Arguments;
 use crate::json::Json;
 use crate::reply::Reply;
 use crate::rights::{letters, word};
+use crate::store::Store;
 use crate::syntax::{Command, FILE};
 use crate::{storefile, table, Failure};
-use lurdempos::{Right, Rights, Store, USERS};
+use lurdempos::{Right, Rights, USERS};
 
 pub static COMMAND: Command = Command {
     name: "rights",

@@ -6,11 +6,12 @@ use crate::json::Json;
 use crate::names::shown;
 use crate::outlet::Outlet;
 use crate::reply::Reply;
+use crate::store::Store;
 use crate::storefile::{self, Opened};
 use crate::syntax::{Argument, Command, Takes, FILE, FORCE, WAIT};
 use crate::words::{bytes, counted};
 use crate::{image, Failure};
-use lurdempos::{sending, Refusal, Right, Store, MOST_SEGMENTS, OWNER};
+use lurdempos::{sending, Refusal, Right, MOST_SEGMENTS, OWNER};
 use std::path::Path;
 
 pub static COMMAND: Command = Command {

@@ -2,18 +2,20 @@
 
 use super::capacities::{self, measures_in_words};
 use crate::arguments::Arguments;
+use crate::disk::Disk;
 use crate::json::Json;
 use crate::reply::Reply;
-use crate::syntax::{Command, FILE, USER};
+use crate::store::Store;
+use crate::syntax::{Command, FILE, USER, WITH};
 use crate::words::bytes;
-use crate::{advice, storefile, table, Failure};
-use lurdempos::{Store, Tally, OWNER};
+use crate::{advice, table, Failure};
+use lurdempos::{Tally, OWNER};
 use std::path::Path;
 
 pub static COMMAND: Command = Command {
     name: "tally",
     arguments: &[FILE],
-    options: &[USER],
+    options: &[WITH, USER],
     about: "show the space in use",
     help: "
 Occupied cells and records in use, each of how many there are; the sum of all counts, which is how many
@@ -26,8 +28,8 @@ are refused.
 };
 
 fn run(arguments: &Arguments) -> Result<Reply, Failure> {
-    let file = arguments.store()?;
-    let store = storefile::read(file)?;
+    let disk = Disk::asked(arguments)?;
+    let (file, store) = (disk.file, disk.read()?);
     let tally = asked(file, &store, arguments.user()?)?;
     Ok(Reply::text(text(&store, tally), fields(file, &store, tally)))
 }

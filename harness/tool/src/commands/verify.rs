@@ -2,17 +2,18 @@
 
 use crate::advice::{By, Call};
 use crate::arguments::Arguments;
+use crate::disk::Disk;
 use crate::json::Json;
 use crate::reply::Reply;
-use crate::syntax::{Argument, Command, Takes, DAY, FILE, TILL, USER, VERSION};
+use crate::syntax::{Argument, Command, Takes, DAY, FILE, TILL, USER, VERSION, WITH};
 use crate::words::bytes;
-use crate::{calendar, image, storefile, table, Failure};
+use crate::{calendar, image, table, Failure};
 use lurdempos::Right;
 
 pub static COMMAND: Command = Command {
     name: "verify",
     arguments: &[FILE, TILL, VERSION, Argument::needed("IMAGE", Takes::File)],
-    options: &[DAY, USER],
+    options: &[DAY, WITH, USER],
     about: "compare a version with an image",
     help: "
 VERSION is a number, or the word newest; --day stands in its place, as for `restore`. IMAGE is a file, or -
@@ -23,10 +24,11 @@ the first byte that differs.
 };
 
 fn run(arguments: &Arguments) -> Result<Reply, Failure> {
-    let (file, user, till) = (arguments.store()?, arguments.user()?, arguments.number(1)?);
+    let (disk, user, till) = (Disk::asked(arguments)?, arguments.user()?, arguments.number(1)?);
+    let file = disk.file;
     let (version, path) = (arguments.version(2)?, arguments.path(3)?);
     let given = image::read(path)?;
-    let store = storefile::read(file)?;
+    let store = disk.read()?;
     let (version, kept) = Call::of_till(file, &store, By { user, till }, Right::Restore).image_of(version)?;
     let first = kept.iter().zip(&given).position(|(one, other)| one != other);
     let first = first.or((kept.len() != given.len()).then_some(kept.len().min(given.len())));

@@ -1,0 +1,2 @@
+-- Where the stores of a chain lie.
+pub mod Places
