@@ -56,6 +56,9 @@ case3 =
     ∷ recordIs 0 (replicate 7 removed ++ (held 16 1 ∷ []))
     ∷ recordIs 1 (replicate 7 removed ++ (held 17 1 ∷ []))
     ∷ recordIs 2 (run8 0 1)
+    ∷ slotIs 0 (v512 1 (counted indirect 0 7 ++ (direct 0 7 ∷ [])))
+    ∷ slotIs 1 (v512 2 (counted indirect 0 7 ++ (direct 1 7 ∷ [])))
+    ∷ slotIs 2 (v512 3 (to8 2))
     ∷ poolIs (blocks ABCDEFGH ++ (zeros (64 * 8) ++ (blocks (72 ∷ 90 ∷ []) ++ zeros (64 * 14))))
     ∷ tally 0 10 3 10
     ∷ []
@@ -112,6 +115,7 @@ theDay =
           backup 0 (blocks (ABCDEFGH ++ ABCDEFGH)) 0 1
           ∷ recordIs 0 (run8 0 2)
           ∷ recordIs 1 (replicate 8 nullPosition)
+          ∷ slotIs 0 (version 1 (to8 0 ++ to8 0))
           ∷ poolIs (blocks ABCDEFGH ++ zeros (64 * 24))
           ∷ tally 0 8 1 16
           ∷ [];
@@ -123,6 +127,8 @@ theDay =
           backup 0 (blocks ABCDEFGH) 0 1
           ∷ backup 0 (blocks AIJKLMNO) 0 2
           ∷ recordIs 0 (removed ∷ counted (λ c. held c 1) 1 7)
+          ∷ slotIs 0 (v512 1 (indirect 0 ∷ counted (direct 0) 1 7))
+          ∷ slotIs 1 (v512 2 (to8 1))
           ∷ poolIs (zeros 64 ++ (drop 64 (blocks ABCDEFGH) ++ (blocks AIJKLMNO ++ zeros (64 * 16))))
           ∷ tally 0 15 2 15
           ∷ [];
@@ -133,6 +139,8 @@ theDay =
           backup 0 (blocks ABCDEFGH) 0 1
           ∷ backup 0 (blocks ABIJKLMN) 0 2
           ∷ recordIs 0 (removed ∷ removed ∷ counted (λ c. held c 1) 16 6)
+          ∷ slotIs 0 (v512 1 (indirect 0 ∷ indirect 1 ∷ counted (direct 0) 2 6))
+          ∷ slotIs 1 (v512 2 (to8 1))
           ∷ poolIs (zeros (64 * 8) ++ (blocks ABIJKLMN ++ (drop 128 (blocks ABCDEFGH) ++ zeros (64 * 10))))
           ∷ tally 0 14 2 14
           ∷ [];
@@ -144,6 +152,8 @@ theDay =
           backup 0 (blocks ABCDEFGH) 0 1
           ∷ backup 0 (blocks ABIJKLMN) 0 2
           ∷ recordIs 0 (removed ∷ removed ∷ counted (λ c. held c 1) 2 6)
+          ∷ slotIs 0 (v512 1 (indirect 0 ∷ indirect 1 ∷ counted (direct 0) 2 6))
+          ∷ slotIs 1 (v512 2 (to8 1))
           ∷ poolIs (zeros 128 ++ (drop 128 (blocks ABCDEFGH) ++ blocks ABIJKLMN))
           ∷ tally 0 14 2 14
           ∷ [];
@@ -353,6 +363,15 @@ beside =
           ∷ tally 0 8 1 8
           ∷ [];
     }
+    -- the first segment finds a record and no run, and a later one would find no record: 16
+    ∷ record {
+      capacities = atBase (record { tills = 1; versions = 2; blocks = 16; records = 2; cells = 15 });
+      steps =
+          backup 0 (blocks ABCDEFGH) 0 1
+          ∷ backup 0 (blocks (IJKLMNOP ++ QRSTUVWX)) 16 0
+          ∷ tally 0 8 1 8
+          ∷ [];
+    }
     -- table length 1; lay out 1 before 2; backup 3, 4, 11
     ∷ record {
       capacities = atBase (record { tills = 1; versions = 1; blocks = 1; records = 1; cells = 1 });
@@ -426,6 +445,16 @@ beside =
           ∷ backup 0 (replicate 64 7) 11 0
           ∷ retire 0 65535 0 64
           ∷ backup 0 (replicate 64 7) 12 0
+          ∷ [];
+    }
+    -- 12 before 14
+    ∷ record {
+      capacities = atBase (record { tills = 2; versions = 1; blocks = 1; records = 1; cells = 1 });
+      steps =
+          backup 1 (replicate 64 7) 0 1
+          ∷ backup 0 (replicate 64 9) 14 0
+          ∷ overwrite 8 65535
+          ∷ backup 0 (replicate 64 9) 12 0
           ∷ [];
     }
     -- no sound store: 10 before all others; word 11 is a reserved one, which is zero in every sound store
