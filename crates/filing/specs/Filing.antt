@@ -45,7 +45,7 @@ pub record SameHead (old new : List ℕ) : Type 0 where
   pub last : getD new 0 0 ≡ getD old 0 0
   pub held : getD new 1 0 ≡ getD old 1 0
 
--- a slot is left, and a number
+-- there is room for one slot more, and the last number given is at most 65,535
 pub record SlotLeft (b : ℕ) (till : List ℕ) : Type 0 where
   pub slot : 4 + (getD till 1 0 + 1) * (3 + b) ≤ length till
   pub number : getD till 0 0 ≤ 65535

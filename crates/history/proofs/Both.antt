@@ -21,10 +21,10 @@ use Rattle.model.specs.Rights.{has, toBackUp, refusalAt, unless}
 use Rattle.sent.specs.Sent.{segmentBytes, contents, zeroSegment, made, backupSent}
 use Rattle.sent.specs.Claims.{knownIn, NoneShare, segmentsSent}
 use Rattle.closing.specs.Closing.{TillImage, imagesIn, closingFits, backupEach, AllAnswer, allRefused, allAnswer, backupAll, backupAllAs}
-use Rattle.history.specs.Calls.{Call, callLayout, callBackup, callRestore, callRetire, callListing, callVersionOn, callTally, callBill, callWriteStream, callOffer, callBackupSent, callBackupAll, callSetRights, Buffers, Answer, refusalIn, refusedLayout}
+use Rattle.history.specs.Calls.{Call, callLayout, callBackup, callRestore, callRetire, callListing, callVersionOn, callTally, callBill, callWriteStream, callOffer, callBackupSent, callBackupAll, callSetRights, Buffers, Answer, refusalIn, refusedLayout, tillNamed}
 use Rattle.history.specs.Users.{UserCall, answerBy, refusalBy, forUser, stateBy, answerInBy}
 use Rattle.history.specs.Keeper.{imageOr, imageSent, CallMade, backupFor, backupsMade, closingMade, itself, comesTo}
-use Rattle.history.specs.View.{TillView, isOnTill, tillNamed, changed, IsPlain}
+use Rattle.history.specs.View.{TillView, isOnTill, changed, IsPlain}
 use Rattle.history.specs.Apart.{both, second, IsOn, FromTill, IsFromTill, sentWith, segmentsMet}
 use Rattle.history.proofs.Steps.{Left, left-store, closing-same}
 use Rattle.history.proofs.Users.{answer-by}

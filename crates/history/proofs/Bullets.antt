@@ -19,10 +19,10 @@ use Rattle.laws.proofs.Tills.{not-held-some}
 use Rattle.model.specs.Sound.{storeOf}
 use Rattle.model.specs.Calls.{tillOf, heldFrom, BackupAnswer, backupBy, restoreOf, restoreRefusal, retireOf, listingOf, listingRefusal, RestoreAnswer, ListingAnswer, retire, backup, notHeld}
 use Rattle.model.specs.Rights.{toBackUp, toRestore, userRefusal, backupRefusal, restoreAs}
-use Rattle.history.specs.Calls.{Call, callBackup, callBackupSent, callRestore, callRetire, callListing, Buffers, Answer, laidOut, backedUp, restored, retired, listed, foundOn, tallied, billed, streamed, offered, backedUpAll, rightsSet, answerOf, refusalIn}
+use Rattle.history.specs.Calls.{Call, callBackup, callBackupSent, callRestore, callRetire, callListing, Buffers, Answer, laidOut, backedUp, restored, retired, listed, foundOn, tallied, billed, streamed, offered, backedUpAll, rightsSet, answerOf, refusalIn, tillNamed}
 use Rattle.history.specs.Users.{answerBy, refusalBy}
-use Rattle.history.specs.Keeper.{Kept, KeptTill, Keeper, noTill, keptTill, filed, imageSent, fed, fedEach, comesTo, keptFrom, oldestKept, newestKept}
-use Rattle.history.specs.View.{VersionView, TillView, viewOf, viewAt, isOnTill, tillNamed, chainShown, newestDayShown, dayShown, shownFrom, oldestShown, newestShown, restoreShown, retireShown, answerShown}
+use Rattle.history.specs.Keeper.{Kept, KeptTill, Keeper, noTill, keptTill, filed, imageSent, change, fed, fedEach, comesTo, keptFrom, oldestKept, newestKept}
+use Rattle.history.specs.View.{VersionView, TillView, viewOf, viewAt, isOnTill, chainShown, newestDayShown, dayShown, shownFrom, oldestShown, newestShown, restoreShown, retireShown, answerShown}
 use Rattle.sent.specs.Sent.{backupSentBy, backupSentOf, backupSentAs}
 use Rattle.history.specs.Demand.{Restores}
 use Rattle.history.proofs.Sent.{accepted-is}
@@ -249,7 +249,7 @@ module _ (s : Shape) (b : Buffers) (st : State) (k : Keeper) (l : Left s b st) (
   backup-given era t d image z = subst (Given t (suc (shown t .last))) (sym (answer-is (callBackup era t d image) refl (room era t d image z))) (backup-is era t d image) z
 
   fed-last : (era : Era) (t : ℕ) (d : Option ℕ) (image : List ℕ) → t < length k → keptTill (fed k (callBackup era t d image) true) t .last ≡ suc (keptTill k t .last)
-  unfolding fed keptTill filed
+  unfolding fed change tillNamed keptTill filed
   fed-last era t d image h = ap (λ (y : KeptTill). y .last) (getD-set-same k t (filed (keptTill k t) d image) noTill h)
 
   pub retire-given : (t v : ℕ) → retireOf (b .pool) (b .table) t v .refusal ≡ 0

@@ -15,56 +15,16 @@ use Rattle.model.specs.Sound.{isSound}
 use Rattle.model.specs.Calls.{emptyTill, tillOf, emptyState, backup, retire, outcomeRefusal}
 use Rattle.model.specs.Rights.{setRights}
 use Rattle.laws.proofs.Fits.{Proper}
-use Rattle.history.specs.Calls.{Call, callLayout, callBackup, callRestore, callRetire, callListing, callVersionOn, callTally, callBill, callWriteStream, callOffer, callBackupSent, callBackupAll, callSetRights, Buffers, stateAfter, answerIn, refusalIn, isAccepted}
+use Rattle.history.specs.Calls.{Call, callLayout, callBackup, callRestore, callRetire, callListing, callVersionOn, callTally, callBill, callWriteStream, callOffer, callBackupSent, callBackupAll, callSetRights, Buffers, stateAfter, answerIn, refusalIn, isAccepted, tillNamed}
 use Rattle.history.specs.Users.{UserCall, buffersBy, stateBy, refusedLayouts, stateAfterAll}
-use Rattle.history.specs.Keeper.{KeptTill, Keeper, noTill, freshKeeper, keptTill, filed, struckOut, rightsKept, fed, CallMade, fedEach, comesTo, fedAll}
-use Rattle.history.specs.View.{TillView, viewVersions, viewOf, viewAt, tillNamed, changed, IsPlain}
+use Rattle.history.specs.Keeper.{KeptTill, Keeper, noTill, freshKeeper, keptTill, filed, struckOut, change, fed, CallMade, fedEach, comesTo, fedAll}
+use Rattle.history.specs.View.{TillView, viewVersions, viewOf, viewAt, changed, IsPlain}
 use Rattle.history.proofs.Kept.{AgreeTill, till-filed, till-struck, till-rights}
 use Rattle.history.proofs.Shown.{shown-numbers}
 use Rattle.history.proofs.Frame.{frame-own, frame-other}
 use Rattle.history.proofs.Steps.{Left}
 use Rattle.history.proofs.Users.{left-by}
 use Rattle.history.proofs.Carried.{madeOf, made-sound, Carries, carried}
-
--- ---- the keeper, till by till
-
--- what a call that was accepted or refused makes of what is kept of its till
-unfoldable pub change : Call → Bool → KeptTill → KeptTill
-change (callLayout c) ok y = y
-change (callBackup era t d image) true y = filed y d image
-change (callBackup era t d image) false y = y
-change (callRestore t v output) ok y = y
-change (callRetire t v) true y = struckOut y v
-change (callRetire t v) false y = y
-change (callListing t) ok y = y
-change (callVersionOn t day) ok y = y
-change callTally ok y = y
-change (callBill price) ok y = y
-change (callWriteStream t v output) ok y = y
-change (callOffer t fs ms) ok y = y
-change (callBackupSent t n fs ms ss) ok y = y
-change (callBackupAll ts ns is) ok y = y
-change (callSetRights subject t r) true y = rightsKept y subject r
-change (callSetRights subject t r) false y = y
-
-fed-is : (k : Keeper) (call : Call) (ok : Bool) → fed k call ok ≡ set k (tillNamed call) (change call ok (keptTill k (tillNamed call)))
-unfolding fed tillNamed change keptTill
-fed-is k (callLayout c) ok = sym (set-getD k 0 noTill)
-fed-is k (callBackup era t d image) true = refl
-fed-is k (callBackup era t d image) false = sym (set-getD k t noTill)
-fed-is k (callRestore t v output) ok = sym (set-getD k t noTill)
-fed-is k (callRetire t v) true = refl
-fed-is k (callRetire t v) false = sym (set-getD k t noTill)
-fed-is k (callListing t) ok = sym (set-getD k t noTill)
-fed-is k (callVersionOn t day) ok = sym (set-getD k t noTill)
-fed-is k callTally ok = sym (set-getD k 0 noTill)
-fed-is k (callBill price) ok = sym (set-getD k 0 noTill)
-fed-is k (callWriteStream t v output) ok = sym (set-getD k t noTill)
-fed-is k (callOffer t fs ms) ok = sym (set-getD k t noTill)
-fed-is k (callBackupSent t n fs ms ss) ok = sym (set-getD k t noTill)
-fed-is k (callBackupAll ts ns is) ok = sym (set-getD k 0 noTill)
-fed-is k (callSetRights subject t r) true = refl
-fed-is k (callSetRights subject t r) false = sym (set-getD k t noTill)
 
 -- ---- the keeper `k` beside the state `st`
 
@@ -137,7 +97,8 @@ module _ (s : Shape) (pr : Proper (s .measures)) (st : State) (h : isSound s st 
 
   module _ (k : Keeper) (z : Stands s k st) where
     fed-own : (call : Call) → keptTill (fed k call (isAccepted s st call)) (tillNamed call) ≡ change call (isAccepted s st call) (keptTill k (tillNamed call))
-    fed-own call = ap (λ (l : Keeper). keptTill l (tillNamed call)) (fed-is k call (isAccepted s st call)) ∙ go (leb (s .capacities .tills) (tillNamed call)) refl
+    unfolding fed
+    fed-own call = go (leb (s .capacities .tills) (tillNamed call)) refl
       where
         new : KeptTill
         new = change call (isAccepted s st call) (keptTill k (tillNamed call))
@@ -149,12 +110,13 @@ module _ (s : Shape) (pr : Proper (s .measures)) (st : State) (h : isSound s st 
         go false e = unfold keptTill in getD-set-same k (tillNamed call) new noTill (omega (arith, leb-false (s .capacities .tills) (tillNamed call) e, z .many))
 
     fed-other : (call : Call) (ok : Bool) (t : ℕ) → (t ≡ tillNamed call → ⊥) → keptTill (fed k call ok) t ≡ keptTill k t
-    unfolding keptTill
-    fed-other call ok t ne = ap (λ (l : Keeper). getD l t noTill) (fed-is k call ok) ∙ getD-set-other k (tillNamed call) t _ noTill ne
+    unfolding fed keptTill
+    fed-other call ok t ne = getD-set-other k (tillNamed call) t _ noTill ne
 
     pub stands-plain : (call : Call) → IsPlain call → Stands s (fed k call (isAccepted s st call)) (stateAfter s st call)
+    unfolding fed
     stands-plain call plain = record {
-      many = ap length (fed-is k call (isAccepted s st call)) ∙ length-set k (tillNamed call) _ ∙ z .many;
+      many = length-set k (tillNamed call) _ ∙ z .many;
       tills = λ t. go t (eqb t (tillNamed call)) refl;
     }
       where
@@ -175,21 +137,25 @@ module _ (s : Shape) (pr : Proper (s .measures)) (st : State) (h : isSound s st 
             (subst (λ (y : KeptTill). AgreeTill (s .measures .blockBytes) y (viewAt (s .measures .blockBytes) st t)) (sym (fed-other call (isAccepted s st call) t ne)) (z .tills t))
 
 -- a refused call is nothing to the keeper
-fed-refused : (k : Keeper) (call : Call) → IsPlain call → fed k call false ≡ k
-unfolding fed
-fed-refused k (callLayout c) p = refl
-fed-refused k (callBackup era t d image) p = refl
-fed-refused k (callRestore t v output) p = refl
-fed-refused k (callRetire t v) p = refl
-fed-refused k (callListing t) p = refl
-fed-refused k (callVersionOn t day) p = refl
-fed-refused k callTally p = refl
-fed-refused k (callBill price) p = refl
-fed-refused k (callWriteStream t v output) p = refl
-fed-refused k (callOffer t fs ms) p = refl
-fed-refused k (callBackupSent t n fs ms ss) p = absurd p
-fed-refused k (callBackupAll ts ns is) p = absurd p
-fed-refused k (callSetRights subject t r) p = refl
+change-refused : (call : Call) (y : KeptTill) → change call false y ≡ y
+unfolding change
+change-refused (callLayout c) y = refl
+change-refused (callBackup era t d image) y = refl
+change-refused (callRestore t v output) y = refl
+change-refused (callRetire t v) y = refl
+change-refused (callListing t) y = refl
+change-refused (callVersionOn t day) y = refl
+change-refused callTally y = refl
+change-refused (callBill price) y = refl
+change-refused (callWriteStream t v output) y = refl
+change-refused (callOffer t fs ms) y = refl
+change-refused (callBackupSent t n fs ms ss) y = refl
+change-refused (callBackupAll ts ns is) y = refl
+change-refused (callSetRights subject t r) y = refl
+
+fed-refused : (k : Keeper) (call : Call) → fed k call false ≡ k
+unfolding fed keptTill
+fed-refused k call = ap (set k (tillNamed call)) (change-refused call (getD k (tillNamed call) noTill)) ∙ set-getD k (tillNamed call) noTill
 
 -- a plain call that was accepted or refused as it was made
 pub stands-made : (s : Shape) → Proper (s .measures) → (m : CallMade) (st : State) → isSound s st ≡ true → IsPlain (m .call) → (m .accepted ≡ true → isAccepted s st (m .call) ≡ true)
@@ -198,7 +164,7 @@ stands-made s pr m st h p ok k z = go (m .accepted) ok
   where
     go : (b : Bool) → (b ≡ true → isAccepted s st (m .call) ≡ true) → Stands s (fed k (m .call) b) (cond b (stateAfter s st (m .call)) st)
     go true q = subst (λ (b : Bool). Stands s (fed k (m .call) b) (stateAfter s st (m .call))) (q refl) (stands-plain s pr st h k z (m .call) p)
-    go false q = subst (λ (l : Keeper). Stands s l st) (sym (fed-refused k (m .call) p)) z
+    go false q = subst (λ (l : Keeper). Stands s l st) (sym (fed-refused k (m .call))) z
 
 -- any call, fed as what it comes to
 stands-each : (s : Shape) → Proper (s .measures) → (ms : List CallMade) (st end : State) → isSound s st ≡ true → Carries s st ms end → (k : Keeper) → Stands s k st → Stands s (fedEach k ms) end

@@ -10,9 +10,9 @@ use native.Mathlib.Omega.{arith}
 use lib.ListN.{length, getD, set, length-map}
 use lib.Dec.{eqb}
 use borrow.Author.Tests.{eqb-true, ne-eqb}
-use Rattle.lists.specs.Lists.{keep, firstFrom, sameNumbers, rises}
+use Rattle.lists.specs.Lists.{keep, isSome, firstFrom, sameNumbers, rises}
 use Rattle.lists.specs.Over.{over}
-use Rattle.lists.proofs.First.{first-none, isNone}
+use Rattle.lists.proofs.First.{first-some}
 use Rattle.lists.proofs.Rises.{rises-first}
 use Rattle.lists.proofs.Same.{same-refl}
 use Rattle.lists.proofs.Tests.{by-test}
@@ -58,15 +58,15 @@ AgreeTill bytes y w = (w .last ≡ y .last) × Agree bytes (y .versions) (w .ver
 -- ---- a block that the new image has
 
 turned-shared : (era : Era) (new : List Block) (k : Kind) (b : Block) (i : ℕ) → i < length new → b ≡ getD new i [] → isDirectKind (turnedKind era new k b) ≡ false
-unfolding turnedKind turnsTo isDirectKind isNone
+unfolding turnedKind turnsTo isDirectKind isSome
 turned-shared era new zeroKind b i l e = refl
 turned-shared era new blankKind b i l e = refl
 turned-shared era new directKind b i l e =
     by-test (λ (o : Option Pointer). isDirectKind (kindAt o) ≡ false) (isBlank era b) (λ q. refl)
-    (λ q. go (firstFrom (sameNumbers b) 0 new) (first-none (sameNumbers b) [] new 0 i l (ap (sameNumbers b) (sym e) ∙ same-refl b)))
+    (λ q. go (firstFrom (sameNumbers b) 0 new) (first-some (sameNumbers b) [] new 0 i l (ap (sameNumbers b) (sym e) ∙ same-refl b)))
   where
-    go : (o : Option ℕ) → isNone o ≡ false → isDirectKind (kindAt (indirectAt o)) ≡ false
-    go none q = absurd (false≢true (sym q))
+    go : (o : Option ℕ) → isSome o ≡ true → isDirectKind (kindAt (indirectAt o)) ≡ false
+    go none q = absurd (false≢true q)
     go (some n) q = refl
 turned-shared era new (indirectKind n) b i l e = refl
 

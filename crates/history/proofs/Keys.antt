@@ -17,10 +17,10 @@ use Rattle.model.specs.Rights.{Right, toList, toBackUp, toRestore, toRetire, us
 use Rattle.stream.specs.Stream.{StreamAnswer, streamRefusal}
 use Rattle.stream.specs.Version.{writeStreamOf, writeStreamAs}
 use Rattle.sent.specs.Sent.{OfferAnswer, offerOf, offerAs, backupSentOf, backupSentAs}
-use Rattle.history.specs.Calls.{Call, callLayout, callBackup, callRestore, callRetire, callListing, callVersionOn, callTally, callBill, callWriteStream, callOffer, callBackupSent, callBackupAll, callSetRights, Buffers, refusalIn}
+use Rattle.history.specs.Calls.{Call, callLayout, callBackup, callRestore, callRetire, callListing, callVersionOn, callTally, callBill, callWriteStream, callOffer, callBackupSent, callBackupAll, callSetRights, Buffers, refusalIn, tillNamed}
 use Rattle.history.specs.Users.{rightFor, answerBy, refusalBy}
 use Rattle.history.specs.Keeper.{Keeper, keptTill}
-use Rattle.history.specs.View.{viewOf, tillNamed}
+use Rattle.history.specs.View.{viewOf}
 use Rattle.history.specs.Demand.{Keys}
 use Rattle.history.proofs.Steps.{Left, left-store, rights-same}
 use Rattle.history.proofs.Users.{refusal-at, set-refusal}

@@ -19,8 +19,8 @@ use Rattle.model.specs.Trace.{imageOf}
 use Rattle.model.specs.Calls.{tillOf, heldFrom, restoreFrom, restoreRefusal, restore, heldBefore, retireFrom, retire, newestDay, dayFor, VersionOnAnswer, notAfter, versionOnIn, fileIn, placeAndFile, backup, listTill, listingRefusal, listingIn, RestoreAnswer, After, firstOf, notHeld, lookUp, outcomeRefusal, outcomeNumber}
 use Rattle.model.specs.Rights.{setRights}
 use Rattle.stream.specs.Version.{longestOutput, writeRestored, writeVersion}
-use Rattle.history.specs.Calls.{Call, callLayout, callBackup, callRestore, callRetire, callListing, callVersionOn, callTally, callBill, callWriteStream, callOffer, callBackupSent, callBackupAll, callSetRights, Answer, backedUp, restored, retired, listed, foundOn, streamed, rightsSet, answerIn}
-use Rattle.history.specs.View.{VersionView, viewVersions, viewOf, viewAt, isOnTill, tillNamed, shownFrom, shownNotAfter, restoreShown, retireShown, answerShown}
+use Rattle.history.specs.Calls.{Call, callLayout, callBackup, callRestore, callRetire, callListing, callVersionOn, callTally, callBill, callWriteStream, callOffer, callBackupSent, callBackupAll, callSetRights, Answer, backedUp, restored, retired, listed, foundOn, streamed, rightsSet, answerIn, tillNamed}
+use Rattle.history.specs.View.{VersionView, viewVersions, viewOf, viewAt, isOnTill, shownFrom, shownNotAfter, restoreShown, retireShown, answerShown}
 use Rattle.history.proofs.Users.{set-refusal}
 use Rattle.history.proofs.Shown.{views-length, newest-day-is, day-is, newest-or-none, oldest-is, newest-is, from-same, chain-is}
 
@@ -204,7 +204,7 @@ rights-shown : (s : Shape) (st : State) (subject t : ℕ) (r : Rights)
 unfolding answerShown
 rights-shown s st subject t r = ap rightsSet (set-refusal s st 0 subject t r)
 
--- a backup that is answered 14 or 16
+-- a backup is not answered 14 or 16; of any other call nothing is asked
 abbrev pub HasRoom : Call → Answer → Type 0
 HasRoom (callLayout c) a = Unit {0}
 HasRoom (callBackup era t d image) a = Roomy a

@@ -62,7 +62,7 @@ rights-alters b u subject t r h = go (storeOf (b .pool) (b .table)) h
 
 -- no buffer is altered
 pub alters-nothing : (b : Buffers) (call : Call) → ¬ (refusalOf b call ≡ 0) → buffersAfter b call ≡ b
-unfolding refusalOf buffersAfter
+unfolding refusalOf answerOf refusalIn buffersAfter
 alters-nothing b (callLayout c) h =
     unfold layoutOf in (let r = layout-refused _ _ _ (b .pool) (b .table) h in same-buffers b _ _ (r .0) (r .1))
 alters-nothing b (callBackup era t d image) h = unfold backupBy in go (storeOf (b .pool) (b .table)) h
@@ -201,7 +201,7 @@ closing-zero b u ts ns is h = go (storeOf (b .pool) (b .table)) h
     go (some x) h = unfold backupAllIn in one (x .shape) (backupAll (x .shape) (x .state) u ts ns is) h
 
 pub answers-number-only : (b : Buffers) (call : Call) → ¬ (refusalOf b call ≡ 0) → answerOf b call ≡ refusedWith (refusalOf b call) call
-unfolding refusalOf answerOf refusedWith
+unfolding refusalOf answerOf refusalIn refusedWith
 answers-number-only b (callLayout c) h = refl
 answers-number-only b (callBackup era t d image) h = unfold backupBy in go (storeOf (b .pool) (b .table)) h
   where
@@ -261,13 +261,13 @@ retire-unless b n a h = go (eqb n 0)
 
 pub alters-nothing-by : (b : Buffers) (u : ℕ) (call : Call) → ¬ (refusalBy b u call ≡ 0) → buffersBy b u call ≡ b
 unfolding refusalBy answerBy refusalIn buffersBy
-alters-nothing-by b u (callLayout c) h = unfold refusalOf buffersAfter in alters-nothing b (callLayout c) h
+alters-nothing-by b u (callLayout c) h = unfold refusalOf answerOf refusalIn buffersAfter in alters-nothing b (callLayout c) h
 alters-nothing-by b u (callBackup era t d image) h =
-    unfold backupAs refusalOf buffersAfter in
+    unfold backupAs refusalOf answerOf refusalIn buffersAfter in
     backup-unless b (refusalFor (storeOf (b .pool) (b .table)) u t toBackUp) (backupBy era (b .pool) (b .table) t d image) (alters-nothing b (callBackup era t d image)) h
 alters-nothing-by b u (callRestore t v output) h = refl
 alters-nothing-by b u (callRetire t v) h =
-    unfold retireAs refusalOf buffersAfter in
+    unfold retireAs refusalOf answerOf refusalIn buffersAfter in
     retire-unless b (refusalFor (storeOf (b .pool) (b .table)) u t toRetire) (retireOf (b .pool) (b .table) t v) (alters-nothing b (callRetire t v)) h
 alters-nothing-by b u (callListing t) h = refl
 alters-nothing-by b u (callVersionOn t day) h = refl
@@ -276,7 +276,7 @@ alters-nothing-by b u (callBill price) h = refl
 alters-nothing-by b u (callWriteStream t v output) h = refl
 alters-nothing-by b u (callOffer t fs ms) h = refl
 alters-nothing-by b u (callBackupSent t n fs ms ss) h =
-    unfold backupSentAs refusalOf buffersAfter in
+    unfold backupSentAs refusalOf answerOf refusalIn buffersAfter in
     backup-unless b (refusalFor (storeOf (b .pool) (b .table)) u t toBackUp) (backupSentOf (b .pool) (b .table) t n fs ms ss) (alters-nothing b (callBackupSent t n fs ms ss)) h
 alters-nothing-by b u (callBackupAll ts ns is) h = closing-alters b u ts ns is h
 alters-nothing-by b u (callSetRights subject t r) h = rights-alters b u subject t r h
@@ -315,13 +315,13 @@ unfolding refusalBy answerBy refusalIn refusedWith restoreRefusal listingRefusal
 answers-number-only-by b u (callLayout c) h = refl
 answers-number-only-by b u (callBackup era t d image) h =
     unfold backupAs in
-    backed-unless b (refusalFor (storeOf (b .pool) (b .table)) u t toBackUp) (backupBy era (b .pool) (b .table) t d image) (unfold refusalOf answerOf refusedWith in answers-number-only b (callBackup era t d image)) h
+    backed-unless b (refusalFor (storeOf (b .pool) (b .table)) u t toBackUp) (backupBy era (b .pool) (b .table) t d image) (unfold refusalOf answerOf refusalIn refusedWith in answers-number-only b (callBackup era t d image)) h
 answers-number-only-by b u (callRestore t v output) h =
     unfold restoreAs in
     ap restored (number-unless (λ (a : RestoreAnswer). a .refusal) (λ n. restoreRefusal n output) (λ n. unfold restoreRefusal in refl) (refusalFor (storeOf (b .pool) (b .table)) u t toRestore) (restoreOf (b .pool) (b .table) t v output) (unfold restoreOf restoreRefusal in restore-zero t v output (storeOf (b .pool) (b .table))) h)
 answers-number-only-by b u (callRetire t v) h =
     unfold retireAs in
-    retired-unless b (refusalFor (storeOf (b .pool) (b .table)) u t toRetire) (retireOf (b .pool) (b .table) t v) (unfold refusalOf answerOf refusedWith in answers-number-only b (callRetire t v)) h
+    retired-unless b (refusalFor (storeOf (b .pool) (b .table)) u t toRetire) (retireOf (b .pool) (b .table) t v) (unfold refusalOf answerOf refusalIn refusedWith in answers-number-only b (callRetire t v)) h
 answers-number-only-by b u (callListing t) h =
     unfold listingAs in
     ap listed (number-unless (λ (a : ListingAnswer). a .refusal) listingRefusal (λ n. unfold listingRefusal in refl) (refusalFor (storeOf (b .pool) (b .table)) u t toList) (listingOf (b .pool) (b .table) t) (unfold listingOf listingRefusal in listing-zero t (storeOf (b .pool) (b .table))) h)
@@ -342,6 +342,6 @@ answers-number-only-by b u (callOffer t fs ms) h =
     ap offered (number-unless (λ (a : OfferAnswer). a .refusal) (λ n. record { refusal = n; marks = ms }) (λ n. refl) (refusalFor (storeOf (b .pool) (b .table)) u t toBackUp) (offerOf (b .pool) (b .table) t fs ms) (unfold offerOf in offer-zero t fs ms (storeOf (b .pool) (b .table))) h)
 answers-number-only-by b u (callBackupSent t n fs ms ss) h =
     unfold backupSentAs in
-    backed-unless b (refusalFor (storeOf (b .pool) (b .table)) u t toBackUp) (backupSentOf (b .pool) (b .table) t n fs ms ss) (unfold refusalOf answerOf refusedWith in answers-number-only b (callBackupSent t n fs ms ss)) h
+    backed-unless b (refusalFor (storeOf (b .pool) (b .table)) u t toBackUp) (backupSentOf (b .pool) (b .table) t n fs ms ss) (unfold refusalOf answerOf refusalIn refusedWith in answers-number-only b (callBackupSent t n fs ms ss)) h
 answers-number-only-by b u (callBackupAll ts ns is) h = ap backedUpAll (closing-zero b u ts ns is h)
 answers-number-only-by b u (callSetRights subject t r) h = refl

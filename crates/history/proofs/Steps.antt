@@ -20,7 +20,7 @@ use Rattle.sha1.specs.Sha1.{sha1}
 use Rattle.sent.specs.Sent.{offerIn, offerOf, backupSent, backupSentIn, backupSentBy, backupSentOf}
 use Rattle.closing.specs.Closing.{Closed, allAnswer, closedOr, backupAll, backupAllAnswer, backupAllIn, backupAllAs}
 use Rattle.stream.specs.Version.{longestOutput, writeRestored, writeVersion, writeStreamOf}
-use Rattle.history.specs.Calls.{Call, callLayout, callBackup, callRestore, callRetire, callListing, callVersionOn, callTally, callBill, callWriteStream, callOffer, callBackupSent, callBackupAll, callSetRights, Buffers, refusalOf, buffersAfter, laidOut, backedUp, restored, retired, listed, foundOn, tallied, billed, streamed, offered, backedUpAll, rightsSet, answerOf, refusalIn, refusedLayout, stateAfter, answerIn, isAccepted}
+use Rattle.history.specs.Calls.{Call, callLayout, callBackup, callRestore, callRetire, callListing, callVersionOn, callTally, callBill, callWriteStream, callOffer, callBackupSent, callBackupAll, callSetRights, Buffers, refusalOf, buffersAfter, Answer, laidOut, backedUp, restored, retired, listed, foundOn, tallied, billed, streamed, offered, backedUpAll, rightsSet, answerOf, refusalIn, refusedLayout, stateAfter, answerIn, isAccepted}
 use Rattle.history.specs.Demand.{laidOutIn}
 use Rattle.history.proofs.Reach.{sound-after}
 
@@ -156,23 +156,6 @@ answer-same s b st (callBackupSent t n fs ms ss) e =
 answer-same s b st (callBackupAll ts ns is) e = ap backedUpAll (closing-same s b st e 0 ts ns is)
 answer-same s b st (callSetRights subject t r) e = ap rightsSet (rights-same s b st e 0 subject t r)
 
--- the refusal is the one that the answer carries
-pub refusal-in : (b : Buffers) (call : Call) → refusalIn (answerOf b call) ≡ refusalOf b call
-unfolding refusalIn answerOf refusalOf
-refusal-in b (callLayout c) = refl
-refusal-in b (callBackup era t d image) = refl
-refusal-in b (callRestore t v output) = refl
-refusal-in b (callRetire t v) = refl
-refusal-in b (callListing t) = refl
-refusal-in b (callVersionOn t day) = refl
-refusal-in b callTally = refl
-refusal-in b (callBill price) = refl
-refusal-in b (callWriteStream t v output) = refl
-refusal-in b (callOffer t fs ms) = refl
-refusal-in b (callBackupSent t n fs ms ss) = refl
-refusal-in b (callBackupAll ts ns is) = refl
-refusal-in b (callSetRights subject t r) = refl
-
 pub accepted-same : (s : Shape) (b : Buffers) (st : State) (call : Call) → Left s b st → eqb (refusalOf b call) 0 ≡ isAccepted s st call
-unfolding isAccepted
-accepted-same s b st call e = ap (λ (n : ℕ). eqb n 0) (sym (refusal-in b call) ∙ ap refusalIn (answer-same s b st call e))
+unfolding refusalOf isAccepted
+accepted-same s b st call e = ap (λ (a : Answer). eqb (refusalIn a) 0) (answer-same s b st call e)

@@ -36,26 +36,26 @@ pub data Call : Type 0 where
   callBackupAll : (tills lengths images : List ℕ) → Call
   callSetRights : (subject till : ℕ) (rights : Rights) → Call
 
+-- the till that a call names, 0 for one that names none; the closing of §7 is on many, by the backups that it comes to
+unfoldable pub tillNamed : Call → ℕ
+tillNamed (callLayout c) = 0
+tillNamed (callBackup era t d image) = t
+tillNamed (callRestore t v output) = t
+tillNamed (callRetire t v) = t
+tillNamed (callListing t) = t
+tillNamed (callVersionOn t day) = t
+tillNamed callTally = 0
+tillNamed (callBill price) = 0
+tillNamed (callWriteStream t v output) = t
+tillNamed (callOffer t fs ms) = t
+tillNamed (callBackupSent t n fs ms ss) = t
+tillNamed (callBackupAll ts ns is) = 0
+tillNamed (callSetRights subject t r) = t
+
 -- the two buffers
 pub record Buffers : Type 0 where
   pub pool : List ℕ
   pub table : List ℕ
-
--- the number of the refusal, or 0
-unfoldable pub refusalOf : Buffers → Call → ℕ
-refusalOf b (callLayout c) = layoutOf c (b .pool) (b .table) .refusal
-refusalOf b (callBackup era t d image) = backupBy era (b .pool) (b .table) t d image .refusal
-refusalOf b (callRestore t v output) = restoreOf (b .pool) (b .table) t v output .refusal
-refusalOf b (callRetire t v) = retireOf (b .pool) (b .table) t v .refusal
-refusalOf b (callListing t) = listingOf (b .pool) (b .table) t .refusal
-refusalOf b (callVersionOn t day) = versionOnOf (b .pool) (b .table) t day .refusal
-refusalOf b callTally = tallyOf (b .pool) (b .table) .refusal
-refusalOf b (callBill price) = billOf (b .pool) (b .table) price .refusal
-refusalOf b (callWriteStream t v output) = writeStreamOf (b .pool) (b .table) t v output .refusal
-refusalOf b (callOffer t fs ms) = offerOf (b .pool) (b .table) t fs ms .refusal
-refusalOf b (callBackupSent t n fs ms ss) = backupSentOf (b .pool) (b .table) t n fs ms ss .refusal
-refusalOf b (callBackupAll ts ns is) = backupAllAs (b .pool) (b .table) 0 ts ns is .answer .refusal
-refusalOf b (callSetRights subject t r) = setRightsOf (b .pool) (b .table) 0 subject t r .refusal
 
 -- the buffers after a call
 unfoldable pub buffersAfter : Buffers → Call → Buffers
@@ -117,6 +117,9 @@ refusalIn (streamed a) = a .refusal
 refusalIn (offered a) = a .refusal
 refusalIn (backedUpAll a) = a .refusal
 refusalIn (rightsSet n) = n
+
+unfoldable pub refusalOf : Buffers → Call → ℕ
+refusalOf b call = refusalIn (answerOf b call)
 
 -- a lay out is refused when it is made
 abbrev pub refusedLayout : Buffers → Call → Type 0

@@ -24,10 +24,9 @@ use Rattle.stream.specs.Version.{writeStreamAs}
 use Rattle.sent.specs.Sent.{backupSentAs}
 use Rattle.bill.specs.Bill.{billAs}
 use Rattle.closing.specs.Closing.{imagesIn, AllAnswer, backupAllAs}
-use Rattle.history.specs.Calls.{Call, callBackup, callBackupSent, Buffers}
+use Rattle.history.specs.Calls.{Call, callBackup, callBackupSent, Buffers, tillNamed}
 use Rattle.history.specs.Users.{UserCall, rightFor, refusalBy, buffersAfterAll, answersOf, refusedLayouts, stateAfterAll, answersIn}
 use Rattle.history.specs.Keeper.{Kept, Keeper, freshKeeper, keptTill, fed, fedEach, numbersGiven, comesTo, fedAll, keptFrom, keptNotAfter, oldestKept, newestKept}
-use Rattle.history.specs.View.{tillNamed}
 
 -- the pointers of a till's version of that number; `nextPointers` gives those of the first version of a list
 unfoldable pub pointersHeld : State → ℕ → ℕ → List Pointer

@@ -14,7 +14,7 @@ use Rattle.model.specs.Sound.{Store, storeOf}
 use Rattle.sha1.specs.Sha1.{sha1}
 use Rattle.sent.specs.Sent.{made}
 use Rattle.closing.specs.Closing.{TillImage, imagesIn, AllAnswer, backupAllAs}
-use Rattle.history.specs.Calls.{Call, callLayout, callBackup, callRestore, callRetire, callListing, callVersionOn, callTally, callBill, callWriteStream, callOffer, callBackupSent, callBackupAll, callSetRights, Buffers}
+use Rattle.history.specs.Calls.{Call, callLayout, callBackup, callRestore, callRetire, callListing, callVersionOn, callTally, callBill, callWriteStream, callOffer, callBackupSent, callBackupAll, callSetRights, tillNamed, Buffers}
 use Rattle.history.specs.Users.{UserCall, buffersBy, refusalBy}
 
 -- a held version: its number, its whole image, its day, and the number of its till's newest version when it was taken, 0 if none was held
@@ -82,25 +82,28 @@ struckOut t v = record { last = t .last; rights = t .rights; versions = keep (λ
 unfoldable pub rightsKept : KeptTill → ℕ → Rights → KeptTill
 rightsKept t subject rights = record { last = t .last; rights = set (t .rights) (subject - 1) rights; versions = t .versions }
 
--- Fed the arguments of a call and whether it was accepted, and nothing out of pool or table but the image of §5. Messages of §5 and closings of §7 do not
--- come here: they come to backups.
+-- what a call that was accepted or refused makes of what is kept of its till; messages of §5 and closings of §7 do not come here: they come to backups
+unfoldable pub change : Call → Bool → KeptTill → KeptTill
+change (callLayout c) ok y = y
+change (callBackup era t d image) true y = filed y d image
+change (callBackup era t d image) false y = y
+change (callRestore t v output) ok y = y
+change (callRetire t v) true y = struckOut y v
+change (callRetire t v) false y = y
+change (callListing t) ok y = y
+change (callVersionOn t day) ok y = y
+change callTally ok y = y
+change (callBill price) ok y = y
+change (callWriteStream t v output) ok y = y
+change (callOffer t fs ms) ok y = y
+change (callBackupSent t n fs ms ss) ok y = y
+change (callBackupAll ts ns is) ok y = y
+change (callSetRights subject t r) true y = rightsKept y subject r
+change (callSetRights subject t r) false y = y
+
+-- fed the arguments of a call and whether it was accepted, and nothing out of pool or table but the image of §5
 unfoldable pub fed : Keeper → Call → Bool → Keeper
-fed k (callLayout c) ok = k
-fed k (callBackup era t d image) true = set k t (filed (keptTill k t) d image)
-fed k (callBackup era t d image) false = k
-fed k (callRestore t v output) ok = k
-fed k (callRetire t v) true = set k t (struckOut (keptTill k t) v)
-fed k (callRetire t v) false = k
-fed k (callListing t) ok = k
-fed k (callVersionOn t day) ok = k
-fed k callTally ok = k
-fed k (callBill price) ok = k
-fed k (callWriteStream t v output) ok = k
-fed k (callOffer t fs ms) ok = k
-fed k (callBackupSent t n fs ms ss) ok = k
-fed k (callBackupAll ts ns is) ok = k
-fed k (callSetRights subject t r) true = set k t (rightsKept (keptTill k t) subject r)
-fed k (callSetRights subject t r) false = k
+fed k call ok = set k (tillNamed call) (change call ok (keptTill k (tillNamed call)))
 
 -- a call that was made, and whether it was accepted
 pub record CallMade : Type 0 where

@@ -8,9 +8,8 @@ use Rattle.model.specs.State.{Shelf, Version}
 use Rattle.model.specs.Trace.{imageOf, longestChain}
 use Rattle.model.specs.Sound.{Store, storeOf}
 use Rattle.model.specs.Calls.{layoutOf, tillOf}
-use Rattle.history.specs.Calls.{Call, callLayout, callBackup, callRestore, callRetire, callListing, callVersionOn, callTally, callBill, callWriteStream, callOffer, callBackupSent, callBackupAll, callSetRights, Buffers}
+use Rattle.history.specs.Calls.{Call, callLayout, callBackup, callRestore, callRetire, callListing, callVersionOn, callTally, callBill, callWriteStream, callOffer, callBackupSent, callBackupAll, callSetRights, Buffers, tillNamed}
 use Rattle.history.specs.Users.{UserCall, buffersBy, answerBy, refusalBy, buffersAfterAll, refusedLayouts}
-use Rattle.history.specs.View.{tillNamed}
 use Rattle.history.specs.Demand.{laidOutIn}
 
 -- "each a backup of a full image, restore or retire"; a backup was made before blank blocks were known, or with them

@@ -55,22 +55,6 @@ chainShown (w ∷ newer) = largest (counted (hopsShown (w ∷ newer)) 0 (length 
 
 -- ---- what a call makes of its till
 
--- the till that a call is on; a lay out and a tally change none, and the closing of §7 is on many, by the backups that it comes to
-unfoldable pub tillNamed : Call → ℕ
-tillNamed (callLayout c) = 0
-tillNamed (callBackup era t d image) = t
-tillNamed (callRestore t v output) = t
-tillNamed (callRetire t v) = t
-tillNamed (callListing t) = t
-tillNamed (callVersionOn t day) = t
-tillNamed callTally = 0
-tillNamed (callBill price) = 0
-tillNamed (callWriteStream t v output) = t
-tillNamed (callOffer t fs ms) = t
-tillNamed (callBackupSent t n fs ms ss) = t
-tillNamed (callBackupAll ts ns is) = 0
-tillNamed (callSetRights subject t r) = t
-
 -- a new version's pointer for a block
 unfoldable pub newKind : Era → Block → Kind
 newKind era b = cond (isBare era b) (cond (allZero b) zeroKind blankKind) directKind

@@ -9,7 +9,7 @@ use native.Mathlib.Omega.{arith}
 use lib.ListN.{length, getD, take, drop, length-append, length-map, replicate, replicate-append-replicate}
 use lib.Seq.{take-at, drop-at, drop-drop, take-all}
 use borrow.Author.Tests.{eqb-true, eq-eqb}
-use Rattle.lists.specs.Lists.{allOf, sameNumbers}
+use Rattle.lists.specs.Lists.{allOf, isSome, sameNumbers}
 use Rattle.lists.specs.Rows.{rows, parts, fill}
 use Rattle.lists.specs.Each.{Each}
 use Rattle.lists.specs.Masks.{maskOf}
@@ -271,18 +271,14 @@ pub record Found (pool table : List ℕ) (x : Store) : Type 0 where
   pub bytes : stateToBytes (x .state) ≡ pool
   pub words : stateToWords (x .shape) (x .state) ≡ table
 
-isNone : Option Store → Bool
-isNone none = true
-isNone (some x) = false
-
 storeOr : Store → Option Store → Store
 storeOr d none = d
 storeOr d (some x) = x
 
 chosen : (b : Bool) (o : Option Store) (x : Store) → cond b o none ≡ some x → (b ≡ true) × (o ≡ some x)
-unfolding isNone
+unfolding isSome
 chosen true o x e = (refl, e)
-chosen false o x e = absurd (false≢true (sym (ap isNone e)))
+chosen false o x e = absurd (false≢true (ap isSome e))
 
 module _ (pool table : List ℕ) where
   read : State

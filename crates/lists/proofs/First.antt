@@ -7,7 +7,7 @@ use Prim.Native.Nat.{ℕ, zero, suc, _+_, _<_, suc-le-suc}
 use native.Mathlib.Omega.{arith}
 use native.Mathlib.Nat.{add-zero, suc-add, add-suc, not-suc-le-zero, le-of-suc-le-suc, zero-lt-suc}
 use lib.ListN.{length, getD}
-use Rattle.lists.specs.Lists.{firstFrom}
+use Rattle.lists.specs.Lists.{isSome, firstFrom}
 use Rattle.lists.proofs.Tests.{by-test}
 
 -- it passes, and none before it does; nothing is found only where none passes
@@ -30,16 +30,13 @@ first-lowest f d i (x ∷ xs) =
     later none h e = none-before e (length xs) h
     later (some n) h e = (suc (h .0), h .1 ∙ (suc-add i (h .0) ∙ sym (add-suc i (h .0))), suc-le-suc (h .2), h .3, none-before e (h .0) (h .4))
 
-unfoldable pub isNone : Option ℕ → Bool
-isNone none = true
-isNone (some n) = false
-
-pub first-none : {A : Type 0} (f : A → Bool) (d : A) (xs : List A) (j i : ℕ) → i < length xs → f (getD xs i d) ≡ true → isNone (firstFrom f j xs) ≡ false
-unfolding firstFrom isNone
-first-none f d [] j i l h = absurd (not-suc-le-zero l)
-first-none f d (x ∷ xs) j zero l h = ap (λ (t : Bool). isNone (cond t (some j) (firstFrom f (suc j) xs))) h
-first-none f d (x ∷ xs) j (suc i) l h =
-    by-test (λ (o : Option ℕ). isNone o ≡ false) (f x) (λ e. refl) (λ e. first-none f d xs (suc j) i (le-of-suc-le-suc l) h)
+-- where one passes, something is found
+pub first-some : {A : Type 0} (f : A → Bool) (d : A) (xs : List A) (j i : ℕ) → i < length xs → f (getD xs i d) ≡ true → isSome (firstFrom f j xs) ≡ true
+unfolding firstFrom isSome
+first-some f d [] j i l h = absurd (not-suc-le-zero l)
+first-some f d (x ∷ xs) j zero l h = ap (λ (t : Bool). isSome (cond t (some j) (firstFrom f (suc j) xs))) h
+first-some f d (x ∷ xs) j (suc i) l h =
+    by-test (λ (o : Option ℕ). isSome o ≡ true) (f x) (λ e. refl) (λ e. first-some f d xs (suc j) i (le-of-suc-le-suc l) h)
 
 -- two searches that answer alike at each place
 pub first-alike : {A B : Type 0} (f : A → Bool) (g : B → Bool) (d : A) (e : B) (i : ℕ) (xs : List A) (ys : List B) → length xs ≡ length ys

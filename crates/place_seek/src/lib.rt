@@ -48,7 +48,7 @@ pub fn free_record(records: &[u32], n: usize) -> RecordNumber
     RecordNumber(k as u32)
 }
 
-// All records from this number on are free: it is the highest one in use and 1.
+// All records from this number on are free: it is the highest one in use plus 1.
 pub fn used_records(records: &[u32], n: usize) -> usize
     requires { ⌜ (n ≤ 16) × RecordsTold n (now records) (recordsIn n (now records)) × (length (now records) ≤ 4096 * recordWords n) ⌝ }
     ensures { λ r. ⌜ (r ≤ length (recordsIn n (now (records .entry)))) × RestFree r (recordsIn n (now (records .entry))) ⌝ }

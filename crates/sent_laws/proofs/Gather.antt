@@ -26,10 +26,6 @@ each-split : {A : Type 0} (P : A → Type 0) (xs ys : List A) → Each P (xs ++ 
 each-split P [] ys h = (tt, h)
 each-split P (x ∷ xs) ys h = let r = each-split P xs ys (h .1) in ((h .0, r .0), r .1)
 
-abbrev isNone : {A : Type 0} → Option A → Bool
-isNone none = true
-isNone (some x) = false
-
 -- ---- the image is put together, or 20
 
 module _ (print : Print) (wide : (x : List ℕ) → length (print x) ≡ 20) (m : Measures) (shelf : Shelf) where
@@ -75,12 +71,12 @@ module _ (print : Print) (wide : (x : List ℕ) → length (print x) ≡ 20) (m 
 
   -- none among more is none among fewer
   none-less : (f : List ℕ) (us vs : List (List ℕ)) → firstWith print f (us ++ vs) ≡ none → firstWith print f vs ≡ none
-  unfolding firstWith
+  unfolding firstWith isSome
   none-less f [] vs h = h
   none-less f (x ∷ us) vs h = go (sameNumbers (print x) f) (none-less f us vs) h
     where
       go : (b : Bool) → (firstWith print f (us ++ vs) ≡ none → firstWith print f vs ≡ none) → cond b (some x) (firstWith print f (us ++ vs)) ≡ none → firstWith print f vs ≡ none
-      go true r h = absurd (false≢true (ap isNone h))
+      go true r h = absurd (false≢true (sym (ap isSome h)))
       go false r h = r h
 
   not-had : (sent : List (List ℕ)) (f : List ℕ) → had print m shelf sent f ≡ none → ¬ (isSome (had print m shelf [] f) ≡ true)
@@ -88,7 +84,7 @@ module _ (print : Print) (wide : (x : List ℕ) → length (print x) ≡ 20) (m 
   not-had sent f = go (sameNumbers (print (zeroSegment m)) f)
     where
       go : (b : Bool) → cond b (some (zeroSegment m)) (firstWith print f (sent ++ contents m shelf)) ≡ none → ¬ (isSome (cond b (some (zeroSegment m)) (firstWith print f (contents m shelf))) ≡ true)
-      go true h = λ e. absurd (false≢true (ap isNone h))
+      go true h = λ e. absurd (false≢true (sym (ap isSome h)))
       go false h = λ e. false≢true (sym (ap isSome (none-less f sent (contents m shelf) h)) ∙ e)
 
   abbrev HadNext : ℕ → List ℕ → Gathered → Outcome Gathered → Type 0
