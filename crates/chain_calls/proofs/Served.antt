@@ -7,7 +7,7 @@ use Rattle.model.specs.Rights.{unless}
 use Rattle.laws.specs.Stores.{Sound}
 use Rattle.chain.specs.Chain.{Chain, storeCount, poolAt, tableAt, poolsWith, tablesWith, chainRefusal}
 use Rattle.chain.specs.Limit.{otherCells}
-use Rattle.closing_backup.proofs.Users.{user-refused, user-served}
+use Rattle.laws.proofs.Unless.{user-refused, user-served}
 use Rattle.chain_check.specs.declared.Place.{Place}
 use Rattle.chain_check.specs.Places.{Lengths, Lies}
 use Rattle.chain_check.proofs.Refusals.{is-there, fitting, sound-chain}

@@ -2,20 +2,13 @@
 // the limit of a chain.
 ghost use mathlib.Core.Path.{_≡_};
 ghost use mathlib.Core.Bool.{true};
-ghost use mathlib.Core.Option.{none};
 ghost use Prim.Native.Nat.{ℕ, _≤_};
-ghost use lib.ListN.{length, replicate};
-ghost use Rattle.lists.specs.Lists.{total};
-ghost use Rattle.model.specs.Image.{withBlanks};
-ghost use Rattle.model.specs.Rights.{backupAs};
+ghost use lib.ListN.{replicate};
 ghost use Rattle.laws.specs.Stores.{Sound};
-ghost use Rattle.backup.specs.Call.{backedUpAnswer};
-ghost use Rattle.chain.specs.Limit.{within, imageWithin, backupAllWithin};
+ghost use Rattle.chain.specs.Limit.{imageWithin, backupAllWithin};
 ghost use Rattle.closing.specs.Closing.{imagesIn, closingFits};
 ghost use Rattle.closing.specs.Singly.{madeEach, answerTo};
 ghost use Rattle.closing_backup.specs.Answers.{allAnswered, allBackedUp};
-use backup::BackedUp;
-use rights::Right;
 use shelve::Limit;
 
 // Refusal 0 is a call that is not refused whole. The images' own refusals and versions stand in their order, 0 past the last image.
@@ -24,20 +17,6 @@ pub struct AllBackedUp {
     pub refusal: u32,
     pub refusals: [u32; 16],
     pub versions: [u32; 16],
-}
-
-// So few lengths of 32 bits do not wrap in 64.
-fn sum_of(lengths: &[u32]) -> u64
-    requires { ⌜ length (now lengths) ≤ 16 ⌝ }
-    ensures { λ r. ⌜ r ≡ total (λ n. n) (now (lengths .entry)) ⌝ }
-{
-    let mut sum: u64 = 0;
-    let mut j: usize = 0;
-    while j < lengths.len() {
-        sum += lengths[j] as u64;
-        j += 1;
-    }
-    sum
 }
 
 // Whether the lists fit each other and the bytes.
@@ -50,29 +29,7 @@ fn lists_fit(tills: &[u32], lengths: &[u32], images: &[u8]) -> bool
     if lengths.len() != tills.len() {
         return false;
     }
-    sum_of(lengths) == images.len() as u64
-}
-
-// One image, for a user who may back up its till.
-fn back_up_one(
-    pool: &mut [u8],
-    table: &mut [u32],
-    user: u32,
-    till: u32,
-    image: &[u8],
-    limit: Limit,
-) -> BackedUp
-    requires { ⌜ Sound (now pool) (now table) × (limit .others ≤ 524288) ⌝ }
-    ensures { λ r. ⌜ backedUpAnswer r (now (pool .exit)) (now (table .exit)) ≡ within (limit .others) (limit .most) (now (pool .entry)) (now (table .entry)) (backupAs withBlanks (now (pool .entry)) (now (table .entry)) user till none (now (image .entry))) ⌝ }
-{
-    let refusal = rights::refusal(pool, table, user, till, Right::BackUp);
-    if refusal != 0 {
-        return BackedUp {
-            refusal: refusal,
-            version: 0,
-        };
-    }
-    backup::back_up(pool, table, till, image, limit)
+    lengths::sum_to(lengths, tills.len()) == images.len()
 }
 
 // Each image in turn; its answer goes to its place in the lists, which come with zeros.
@@ -94,7 +51,7 @@ fn back_up_each(
     let mut i: usize = 0;
     while i < tills.len() {
         let end = from + lengths[i] as usize;
-        let r = back_up_one(pool, table, user, tills[i], &images[from..end], limit);
+        let r = user_calls::backup(pool, table, user, tills[i], &images[from..end], limit);
         refusals[i] = r.refusal;
         versions[i] = r.version;
         from = end;

@@ -25,6 +25,7 @@ use Rattle.sent.specs.Sent.{OfferAnswer, offerFits, offer, offerAnswer, offerIn
 use Rattle.sent.specs.Claims.{NoneShare}
 use Rattle.laws.proofs.Fits.{Proper}
 use Rattle.closing.specs.Closing.{TillImage, imagesIn, closingFits, backupOne, backupEach, allAnswer, backupAll}
+use Rattle.laws.proofs.Unless.{unless-some}
 use Rattle.history.specs.Calls.{Call, callLayout, callBackup, callRestore, callRetire, callListing, callVersionOn, callTally, callBill, callWriteStream, callOffer, callBackupSent, callBackupAll, callSetRights, Buffers, Answer, restored, retired, listed, foundOn, tallied, billed, streamed, backedUpAll, refusalIn, answerIn, tillNamed}
 use Rattle.history.specs.Users.{buffersBy, answerBy, forUser, stateBy, answerInBy}
 use Rattle.history.specs.Keeper.{itself, comesTo}
@@ -37,7 +38,6 @@ use Rattle.history.proofs.Carried.{carried, images-few, sixteen}
 use Rattle.history.proofs.Reach.{one-sound}
 use Rattle.history.proofs.Local.{outcomeAnswer, Roomy}
 use Rattle.history.proofs.Same.{unless-same, refusal-same, plain-same, set-same}
-use Rattle.history.proofs.Keys.{unless-some}
 use Rattle.history.proofs.Bullets.{numberIn}
 use Rattle.history.proofs.Alike.{room-left, made-other, Off, same, off-carried, one-off}
 use Rattle.history.proofs.Both.{no-layout-on, off-one, sent-other, both-alike}
@@ -119,7 +119,7 @@ module _ (s : Shape) (u x : ℕ) where
           → viewAt (s .measures .blockBytes) (stateOr st (unless (refusalAt s st x (im .till) toBackUp) refused (backup withBlanks s st (im .till) none (im .image)))) u ≡ viewAt (s .measures .blockBytes) st u
       go true q =
           ap (λ (z : Outcome After). viewAt (s .measures .blockBytes) (stateOr st z) u)
-          (unless-some (refusalAt s st x (im .till) toBackUp) refused (backup withBlanks s st (im .till) none (im .image))
+          (unless-some refused (refusalAt s st x (im .till) toBackUp) (backup withBlanks s st (im .till) none (im .image))
           (subst (λ (t : ℕ). ¬ (refusalAt s st x t toBackUp ≡ 0)) (eqb-true u (im .till) q) (k toBackUp)))
           ∙ (unfold stateOr in refl)
       go false q =

@@ -18,6 +18,7 @@ use Rattle.model.specs.Rights.{ownerRefusal, unless, tallyRefusal, tallyAs}
 use Rattle.laws.proofs.Serves.{sound-valid}
 use Rattle.laws.proofs.Named.{named-full, named-inside, named-count}
 use Rattle.bill.proofs.Exact.{bill-is-exact}
+use Rattle.laws.proofs.Unless.{unless-none, accepted-none}
 use Rattle.history.specs.Calls.{Buffers}
 use Rattle.history.specs.Users.{buffersAfterAll, stateAfterAll}
 use Rattle.history.specs.Keeper.{Kept, Keeper, freshKeeper, fedAll, keptFrom, keptTill}
@@ -34,7 +35,7 @@ use Rattle.history.proofs.Bullets.{restores}
 use Rattle.history.proofs.Answered.{answers}
 use Rattle.history.proofs.Days.{Dated, dated-empty, dated-all, days}
 use Rattle.history.proofs.Streams.{streams}
-use Rattle.history.proofs.Keys.{unless-none, accepted-none, keys}
+use Rattle.history.proofs.Keys.{keys}
 
 -- ---- a block that a version shares with one taken while it was the newest
 
@@ -97,7 +98,7 @@ module _ (s : Shape) (b : Buffers) (st : State) (k : Keeper) (l : Left s b st) (
   }
     where
       tally-accepted : (n : ℕ) → unless n tallyRefusal (tallyIn (storeOf (b .pool) (b .table))) .refusal ≡ 0 → unless n tallyRefusal (tallyIn (storeOf (b .pool) (b .table))) ≡ tallyIn (storeOf (b .pool) (b .table))
-      tally-accepted n e = unless-none n tallyRefusal (tallyIn (storeOf (b .pool) (b .table))) (accepted-none (λ (a : TallyAnswer). a .refusal) tallyRefusal (λ n. unfold tallyRefusal in refl) n (tallyIn (storeOf (b .pool) (b .table))) e)
+      tally-accepted n e = unless-none tallyRefusal n (tallyIn (storeOf (b .pool) (b .table))) (accepted-none tallyRefusal (λ (a : TallyAnswer). a .refusal) (λ n. unfold tallyRefusal in refl) n (tallyIn (storeOf (b .pool) (b .table))) e)
 
   pub holds : Holds (s .measures .blockBytes) st k b s
   holds = record {

@@ -17,6 +17,7 @@ use Rattle.model.specs.Rights.{Right, toList, toBackUp, toRestore, toRetire, us
 use Rattle.stream.specs.Stream.{StreamAnswer, streamRefusal}
 use Rattle.stream.specs.Version.{writeStreamOf, writeStreamAs}
 use Rattle.sent.specs.Sent.{OfferAnswer, offerOf, offerAs, backupSentOf, backupSentAs}
+use Rattle.laws.proofs.Unless.{unless-none, unless-some, accepted-none}
 use Rattle.history.specs.Calls.{Call, callLayout, callBackup, callRestore, callRetire, callListing, callVersionOn, callTally, callBill, callWriteStream, callOffer, callBackupSent, callBackupAll, callSetRights, Buffers, refusalIn, tillNamed}
 use Rattle.history.specs.Users.{rightFor, answerBy, refusalBy}
 use Rattle.history.specs.Keeper.{Keeper, keptTill}
@@ -31,20 +32,6 @@ pub may-missing : (k : Keeper) (u t : ℕ) (right : Right) → length k ≤ t �
 may-missing k zero t right h = refl
 may-missing k (suc u) t right h = rw (le-leb (length k) t h) refl
 
--- what waits for a right, with none refused; and what is accepted had none refused
-pub unless-none : {A : Type 0} (n : ℕ) (refuse : ℕ → A) (a : A) → n ≡ 0 → unless n refuse a ≡ a
-unless-none n refuse a e = rw (eq-eqb n 0 e) refl
-
-pub unless-some : {A : Type 0} (n : ℕ) (refuse : ℕ → A) (a : A) → ¬ (n ≡ 0) → unless n refuse a ≡ refuse n
-unless-some n refuse a e = rw (ne-eqb n 0 e) refl
-
-pub accepted-none : {A : Type 0} (f : A → ℕ) (refuse : ℕ → A) → ((n : ℕ) → f (refuse n) ≡ n) → (n : ℕ) (a : A) → f (unless n refuse a) ≡ 0 → n ≡ 0
-accepted-none f refuse h n a = go (eqb n 0) refl
-  where
-    go : (q : Bool) → eqb n 0 ≡ q → f (cond q a (refuse n)) ≡ 0 → n ≡ 0
-    go true q e = eqb-true n 0 q
-    go false q e = sym (h n) ∙ e
-
 module _ (s : Shape) (b : Buffers) (st : State) (k : Keeper) (l : Left s b st) (z : Stands s k st) where
   rights-kept : (t : ℕ) → tillOf st t .rights ≡ keptTill k t .rights
   unfolding viewOf
@@ -58,12 +45,12 @@ module _ (s : Shape) (b : Buffers) (st : State) (k : Keeper) (l : Left s b st) (
   -- a user who may
   pub may-same : {A : Type 0} (u t : ℕ) (right : Right) (refuse : ℕ → A) (a : A) → userRefusal (leb (length k) t) (keptTill k t .rights) u right ≡ 0
       → unless (refusalFor (storeOf (b .pool) (b .table)) u t right) refuse a ≡ a
-  may-same u t right refuse a m = unless-none _ refuse a (refusal-kept u t right ∙ m)
+  may-same u t right refuse a m = unless-none refuse _ a (refusal-kept u t right ∙ m)
 
   -- an accepted call is that of a user who may
   pub accepted-same : {A : Type 0} (f : A → ℕ) (refuse : ℕ → A) → ((n : ℕ) → f (refuse n) ≡ n) → (u t : ℕ) (right : Right) (a : A)
       → f (unless (refusalFor (storeOf (b .pool) (b .table)) u t right) refuse a) ≡ 0 → unless (refusalFor (storeOf (b .pool) (b .table)) u t right) refuse a ≡ a
-  accepted-same f refuse h u t right a e = let n : ℕ = refusalFor (storeOf (b .pool) (b .table)) u t right in unless-none n refuse a (accepted-none f refuse h n a e)
+  accepted-same f refuse h u t right a e = let n : ℕ = refusalFor (storeOf (b .pool) (b .table)) u t right in unless-none refuse n a (accepted-none refuse f h n a e)
 
   -- a user who may not
   turned-away : {A : Type 0} (f : A → ℕ) (refuse : ℕ → A) → ((n : ℕ) → f (refuse n) ≡ n) → (u t : ℕ) (right : Right) (a : A)
@@ -71,7 +58,7 @@ module _ (s : Shape) (b : Buffers) (st : State) (k : Keeper) (l : Left s b st) (
       → f (unless (refusalFor (storeOf (b .pool) (b .table)) u t right) refuse a) ≡ userRefusal (leb (length k) t) (keptTill k t .rights) u right
   turned-away f refuse h u t right a not =
       let n : ℕ = refusalFor (storeOf (b .pool) (b .table)) u t right in
-      ap f (unless-some n refuse a (λ e. not (sym (refusal-kept u t right) ∙ e))) ∙ h n ∙ refusal-kept u t right
+      ap f (unless-some refuse n a (λ e. not (sym (refusal-kept u t right) ∙ e))) ∙ h n ∙ refusal-kept u t right
 
   abbrev Away : ℕ → Call → Right → Type 0
   Away u call right =

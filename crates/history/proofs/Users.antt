@@ -5,6 +5,7 @@ use mathlib.Core.List.{List, [], _∷_}
 use mathlib.Core.Option.{Option, some}
 use Prim.Native.Nat.{ℕ}
 use lib.Dec.{eqb, ltb, leb}
+use borrow.Author.Tests.{eqb-true}
 use Rattle.model.specs.Measures.{Shape}
 use Rattle.model.specs.State.{Rights, staff, State, Outcome, refused, done}
 use Rattle.model.specs.Image.{Era}
@@ -19,6 +20,7 @@ use Rattle.sha1.specs.Sha1.{sha1}
 use Rattle.stream.specs.Stream.{StreamAnswer, streamRefusal}
 use Rattle.stream.specs.Version.{writeVersion, writeStreamOf, writeStreamAs}
 use Rattle.sent.specs.Sent.{OfferAnswer, offerIn, offerOf, offerAs, backupSent, backupSentIn, backupSentBy, backupSentOf, backupSentAs}
+use Rattle.laws.proofs.Unless.{unless-none, accepted-none}
 use Rattle.history.specs.Calls.{Call, callLayout, callBackup, callRestore, callRetire, callListing, callVersionOn, callTally, callBill, callWriteStream, callOffer, callBackupSent, callBackupAll, callSetRights, Buffers, laidOut, backedUp, retired, backedUpAll, rightsSet, refusalIn, refusedLayout, buffersAfter, stateAfter, answerIn, isAccepted}
 use Rattle.history.specs.Users.{UserCall, buffersBy, answerBy, forUser, stateBy, answerInBy, buffersAfterAll, answersOf, refusedLayouts, stateAfterAll, answersIn}
 use Rattle.history.specs.View.{IsPlain}
@@ -216,11 +218,9 @@ outcome-done st n o acc e = go (eqb n 0) refl e
 
 -- an answer that waits for it
 answer-waits : {A : Type 0} (f : A → ℕ) (refuse : ℕ → A) → ((n : ℕ) → f (refuse n) ≡ n) → (n : ℕ) (a : A) → eqb (f (unless n refuse a)) 0 ≡ true → eqb (f a) 0 ≡ true
-answer-waits f refuse h n a = go (eqb n 0) refl
-  where
-    go : (q : Bool) → eqb n 0 ≡ q → eqb (f (cond q a (refuse n))) 0 ≡ true → eqb (f a) 0 ≡ true
-    go true q e = e
-    go false q e = absurd (false≢true (sym q ∙ ap (λ (k : ℕ). eqb k 0) (sym (h n)) ∙ e))
+answer-waits f refuse h n a e =
+    let served = unless-none refuse n a (accepted-none refuse f h n a (eqb-true (f (unless n refuse a)) 0 e)) in
+    ap (λ x. eqb (f x) 0) (sym served) ∙ e
 
 -- a change of rights is refused by its arguments alone
 pub set-refusal : (s : Shape) (st : State) (u subject t : ℕ) (r : Rights)

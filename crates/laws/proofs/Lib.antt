@@ -30,3 +30,4 @@ pub mod Stores
 pub mod Tills
 pub mod Calls
 pub mod Left
+pub mod Unless

@@ -206,22 +206,10 @@ fn sixteen(words: &[u32], at: usize, n: usize) -> [u32; Record::POSITIONS]
     a
 }
 
-// Words to the front of a part.
-fn put(words: &[u32], part: &mut [u32])
-    requires { ⌜ length (now words) ≤ length (now part) ⌝ }
-    ensures { λ _. ⌜ now (part .exit) ≡ now (words .entry) ++ drop (length (now (words .entry))) (now (part .entry)) ⌝ }
-{
-    let mut i: usize = 0;
-    while i < words.len() {
-        part[i] = words[i];
-        i = i + 1;
-    }
-}
-
 // Words to a place.
-fn put_at(words: &[u32], table: &mut [u32], at: usize)
-    requires { ⌜ at + length (now words) ≤ length (now table) ⌝ }
-    ensures { λ _. ⌜ now (table .exit) ≡ take at (now (table .entry)) ++ (now (words .entry) ++ drop (at + length (now (words .entry))) (now (table .entry))) ⌝ }
+fn put_at(row: &[u32], table: &mut [u32], at: usize)
+    requires { ⌜ at + length (now row) ≤ length (now table) ⌝ }
+    ensures { λ _. ⌜ now (table .exit) ≡ take at (now (table .entry)) ++ (now (row .entry) ++ drop (at + length (now (row .entry))) (now (table .entry))) ⌝ }
 {
-    put(words, &mut table[at..]);
+    words::copy_in(row, &mut table[at..]);
 }

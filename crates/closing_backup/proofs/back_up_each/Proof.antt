@@ -34,23 +34,23 @@ cast-end c = omega (arith, c .shared-slice-known4 .given (c .before .before .loo
 add-end : tie.Need-add-end Inv-loop μ-loop
 add-end c = omega (arith, image-in (c .before .before .loop .inv .0) (omega arith))
 
-mul-back-up-one : tie.Need-mul-back-up-one Inv-loop μ-loop
-mul-back-up-one c = search needs
+mul-backup : tie.Need-mul-backup Inv-loop μ-loop
+mul-backup c = search needs
 
-shared-slice-read-back-up-one : tie.Need-shared-slice-read-back-up-one Inv-loop μ-loop
-shared-slice-read-back-up-one c = search needs
+shared-slice-read-backup : tie.Need-shared-slice-read-backup Inv-loop μ-loop
+shared-slice-read-backup c = search needs
 
-sub-back-up-one : tie.Need-sub-back-up-one Inv-loop μ-loop
-sub-back-up-one c = omega arith
+sub-backup : tie.Need-sub-backup Inv-loop μ-loop
+sub-backup c = omega arith
 
-part-back-up-one-start : tie.Need-part-back-up-one-start Inv-loop μ-loop
-part-back-up-one-start c = search needs
+part-backup-start : tie.Need-part-backup-start Inv-loop μ-loop
+part-backup-start c = search needs
 
-part-back-up-one-end : tie.Need-part-back-up-one-end Inv-loop μ-loop
-part-back-up-one-end c = omega (arith, image-in (c .before .before .before .before .before .loop .inv .0) (omega arith))
+part-backup-end : tie.Need-part-backup-end Inv-loop μ-loop
+part-backup-end c = omega (arith, image-in (c .before .before .before .before .before .loop .inv .0) (omega arith))
 
-back-up-one-requires : tie.Need-back-up-one-requires Inv-loop μ-loop
-back-up-one-requires c κs = (c .before .before .before .before .before .before .loop .inv .0 .sound, c .before .before .before .before .before .before .before .before .before .before .before .before .before .before .pre .4)
+backup-requires : tie.Need-backup-requires Inv-loop μ-loop
+backup-requires c κs = (c .before .before .before .before .before .before .loop .inv .0 .sound, c .before .before .before .before .before .before .before .before .before .before .before .before .before .before .pre .4)
 
 mul-refusals : tie.Need-mul-refusals Inv-loop μ-loop
 mul-refusals c = search needs
@@ -72,7 +72,7 @@ loop-less c = search needs
 
 loop-again : tie.Need-loop-again Inv-loop μ-loop
 loop-again c =
-    (going-more (c .before .before .before .before .before .before .before .before .before .before .before .loop .inv .0) (omega arith) _ _ _ _ (c .before .before .before .before .back-up-one .ensures), omega arith, omega arith)
+    (going-more (c .before .before .before .before .before .before .before .before .before .before .before .loop .inv .0) (omega arith) _ _ _ _ (c .before .before .before .before .backup .ensures), omega arith, omega arith)
 
 same-length : tie.Need-same-length Inv-loop μ-loop
 same-length c = search needs
@@ -100,12 +100,12 @@ back-up-each-spec =
     shared-slice-read-end
     cast-end
     add-end
-    mul-back-up-one
-    shared-slice-read-back-up-one
-    sub-back-up-one
-    part-back-up-one-start
-    part-back-up-one-end
-    back-up-one-requires
+    mul-backup
+    shared-slice-read-backup
+    sub-backup
+    part-backup-start
+    part-backup-end
+    backup-requires
     mul-refusals
     slice-write-refusals
     mul-versions

@@ -11,11 +11,11 @@ returns c = fits-many (now (c .before .before .before .before .args .tills)) (no
 returns-2 : tie.Need-returns-2
 returns-2 c = fits-unequal (now (c .before .before .before .before .before .args .tills)) (now (c .before .before .before .before .before .args .lengths)) (now (c .before .before .before .before .before .args .images)) (omega arith) (λ q. omega (arith, q, c .if2 .taken))
 
-sum-of-requires : tie.Need-sum-of-requires
-sum-of-requires c κs = search needs
+sum-to-requires : tie.Need-sum-to-requires
+sum-to-requires c κs = (omega (arith, c .before .if2 .left), omega arith)
 
 returns-3 : tie.Need-returns-3
-returns-3 c = fits-sum (now (c .before .before .before .before .before .before .args .tills)) (now (c .before .before .before .before .before .before .args .lengths)) (now (c .before .before .before .before .before .before .args .images)) (omega arith) (omega (arith, c .before .if2 .left)) _ (c .sum-of .ensures)
+returns-3 c = fits-sum (now (c .before .before .before .before .before .before .args .tills)) (now (c .before .before .before .before .before .before .args .lengths)) (now (c .before .before .before .before .before .before .args .images)) (omega arith) (omega (arith, c .before .if2 .left)) _ (c .sum-to .ensures .0)
 
 pub lists-fit-spec : {M : Type 1} → statement M
-lists-fit-spec = tie.close (tie.spec returns returns-2 sum-of-requires returns-3)
+lists-fit-spec = tie.close (tie.spec returns returns-2 sum-to-requires returns-3)

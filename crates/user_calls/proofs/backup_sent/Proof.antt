@@ -5,7 +5,7 @@ use denote.Ref.{now}
 use Rattle.model.specs.Rights.{backupRefusal}
 use Rattle.sent.specs.Sent.{backupSentAs}
 use Rattle.chain.proofs.Within.{within-still}
-use Rattle.closing_backup.proofs.Users.{user-refused, user-served}
+use Rattle.laws.proofs.Unless.{user-refused, user-served}
 use Rattle.user_calls.proofs.Sent.{within-sent}
 use Rattle.user_calls.proofs.backup_sent.Statement.{statement}
 use Rattle.user_calls.proofs.backup_sent.Tie as tie

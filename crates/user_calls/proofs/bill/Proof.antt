@@ -1,7 +1,7 @@
 use native.Mathlib.Omega.{arith}
 use Rattle.lists.specs.Rows.{fill}
 use Rattle.bill.specs.Bill.{billRefused, billAs}
-use Rattle.closing_backup.proofs.Users.{user-refused, user-served}
+use Rattle.laws.proofs.Unless.{user-refused, user-served}
 use Rattle.user_calls.proofs.Owner.{for-owner}
 use borrow.Author.Needs.{needs}
 use Rattle.user_calls.proofs.bill.Statement.{statement}

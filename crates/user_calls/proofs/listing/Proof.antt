@@ -1,7 +1,7 @@
 use native.Mathlib.Omega.{arith}
 use Rattle.model.specs.Calls.{listingRefusal}
 use Rattle.model.specs.Rights.{listingAs}
-use Rattle.closing_backup.proofs.Users.{user-refused, user-served}
+use Rattle.laws.proofs.Unless.{user-refused, user-served}
 use borrow.Author.Needs.{needs}
 use Rattle.user_calls.proofs.listing.Statement.{statement}
 use Rattle.user_calls.proofs.listing.Tie as tie

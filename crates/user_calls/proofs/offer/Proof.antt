@@ -1,7 +1,7 @@
 use native.Mathlib.Omega.{arith}
 use denote.Ref.{now}
 use Rattle.sent.specs.Sent.{offerAs}
-use Rattle.closing_backup.proofs.Users.{user-refused, user-served}
+use Rattle.laws.proofs.Unless.{user-refused, user-served}
 use borrow.Author.Needs.{needs}
 use Rattle.user_calls.proofs.offer.Statement.{statement}
 use Rattle.user_calls.proofs.offer.Tie as tie

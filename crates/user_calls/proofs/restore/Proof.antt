@@ -2,7 +2,7 @@ use native.Mathlib.Omega.{arith}
 use denote.Ref.{now}
 use Rattle.model.specs.Calls.{restoreRefusal}
 use Rattle.model.specs.Rights.{restoreAs}
-use Rattle.closing_backup.proofs.Users.{user-refused, user-served}
+use Rattle.laws.proofs.Unless.{user-refused, user-served}
 use borrow.Author.Needs.{needs}
 use Rattle.user_calls.proofs.restore.Statement.{statement}
 use Rattle.user_calls.proofs.restore.Tie as tie

@@ -1,6 +1,6 @@
 use native.Mathlib.Omega.{arith}
 use Rattle.model.specs.Rights.{tallyRefusal, tallyAs}
-use Rattle.closing_backup.proofs.Users.{user-refused, user-served}
+use Rattle.laws.proofs.Unless.{user-refused, user-served}
 use Rattle.user_calls.proofs.Owner.{for-owner}
 use borrow.Author.Needs.{needs}
 use Rattle.user_calls.proofs.tally.Statement.{statement}

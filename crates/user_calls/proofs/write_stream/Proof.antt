@@ -2,7 +2,7 @@ use native.Mathlib.Omega.{arith}
 use denote.Ref.{now}
 use Rattle.stream.specs.Stream.{streamRefusal}
 use Rattle.stream.specs.Version.{writeStreamAs}
-use Rattle.closing_backup.proofs.Users.{user-refused, user-served}
+use Rattle.laws.proofs.Unless.{user-refused, user-served}
 use borrow.Author.Needs.{needs}
 use Rattle.user_calls.proofs.write_stream.Statement.{statement}
 use Rattle.user_calls.proofs.write_stream.Tie as tie
