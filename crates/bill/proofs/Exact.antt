@@ -154,7 +154,7 @@ all-in (x ∷ xs) ys = (
 )
   where
     mine : 0 < uses x (x ∷ xs)
-    mine = unfold uses in rw (eq-eqb x x refl) (omega arith)
+    mine = unfold uses count in rw (eq-eqb x x refl) (omega arith)
 
 exact-in : (s : Shape) (st : State) → isSound s st ≡ true → (p : ℕ) → total (λ (n : ℕ). n) (fill 16 (bill p st)) ≡ p * length (namedCells (st .shelf .records))
 unfolding bill

@@ -11,6 +11,8 @@ use borrow.Author.Tests.{eqb-true, eqb-false, eq-eqb, ne-eqb, lt-ltb, le-ltb}
 use Rattle.lists.specs.Lists.{counted, every, total, allOf}
 use Rattle.lists.specs.Rows.{joined, partsBy}
 use Rattle.lists.proofs.Tests.{clause, all-true}
+use Rattle.lists.proofs.Counted.{every-counted}
+use Rattle.lists.proofs.Counts.{sum-with}
 use Rattle.lists.proofs.Lengths.{length-parts-by, joined-parts-by, parts-by-put, total-put}
 use Rattle.history.specs.Calls.{Buffers}
 use Rattle.chain.specs.Chain.{Chain, storeCount, poolAt, tableAt, poolsWith, tablesWith, isChain, addUp, isStoreAt, isSoundChain, chainRefusal}
@@ -82,11 +84,6 @@ module _ (c : Chain) (l : Lengths c) (i : ℕ) (b : Buffers) (hp : length (b .po
 
 -- ---- a chain whose stores are all sound is refused for its store's number only
 
-every-counted : (f : ℕ → Bool) (i n : ℕ) → ((j : ℕ) → i ≤ j → j < i + n → f j ≡ true) → every f (counted (λ j. j) i n) ≡ true
-unfolding every counted
-every-counted f i zero h = refl
-every-counted f i (suc n) h = rw (h i (omega arith) (omega arith)) (every-counted f (suc i) n (λ j p q. h j (omega arith) (omega arith)))
-
 module _ (c : Chain) (l : Lengths c) (sound : (j : ℕ) → j < storeCount c → isStoreAt c j ≡ true) where
   all-sound : isSoundChain c ≡ true
   unfolding isSoundChain addUp
@@ -101,26 +98,6 @@ module _ (c : Chain) (l : Lengths c) (sound : (j : ℕ) → j < storeCount c →
   refused-outside i h = rw (l .count, all-sound, le-ltb i (storeCount c) h)
 
 -- ---- the cells of all stores
-
--- a sum in which one number is another
-sum-before : (f g : ℕ → ℕ) (i : ℕ) → ((j : ℕ) → (j ≡ i → ⊥) → f j ≡ g j) → (a n : ℕ) → i < a
-    → total f (counted (λ j. j) a n) ≡ total (λ j. cond (eqb j i) 0 (g j)) (counted (λ j. j) a n)
-unfolding total counted
-sum-before f g i e a zero h = refl
-sum-before f g i e a (suc n) h =
-    let m : a ≡ i → ⊥ = λ q. omega (arith, q, h) in
-    rw (ne-eqb a i m) (ap₂ (λ (x y : ℕ). x + y) (e a m) (sum-before f g i e (suc a) n (omega arith)))
-
-sum-with : (f g : ℕ → ℕ) (i : ℕ) → ((j : ℕ) → (j ≡ i → ⊥) → f j ≡ g j) → (a n : ℕ) → a ≤ i → i < a + n
-    → total f (counted (λ j. j) a n) ≡ total (λ j. cond (eqb j i) 0 (g j)) (counted (λ j. j) a n) + f i
-unfolding total counted
-sum-with f g i e a zero h k = absurd (omega (arith, h, k))
-sum-with f g i e a (suc n) h k = go (eqb a i) refl (sum-with f g i e (suc a) n)
-  where
-    go : (t : Bool) → eqb a i ≡ t → (suc a ≤ i → i < suc a + n → total f (counted (λ j. j) (suc a) n) ≡ total (λ j. cond (eqb j i) 0 (g j)) (counted (λ j. j) (suc a) n) + f i)
-        → f a + total f (counted (λ j. j) (suc a) n) ≡ (cond (eqb a i) 0 (g a) + total (λ j. cond (eqb j i) 0 (g j)) (counted (λ j. j) (suc a) n)) + f i
-    go true q later = let is : a ≡ i = eqb-true a i q in rw q (omega (arith, sum-before f g i e (suc a) n (omega (arith, is)), ap f is))
-    go false q later = let m : a ≡ i → ⊥ = eqb-false a i q in rw q (omega (arith, later (omega (arith, m)) (omega arith), e a m))
 
 pub cells-put : (c : Chain) (l : Lengths c) (i : ℕ) (b : Buffers) → length (b .pool) ≡ length (poolAt c i) → length (b .table) ≡ length (tableAt c i) → i < storeCount c
     → allCells (put c i b) ≡ otherCells c i + occupied (b .pool) (b .table)

@@ -133,7 +133,7 @@ module _ (m : Measures) (a : Shelf) (f : ShelfFits m a) (k : ℕ) (hk : k < leng
             (x c ∙ ap bit (List·getD-eq-default (a .cells) [] (ltb-false c (length (a .cells)) e)) ∙ nothing-bit) h))
 
     copied : (cs : List ℕ) → ((c : ℕ) → 0 < uses c cs → 0 < uses c (cellsOf seg)) → Each (Whole m) (map (cellAt a) cs)
-    unfolding cellAt seg uses
+    unfolding cellAt seg uses count
     copied [] h = tt
     copied (c ∷ cs) h = (
       each-at (Whole m) [] (a .cells) (f .cells) c (inside c (omega (arith, h c (omega (arith, uses-here c cs)), named-one c (a .records) k))),

@@ -57,7 +57,7 @@ named-count s st h =
 -- the record and the position that name a cell
 pub record-of : (c : ℕ) (segs : List Segment) → 0 < uses c (namedCells segs) → (k : ℕ) × (0 < uses c (cellsOf (getD segs k [])))
 unfolding namedCells joined
-record-of c [] h = unfold uses in absurd (not-suc-le-zero h)
+record-of c [] h = unfold uses count in absurd (not-suc-le-zero h)
 record-of c (seg ∷ segs) h = go (ltb 0 (uses c (cellsOf seg))) refl (λ l. record-of c segs l)
   where
     go : (t : Bool) → ltb 0 (uses c (cellsOf seg)) ≡ t → (0 < uses c (namedCells segs) → (k : ℕ) × (0 < uses c (cellsOf (getD segs k []))))
@@ -69,7 +69,7 @@ record-of c (seg ∷ segs) h = go (ltb 0 (uses c (cellsOf seg))) refl (λ l. rec
 
 pub position-of : (c : ℕ) (seg : Segment) → 0 < uses c (cellsOf seg)
     → (i : ℕ) × (isHeld (getD seg i nullPosition) ≡ true) × (cellOf (getD seg i nullPosition) ≡ c)
-unfolding cellsOf uses
+unfolding cellsOf uses count
 position-of c [] h = absurd (not-suc-le-zero h)
 position-of c (nullPosition ∷ seg) h = let z = position-of c seg h in (suc (z .0), z .1, z .2)
 position-of c (blankPosition ∷ seg) h = let z = position-of c seg h in (suc (z .0), z .1, z .2)

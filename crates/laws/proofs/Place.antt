@@ -230,7 +230,7 @@ blank-unmatched a seg ps i h f = go (equals withBlanks a seg ps) refl
     go false e = refl
 
 pub held-named : (seg : Segment) (i : ℕ) → isHeld (getD seg i nullPosition) ≡ true → 0 < uses (cellOf (getD seg i nullPosition)) (cellsOf seg)
-unfolding cellsOf uses
+unfolding cellsOf uses count
 held-named [] i h = absurd (false≢true h)
 held-named (nullPosition ∷ seg) zero h = absurd (false≢true h)
 held-named (blankPosition ∷ seg) zero h = absurd (false≢true h)
@@ -353,7 +353,7 @@ free-none (held c n ∷ seg) h i = absurd (false≢true h)
 free-none (removed ∷ seg) h i = absurd (false≢true h)
 
 free-cells : (c : ℕ) (seg : Segment) → isFree seg ≡ true → uses c (cellsOf seg) ≡ 0
-unfolding isFree every cellsOf uses
+unfolding isFree every cellsOf uses count
 free-cells c [] h = refl
 free-cells c (nullPosition ∷ seg) h = free-cells c seg h
 free-cells c (blankPosition ∷ seg) h = absurd (false≢true h)

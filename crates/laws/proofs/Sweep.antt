@@ -46,14 +46,14 @@ bit-most b = by-test (λ (n : ℕ). n ≤ 1) (allZero b) (λ e. zero-le) (λ e. 
 
 pub named-one : (c : ℕ) (segs : List Segment) (k : ℕ) → uses c (cellsOf (getD segs k [])) ≤ uses c (namedCells segs)
 unfolding namedCells joined
-named-one c [] k = unfold uses cellsOf in zero-le
+named-one c [] k = unfold uses count cellsOf in zero-le
 named-one c (s ∷ segs) zero = omega (arith, uses-append c (cellsOf s) (joined (map cellsOf segs)))
 named-one c (s ∷ segs) (suc k) = omega (arith, named-one c segs k, uses-append c (cellsOf s) (joined (map cellsOf segs)))
 
 named-two : (c : ℕ) (segs : List Segment) (j k : ℕ) → (j ≡ k → ⊥)
     → uses c (cellsOf (getD segs j [])) + uses c (cellsOf (getD segs k [])) ≤ uses c (namedCells segs)
 unfolding namedCells joined
-named-two c [] j k h = unfold uses cellsOf in zero-le
+named-two c [] j k h = unfold uses count cellsOf in zero-le
 named-two c (s ∷ segs) zero zero h = absurd (h refl)
 named-two c (s ∷ segs) zero (suc k) h = omega (arith, named-one c segs k, uses-append c (cellsOf s) (joined (map cellsOf segs)))
 named-two c (s ∷ segs) (suc j) zero h = omega (arith, named-one c segs j, uses-append c (cellsOf s) (joined (map cellsOf segs)))
@@ -62,7 +62,7 @@ named-two c (s ∷ segs) (suc j) (suc k) h =
 
 -- a position with a count names its cell, among those that stay
 stays-named : (seg : Segment) (i : ℕ) → 0 < countOf (getD seg i nullPosition) → 0 < uses (cellOf (getD seg i nullPosition)) (staying seg)
-unfolding staying keep cellsOf uses
+unfolding staying keep cellsOf uses count
 stays-named [] i h = absurd (not-suc-le-zero h)
 stays-named (nullPosition ∷ seg) zero h = absurd (not-suc-le-zero h)
 stays-named (blankPosition ∷ seg) zero h = absurd (not-suc-le-zero h)
@@ -185,7 +185,7 @@ free-count (suc n) zero = refl
 free-count (suc n) (suc i) = free-count n i
 
 free-uses : (c n : ℕ) → uses c (cellsOf (replicate n nullPosition)) ≡ 0
-unfolding uses cellsOf
+unfolding uses count cellsOf
 free-uses c zero = refl
 free-uses c (suc n) = free-uses c n
 

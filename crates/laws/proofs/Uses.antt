@@ -60,7 +60,7 @@ clear-zero m (x ∷ cs) cells c h = clear-zero m cs (set cells x (zeroBlock (m .
 
 -- a cell of the list is zero afterwards, and any other is as it was
 pub clear-in : (m : Measures) (cs : List ℕ) (cells : List Block) (c : ℕ) → 0 < uses c cs → bit (getD (clearCells (m .blockBytes) cells cs) c []) ≡ 0
-unfolding clearCells uses
+unfolding clearCells uses count
 clear-in m [] cells c h = absurd (not-suc-le-zero h)
 clear-in m (x ∷ cs) cells c h = go (eqb c x) refl (λ b. clear-in m cs (set cells x (zeroBlock (m .blockBytes))) c b)
   where
@@ -72,7 +72,7 @@ clear-in m (x ∷ cs) cells c h = go (eqb c x) refl (λ b. clear-in m cs (set ce
     go false e r = r (subst (λ (n : ℕ). 0 < n) (uses-other c x cs (eqb-false c x e)) h)
 
 pub clear-out : (m : Measures) (cs : List ℕ) (cells : List Block) (c : ℕ) → uses c cs ≡ 0 → getD (clearCells (m .blockBytes) cells cs) c [] ≡ getD cells c []
-unfolding clearCells uses
+unfolding clearCells uses count
 clear-out m [] cells c h = refl
 clear-out m (x ∷ cs) cells c h = go (eqb c x) refl (λ e. clear-out m cs (set cells x (zeroBlock (m .blockBytes))) c e)
   where
@@ -94,7 +94,7 @@ unfoldable pub going : Segment → List ℕ
 going seg = cellsOf (keep goes seg)
 
 pub uses-split : (c : ℕ) (seg : Segment) → uses c (cellsOf seg) ≡ uses c (going seg) + uses c (staying seg)
-unfolding uses staying going cellsOf keep
+unfolding uses count staying going cellsOf keep
 uses-split c [] = refl
 uses-split c (nullPosition ∷ seg) = uses-split c seg
 uses-split c (blankPosition ∷ seg) = uses-split c seg

@@ -1,11 +1,12 @@
 -- Laws of `counted` and `largest`.
 use mathlib.Core.Path.{_≡_, refl, sym, ap, ap₂, _∙_}
+use mathlib.Core.Bool.{Bool, true}
 use mathlib.Core.List.{List, [], _∷_, _++_}
 use Prim.Native.Nat.{ℕ, zero, suc, _+_, _≤_, _<_, zero-le}
 use native.Mathlib.Nat.{add-zero, suc-add, add-suc, not-suc-le-zero, le-of-suc-le-suc}
 use native.Mathlib.Omega.{arith}
 use lib.ListN.{length, getD}
-use Rattle.lists.specs.Lists.{counted, largest}
+use Rattle.lists.specs.Lists.{counted, every, largest}
 
 pub length-counted {ℓ} : {A : Type ℓ} (f : ℕ → A) (i n : ℕ) → length (counted f i n) ≡ n
 unfolding counted
@@ -41,3 +42,8 @@ pub largest-most : (m : ℕ) (f : ℕ → ℕ) → ((j : ℕ) → f j ≤ m) →
 unfolding largest counted
 largest-most m f h i zero = zero-le
 largest-most m f h i (suc n) = omega (arith, h i, largest-most m f h (suc i) n)
+
+pub every-counted : (f : ℕ → Bool) (i n : ℕ) → ((j : ℕ) → i ≤ j → j < i + n → f j ≡ true) → every f (counted (λ j. j) i n) ≡ true
+unfolding every counted
+every-counted f i zero h = refl
+every-counted f i (suc n) h = rw (h i (omega arith) (omega arith)) (every-counted f (suc i) n (λ j p q. h j (omega arith) (omega arith)))

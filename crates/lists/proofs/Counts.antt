@@ -94,3 +94,23 @@ pub sum-map : {A : Type 0} (f : A → ℕ) (xs : List A) → total (λ n. n) (ma
 unfolding total
 sum-map f [] = refl
 sum-map f (x ∷ xs) = ap (λ (n : ℕ). f x + n) (sum-map f xs)
+
+-- a sum in which one number is another
+sum-before : (f g : ℕ → ℕ) (i : ℕ) → ((j : ℕ) → (j ≡ i → ⊥) → f j ≡ g j) → (a n : ℕ) → i < a
+    → total f (counted (λ j. j) a n) ≡ total (λ j. cond (eqb j i) 0 (g j)) (counted (λ j. j) a n)
+unfolding total counted
+sum-before f g i e a zero h = refl
+sum-before f g i e a (suc n) h =
+    let m : a ≡ i → ⊥ = λ q. omega (arith, q, h) in
+    rw (ne-eqb a i m) (ap₂ (λ (x y : ℕ). x + y) (e a m) (sum-before f g i e (suc a) n (omega arith)))
+
+pub sum-with : (f g : ℕ → ℕ) (i : ℕ) → ((j : ℕ) → (j ≡ i → ⊥) → f j ≡ g j) → (a n : ℕ) → a ≤ i → i < a + n
+    → total f (counted (λ j. j) a n) ≡ total (λ j. cond (eqb j i) 0 (g j)) (counted (λ j. j) a n) + f i
+unfolding total counted
+sum-with f g i e a zero h k = absurd (omega (arith, h, k))
+sum-with f g i e a (suc n) h k = go (eqb a i) refl (sum-with f g i e (suc a) n)
+  where
+    go : (t : Bool) → eqb a i ≡ t → (suc a ≤ i → i < suc a + n → total f (counted (λ j. j) (suc a) n) ≡ total (λ j. cond (eqb j i) 0 (g j)) (counted (λ j. j) (suc a) n) + f i)
+        → f a + total f (counted (λ j. j) (suc a) n) ≡ (cond (eqb a i) 0 (g a) + total (λ j. cond (eqb j i) 0 (g j)) (counted (λ j. j) (suc a) n)) + f i
+    go true q later = let is : a ≡ i = eqb-true a i q in rw q (omega (arith, sum-before f g i e (suc a) n (omega (arith, is)), ap f is))
+    go false q later = let m : a ≡ i → ⊥ = eqb-false a i q in rw q (omega (arith, later (omega (arith, m)) (omega arith), e a m))

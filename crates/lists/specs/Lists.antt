@@ -54,8 +54,7 @@ isIn n (x ∷ xs) = let r = isIn n xs in cond (eqb n x) true r
 
 -- how often `c` stands in the list
 unfoldable pub uses : ℕ → List ℕ → ℕ
-uses c [] = 0
-uses c (x ∷ xs) = cond (eqb c x) 1 0 + uses c xs
+uses c xs = count (eqb c) xs
 
 -- no number stands twice
 unfoldable pub distinct : List ℕ → Bool
