@@ -1,6 +1,6 @@
 -- The two passes as their loops go, a word, a slot, a till or a mark at a time.
 use mathlib.Core.Path.{_≡_, refl, sym, ap, ap₂, _∙_}
-use mathlib.Core.Bool.{Bool, true, false, cond}
+use mathlib.Core.Bool.{Bool, true, false, cond, not}
 use mathlib.Core.List.{List, [], _∷_, _++_}
 use Prim.Native.Nat.{ℕ, zero, suc, _+_, _*_, _-_, _/_, _%_, _^_, _≤_, _<_}
 use native.Mathlib.Nat.{pow-suc, suc-mul, mul-le-mul-right, div-le-self}
@@ -8,20 +8,21 @@ use native.Mathlib.Numerals.{add-one}
 use native.Mathlib.Omega.{arith}
 use lib.Count.{ones, ones-step}
 use lib.Dec.{eqb, ltb}
-use lib.Seq.{getD-take, set-out}
+use lib.Seq.{getD-take, set-out, drop-drop}
 use lib.Pow.{pow-mono}
-use lib.ListN.{length, getD, set, take, drop, replicate, length-set, length-take, length-drop}
-use borrow.Author.Tests.{eq-eqb, eqb-true, lt-ltb, le-ltb, ltb-true, ltb-false}
+use lib.ListN.{length, getD, set, take, drop, replicate, length-set, length-take, length-drop, take-append-drop}
+use borrow.Author.Tests.{eq-eqb, ne-eqb, eqb-true, eqb-false, not-true, lt-ltb, le-ltb, ltb-true, ltb-false}
 use Rattle.lists.specs.Rows.{joined, rows, parts}
 use Rattle.lists.specs.Walk.{walk}
 use Rattle.lists.proofs.Answers.{part-is}
 use Rattle.lists.proofs.Cuts.{cut-next}
 use Rattle.lists.proofs.Masks.{First, here, later, first-le, one-shl}
-use Rattle.lists.proofs.Slices.{drop-next, drop-end}
+use Rattle.lists.proofs.Slices.{drop-next, drop-end, every-next, every-stop, every-end}
+use Rattle.lists.proofs.Tests.{every-head, every-tail}
 use Rattle.model.specs.Table.{kindUnit}
 use Rattle.audit_tills.specs.Says.{tillPointers}
 use Rattle.bill.specs.Bill.{BillAnswer}
-use Rattle.bill_sums.specs.Marks.{withBit, markWord, markWords, tillRow, markTills, TillRows, partOf, shareOut, shared, shareAll}
+use Rattle.bill_sums.specs.Marks.{withBit, markWord, markWords, noneDirect, tillRow, markTills, TillRows, partOf, shareOut, shared, shareAll}
 
 -- ---- the marks
 
@@ -75,6 +76,34 @@ words-append : (bit : ℕ) (xs ys marks : List ℕ) → markWords bit (xs ++ ys)
 unfolding markWords
 words-append bit [] ys marks = refl
 words-append bit (x ∷ xs) ys marks = words-append bit xs ys (markWord bit x marks)
+
+-- the next n words as a group of their own
+pub group-turn : (bit : ℕ) (ws : List ℕ) (i n : ℕ) (marks : List ℕ) → markWords bit (drop i ws) marks ≡ markWords bit (drop (i + n) ws) (markWords bit (take n (drop i ws)) marks)
+group-turn bit ws i n marks =
+    ap (λ (l : List ℕ). markWords bit l marks) (sym (take-append-drop n (drop i ws))) ∙ words-append bit (take n (drop i ws)) (drop n (drop i ws)) marks
+    ∙ ap (λ (l : List ℕ). markWords bit l (markWords bit (take n (drop i ws)) marks)) (drop-drop n i ws)
+
+-- whether a group has no direct pointer, word by word
+module _ (ws : List ℕ) (i : ℕ) where
+  pub none-next : i < length ws → (getD ws i 0 / 65536 ≡ 256 → ⊥) → noneDirect (drop i ws) ≡ noneDirect (drop (i + 1) ws)
+  unfolding noneDirect
+  none-next h n = every-next (λ w. not (eqb (w / 65536) 256)) ws i 0 h (ap not (ne-eqb (getD ws i 0 / 65536) 256 n))
+
+  pub none-stop : i < length ws → getD ws i 0 / 65536 ≡ 256 → noneDirect (drop i ws) ≡ false
+  unfolding noneDirect
+  none-stop h e = every-stop (λ w. not (eqb (w / 65536) 256)) ws i 0 h (ap not (eq-eqb (getD ws i 0 / 65536) 256 e))
+
+  pub none-end : length ws ≤ i → noneDirect (drop i ws) ≡ true
+  unfolding noneDirect
+  none-end h = every-end (λ w. not (eqb (w / 65536) 256)) ws i h
+
+-- a group with no direct pointer leaves the marks as they are
+pub none-marked : (bit : ℕ) (ws marks : List ℕ) → noneDirect ws ≡ true → length marks ≡ 65536 → marks ≡ markWords bit ws marks
+unfolding noneDirect markWords
+none-marked bit [] marks e l = refl
+none-marked bit (w ∷ ws) marks e l =
+    let other : w / 65536 ≡ 256 → ⊥ = λ z. eqb-false (w / 65536) 256 (not-true _ (every-head (λ w. not (eqb (w / 65536) 256)) w ws e)) z in
+    none-marked bit ws marks (every-tail (λ w. not (eqb (w / 65536) 256)) w ws e) l ∙ ap (markWords bit ws) (word-other bit w marks other l)
 
 -- the words of each of some rows of w words
 module _ (bit : ℕ) (f : List ℕ → List ℕ) (w : ℕ) where
@@ -195,6 +224,13 @@ some-in (suc n) m l h = go (ltb 0 (m / 2)) refl (λ g. some-in n (m / 2) (omega 
 -- a mark that is not 0 has tills
 pub ones-some : (m : ℕ) → 0 < m → 0 < ones m
 ones-some m h = some-in m m (omega arith) h
+
+-- one till alone has the whole price
+pub one-shared : (p m : ℕ) (sums after : List ℕ) → ones m ≡ 1 → after ≡ shareOut p m 0 sums → after ≡ shared p m sums
+one-shared p m sums after e f =
+    let q : p / 1 ≡ p = omega arith in
+    let r : p % 1 ≡ 0 = omega arith in
+    rw (e, q, r) f
 
 -- of the first n marks
 pub all-turn : (p n : ℕ) (marks : List ℕ) (i : ℕ) (sums : List ℕ) → n ≤ length marks → i < n

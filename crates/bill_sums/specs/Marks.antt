@@ -1,10 +1,11 @@
 -- The two passes of a bill: the tills with a direct pointer to a position are the bits of its mark, and the price is divided among them.
 use Prim.Native.Nat.{ℕ, zero, suc, _+_, _*_, _-_, _/_, _%_, _^_, _≤_, _<_}
-use mathlib.Core.Bool.{cond}
+use mathlib.Core.Bool.{Bool, cond, not}
 use mathlib.Core.List.{List, [], _∷_}
 use lib.ListN.{length, getD, set, take, drop, replicate}
 use lib.Count.{ones}
 use lib.Dec.{eqb, ltb}
+use Rattle.lists.specs.Lists.{every}
 use Rattle.lists.specs.Walk.{walk}
 use Rattle.model.specs.Table.{kindUnit}
 use Rattle.audit_tills.specs.Says.{tillPointers}
@@ -23,6 +24,10 @@ markWord bit w marks = cond (eqb (w / kindUnit) 1) (set marks (w % kindUnit) (wi
 unfoldable pub markWords : ℕ → List ℕ → List ℕ → List ℕ
 markWords bit [] marks = marks
 markWords bit (w ∷ ws) marks = markWords bit ws (markWord bit w marks)
+
+-- no word is a direct pointer to a position below 65,536
+unfoldable pub noneDirect : List ℕ → Bool
+noneDirect ws = every (λ w. not (eqb (w / 65536) 256)) ws
 
 -- till t of those of `width` words each
 abbrev pub tillRow : ℕ → List ℕ → ℕ → List ℕ

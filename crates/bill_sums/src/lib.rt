@@ -6,7 +6,7 @@ ghost use Rattle.laws.specs.Stores.{Sound};
 ghost use Rattle.audit_tills.specs.Says.{pointerWords, slotsPointers, tillPointers};
 ghost use Rattle.bill.specs.Bill.{billOf};
 ghost use Rattle.bill_sums.specs.Answers.{billed};
-ghost use Rattle.bill_sums.specs.Marks.{withBit, markWord, markWords, TillRows, markTills, partOf, shareOut, shared, shareAll, billedTills};
+ghost use Rattle.bill_sums.specs.Marks.{withBit, markWord, markWords, noneDirect, TillRows, markTills, partOf, shareOut, shared, shareAll, billedTills};
 
 // Refusal 0 is an accepted call. The sums are tenths of a cent.
 #[repr(C)]
@@ -37,7 +37,22 @@ fn mark_word(marks: &mut [u16], w: u32, bit: u16)
     }
 }
 
-fn mark_words(words: &[u32], bit: u16, marks: &mut [u16])
+// Whether no word is a direct pointer. No exit from the loop, so that the compiler takes many words at a time.
+fn none_direct(words: &[u32]) -> bool
+    ensures { λ r. ⌜ r ≡ noneDirect (now (words .entry)) ⌝ }
+{
+    let mut none = true;
+    let mut i: usize = 0;
+    while i < words.len() {
+        if words[i] / 0x1_0000 == 0x100 {
+            none = false;
+        }
+        i += 1;
+    }
+    none
+}
+
+fn mark_each(words: &[u32], bit: u16, marks: &mut [u16])
     requires { ⌜ (length (now marks) ≡ 65536) × (bit ≤ 32768) ⌝ }
     ensures { λ _. ⌜ now (marks .exit) ≡ markWords bit (now (words .entry)) (now (marks .entry)) ⌝ }
 {
@@ -46,6 +61,29 @@ fn mark_words(words: &[u32], bit: u16, marks: &mut [u16])
         mark_word(marks, words[i], bit);
         i += 1;
     }
+}
+
+// A group of words. Most have no direct pointer, and leave the marks as they are.
+fn mark_group(words: &[u32], bit: u16, marks: &mut [u16])
+    requires { ⌜ (length (now marks) ≡ 65536) × (bit ≤ 32768) ⌝ }
+    ensures { λ _. ⌜ now (marks .exit) ≡ markWords bit (now (words .entry)) (now (marks .entry)) ⌝ }
+{
+    if !none_direct(words) {
+        mark_each(words, bit, marks);
+    }
+}
+
+// The words in groups of 32, and what is left.
+fn mark_words(words: &[u32], bit: u16, marks: &mut [u16])
+    requires { ⌜ (length (now marks) ≡ 65536) × (bit ≤ 32768) ⌝ }
+    ensures { λ _. ⌜ now (marks .exit) ≡ markWords bit (now (words .entry)) (now (marks .entry)) ⌝ }
+{
+    let mut at: usize = 0;
+    while 32 <= words.len() - at {
+        mark_group(&words[at..at + 32], bit, marks);
+        at += 32;
+    }
+    mark_group(&words[at..], bit, marks);
 }
 
 // The pointers of one slot, for images of so many blocks of so many bytes.
@@ -136,13 +174,16 @@ fn share_out(mark: u32, quotient: u32, rest: u32, sums: &mut [u32])
     }
 }
 
-// The price of a cell is divided among the tills of its mark.
+// The price of a cell is divided among the tills of its mark. One till alone has all of it, without a division.
 fn share(mark: u16, price: u32, sums: &mut [u32])
     requires { ⌜ (0 < mark) × (price ≤ 10000) × (length (now sums) ≡ 16) × ((t : ℕ) → getD (now sums) t 0 ≤ 1000000000) ⌝ }
     ensures { λ _. ⌜ now (sums .exit) ≡ shared price mark (now (sums .entry)) ⌝ }
 {
     let tills = mark as u32;
     let n = u32::count_ones(tills);
+    if n == 1 {
+        return share_out(tills, price, 0, sums);
+    }
     share_out(tills, price / n, price % n, sums);
 }
 
