@@ -72,7 +72,7 @@ fn records_at(tills: usize, versions: usize, blocks: usize) -> usize
     ensures { λ r. ⌜ (r ≡ recordsAt tills versions blocks) × (r ≤ 2000000) ⌝ }
 {
     let width = 4 + versions * (3 + blocks);
-    8 + tills * width
+    layout::HEADER_WORDS + tills * width
 }
 
 // The same, of a table whose capacities are in range, and of buffers of their lengths.
@@ -86,7 +86,7 @@ fn body_good(pool: &[u8], table: &[u32], m: Measures) -> bool
     let base = records_at(tills, versions, blocks);
     parts_good(
         pool,
-        &table[8..base],
+        &table[layout::HEADER_WORDS..base],
         &table[base..],
         tills,
         versions,

@@ -26,7 +26,7 @@ fn measures_written(table: &[u32], m: Measures) -> bool
 pub fn header(pool: &[u8], table: &[u32]) -> bool
     ensures { λ r. ⌜ Tells r (Header (now (pool .entry)) (now (table .entry))) ⌝ }
 {
-    if table.len() < 8 {
+    if table.len() < layout::HEADER_WORDS {
         return false;
     }
     let c = layout::capacities_in(table);

@@ -14,6 +14,9 @@ ghost use Rattle.numbers.specs.Measures.{measuresOf};
 ghost use Rattle.layout.specs.Layout.{shape, lengthAnswer, layoutAnswer};
 use numbers::Measures;
 
+// The table's first words, with the capacities and the measures.
+pub const HEADER_WORDS: usize = 8;
+
 // The eight of a store.
 pub struct Capacities {
     pub tills: u32,
@@ -149,7 +152,7 @@ fn table_words(c: Capacities) -> usize
     let record = numbers::row_words(m.blocks);
     let slot = 3 + c.blocks as usize;
     let till = 4 + c.versions as usize * slot;
-    8 + c.tills as usize * till + c.records as usize * record
+    HEADER_WORDS + c.tills as usize * till + c.records as usize * record
 }
 
 fn length_in_range(c: Capacities) -> TableLength

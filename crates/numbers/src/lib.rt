@@ -1,6 +1,7 @@
 // Cell, block and record numbers, each its own type so that none serves for another; pointers; and a store's measures.
 ghost use mathlib.Core.Path.{_≡_};
-ghost use Prim.Native.Nat.{_*_, _+_, _/_, _≤_, _<_};
+ghost use Prim.Native.Nat.{_*_, _+_, _/_, _%_, _≤_, _<_};
+ghost use lib.Dec.{eqb};
 ghost use Rattle.model.specs.Measures.{baseMeasures, isBase, recordWords, partsFor};
 ghost use Rattle.model.specs.State.{nullPointer, blankPointer, direct, indirect};
 ghost use Rattle.model.specs.Table.{pointerWord, measureWord, measuresIn};
@@ -138,6 +139,48 @@ impl Pointer {
     {
         let n = b.0;
         Pointer(0x200_0000 + n)
+    }
+
+    // Whether it is to a held position of a record.
+    pub fn is_direct(self) -> bool
+        ensures { λ r. ⌜ r ≡ eqb (self .0 / 16777216) 1 ⌝ }
+    {
+        self.0 / 0x100_0000 == 1
+    }
+
+    // Whether it is to a block of the next newer version.
+    pub fn is_indirect(self) -> bool
+        ensures { λ r. ⌜ r ≡ eqb (self .0 / 16777216) 2 ⌝ }
+    {
+        self.0 / 0x100_0000 == 2
+    }
+
+    // Whether it is of a block of 255s.
+    pub fn is_blank(self) -> bool
+        ensures { λ r. ⌜ r ≡ eqb (self .0 / 16777216) 3 ⌝ }
+    {
+        self.0 / 0x100_0000 == 3
+    }
+
+    // The record that a direct one leads to.
+    pub fn record(self) -> RecordNumber
+        ensures { λ r. ⌜ r .0 ≡ self .0 % 16777216 / 16 ⌝ }
+    {
+        RecordNumber(self.0 % 0x100_0000 / 16)
+    }
+
+    // The position in it.
+    pub fn position(self) -> u32
+        ensures { λ r. ⌜ r ≡ self .0 % 16777216 % 16 ⌝ }
+    {
+        self.0 % 0x100_0000 % 16
+    }
+
+    // The block that an indirect one names.
+    pub fn block(self) -> Block
+        ensures { λ r. ⌜ r .0 ≡ self .0 % 16777216 ⌝ }
+    {
+        Block(self.0 % 0x100_0000)
     }
 }
 

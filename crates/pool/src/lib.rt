@@ -4,6 +4,7 @@ ghost use Prim.Native.Nat.{ℕ, _+_, _*_, _≤_, _<_};
 ghost use lib.ListN.{length, getD};
 ghost use lib.Count.{ones};
 ghost use Rattle.pool.specs.Pool.{copyTo, clearAt, takeAt, freeAt, markAt, along};
+use numbers::Block;
 use numbers::Cell;
 
 // The block of a cell is copied to another.
@@ -11,7 +12,7 @@ pub fn move_block(pool: &mut [u8], from: Cell, to: Cell, bytes: usize)
     requires { ⌜ (bytes ≤ 512) × (from .0 * bytes + bytes ≤ length (now pool)) × (to .0 * bytes + bytes ≤ length (now pool)) ⌝ }
     ensures { λ _. ⌜ now (pool .exit) ≡ copyTo bytes (now (pool .entry)) (from .0) (to .0) ⌝ }
 {
-    let mut b = [0u8; 512];
+    let mut b = [0u8; Block::MOST_BYTES];
     let start = from.byte(bytes);
     let end = start + bytes;
     let at = to.byte(bytes);

@@ -1,6 +1,6 @@
 // Release and claim: each direct pointer of a list lowers its position's count by 1, or adds 1 to it.
 ghost use mathlib.Core.Path.{_≡_};
-ghost use mathlib.Core.List.{List, map};
+ghost use mathlib.Core.List.{map};
 ghost use Prim.Native.Nat.{ℕ, pred, _+_, _*_, _^_, _<_, _≤_};
 ghost use lib.ListN.{length, getD, set};
 ghost use Rattle.model.specs.Measures.{recordWords};
@@ -10,6 +10,7 @@ ghost use Rattle.model.specs.Place.{oneMore};
 ghost use Rattle.model.specs.Sweep.{oneLess, changeAt, changeAll};
 ghost use Rattle.shelf.specs.Stored.{RecordsTold, positionIn};
 ghost use Rattle.shelf.specs.Fits.{Fits, NamesHeld};
+use numbers::Pointer;
 use numbers::RecordNumber;
 
 fn one_less(n: u32) -> u32
@@ -36,15 +37,14 @@ pub fn lower_at(words: &mut [u32], number: RecordNumber, position: u32, n: usize
     words[at] = one_less(count);
 }
 
-// The same for the position that a pointer's word names, if it is direct.
-pub fn lower(words: &mut [u32], pointer: u32, n: usize)
+// The same for the position that a pointer names, if it is direct.
+pub fn lower(words: &mut [u32], pointer: Pointer, n: usize)
     requires { ⌜ (n ≤ 16) × RecordsTold n (now words) (recordsIn n (now words)) ⌝ }
-    requires { ⌜ Fits n (length (now words)) (wordToPointer pointer) ⌝ }
-    ensures { λ _. ⌜ RecordsTold n (now (words .exit)) (changeAt oneLess (recordsIn n (now (words .entry))) (wordToPointer pointer)) ⌝ }
+    requires { ⌜ Fits n (length (now words)) (wordToPointer (pointer .0)) ⌝ }
+    ensures { λ _. ⌜ RecordsTold n (now (words .exit)) (changeAt oneLess (recordsIn n (now (words .entry))) (wordToPointer (pointer .0))) ⌝ }
 {
-    if pointer / 16777216 == 1 {
-        let rest = pointer % 16777216;
-        lower_at(words, RecordNumber(rest / 16), rest % 16, n);
+    if pointer.is_direct() {
+        lower_at(words, pointer.record(), pointer.position(), n);
     }
 }
 
@@ -56,7 +56,7 @@ pub fn release(words: &mut [u32], pointers: &[u32], n: usize)
 {
     let mut i: usize = 0;
     while i < pointers.len() {
-        lower(words, pointers[i], n);
+        lower(words, Pointer(pointers[i]), n);
         i = i + 1;
     }
 }
@@ -71,16 +71,15 @@ fn raise_at(words: &mut [u32], number: RecordNumber, position: u32, n: usize)
     words[at] = count + 1;
 }
 
-// The same for the position that a pointer's word names, if it is direct: it is held.
-fn raise(words: &mut [u32], pointer: u32, n: usize)
+// The same for the position that a pointer names, if it is direct: it is held.
+fn raise(words: &mut [u32], pointer: Pointer, n: usize)
     requires { ⌜ (n ≤ 16) × RecordsTold n (now words) (recordsIn n (now words)) ⌝ }
-    requires { ⌜ Fits n (length (now words)) (wordToPointer pointer) × NamesHeld (recordsIn n (now words)) (wordToPointer pointer) ⌝ }
+    requires { ⌜ Fits n (length (now words)) (wordToPointer (pointer .0)) × NamesHeld (recordsIn n (now words)) (wordToPointer (pointer .0)) ⌝ }
     requires { ⌜ ((k i : ℕ) → countOf (positionIn (recordsIn n (now words)) k i) + 1 < 2 ^ 32) ⌝ }
-    ensures { λ _. ⌜ RecordsTold n (now (words .exit)) (changeAt oneMore (recordsIn n (now (words .entry))) (wordToPointer pointer)) ⌝ }
+    ensures { λ _. ⌜ RecordsTold n (now (words .exit)) (changeAt oneMore (recordsIn n (now (words .entry))) (wordToPointer (pointer .0))) ⌝ }
 {
-    if pointer / 16777216 == 1 {
-        let rest = pointer % 16777216;
-        raise_at(words, RecordNumber(rest / 16), rest % 16, n);
+    if pointer.is_direct() {
+        raise_at(words, pointer.record(), pointer.position(), n);
     }
 }
 
@@ -93,7 +92,7 @@ pub fn claim(words: &mut [u32], pointers: &[u32], n: usize)
 {
     let mut i: usize = 0;
     while i < pointers.len() {
-        raise(words, pointers[i], n);
+        raise(words, Pointer(pointers[i]), n);
         i = i + 1;
     }
 }

@@ -63,25 +63,30 @@ fn copy_older(
     numbers::parts_for(bytes, length as usize)
 }
 
-// The word that an indirect pointer's word names, among a version's; 0 for any other pointer.
-fn taken_word(word: u32, gone: &[u32]) -> u32
-    ensures { λ r. ⌜ r ≡ takenWord (now (gone .entry)) word ⌝ }
+// The pointer that an indirect one names, among a version's; null for any other.
+fn taken_pointer(pointer: numbers::Pointer, gone: &[u32]) -> numbers::Pointer
+    ensures { λ r. ⌜ r .0 ≡ takenWord (now (gone .entry)) (pointer .0) ⌝ }
 {
-    if word / 0x100_0000 != 2 {
-        return 0;
+    if !pointer.is_indirect() {
+        return numbers::Pointer::null();
     }
-    let n = (word % 0x100_0000) as usize;
+    let named = pointer.block();
+    let n = named.0 as usize;
     if gone.len() <= n {
-        return 0;
+        return numbers::Pointer::null();
     }
-    gone[n]
+    numbers::Pointer(gone[n])
 }
 
-// The word of a pointer that has taken over what it named.
-fn word_after(word: u32, taken: u32) -> u32
-    ensures { λ r. ⌜ ((gone : List ℕ) → taken ≡ takenWord gone word → r ≡ takeOverWord gone word) ⌝ }
+// A pointer that has taken over what it named.
+fn pointer_after(pointer: numbers::Pointer, taken: numbers::Pointer) -> numbers::Pointer
+    ensures { λ r. ⌜ ((gone : List ℕ) → taken .0 ≡ takenWord gone (pointer .0) → r .0 ≡ takeOverWord gone (pointer .0)) ⌝ }
 {
-    if word / 0x100_0000 == 2 { taken } else { word }
+    if pointer.is_indirect() {
+        taken
+    } else {
+        pointer
+    }
 }
 
 // The older neighbour's pointers take over, and what each has taken is listed.
@@ -91,10 +96,11 @@ fn take_over(older: &mut [u32], gone: &[u32], taken: &mut [u32])
 {
     let mut i: usize = 0;
     while i < taken.len() {
-        let word = older[i];
-        let named = taken_word(word, gone);
-        taken[i] = named;
-        older[i] = word_after(word, named);
+        let pointer = numbers::Pointer(older[i]);
+        let named = taken_pointer(pointer, gone);
+        let after = pointer_after(pointer, named);
+        taken[i] = named.0;
+        older[i] = after.0;
         i = i + 1;
     }
 }

@@ -48,7 +48,7 @@ pub fn records_at(table: &[u32]) -> usize
     requires { ⌜ Header (now table) ⌝ }
     ensures { λ r. ⌜ r ≡ recordsFrom (shapeOf (now (table .entry))) ⌝ }
 {
-    8 + table[0] as usize * till_words(table)
+    layout::HEADER_WORDS + table[0] as usize * till_words(table)
 }
 
 // Where a till's words begin, and what its head says.
@@ -56,7 +56,7 @@ pub fn till_head(pool: &[u8], table: &[u32], till: u32) -> Head
     requires { ⌜ Sound (now pool) (now table) × (till < getD (now table) 0 0) ⌝ }
     ensures { λ r. ⌜ HeadOf (now (pool .entry)) (now (table .entry)) till r ⌝ }
 {
-    let at = 8 + till as usize * till_words(table);
+    let at = layout::HEADER_WORDS + till as usize * till_words(table);
     Head {
         at: at,
         last: table[at],

@@ -3,7 +3,7 @@ use mathlib.Core.Path.{_≡_, refl, sym, ap, _∙_, subst}
 use mathlib.Core.Bool.{Bool, true, false}
 use mathlib.Core.List.{List, [], _∷_, map}
 use Prim.Native.Nat.{ℕ, zero, suc, _+_, _*_, _/_, _%_, _≤_, _<_, min}
-use native.Mathlib.Nat.{add-zero, zero-add, suc-add, add-suc, zero-mul}
+use native.Mathlib.Nat.{add-zero, zero-add, zero-mul}
 use native.Mathlib.Numerals.{add-one}
 use native.Mathlib.Omega.{arith}
 use lib.ListN.{length, getD, take, drop, length-map, length-take, List·getD-map, List·getD-eq-default}
@@ -93,32 +93,24 @@ hops-other w n f = go (w / 16777216) n
     go (suc (suc (suc zero))) n = refl
     go (suc (suc (suc (suc k)))) n = refl
 
-pub record Tracing (bytes b h : ℕ) (slots : List ℕ) (block v n w : ℕ) : Type 0 where
-  pub there : n < length (pointersAt (versionsIn bytes b h slots) v)
+-- from the pointer of w₀ on, v pointers are followed, and the next one is that of w
+pub record Tracing (bytes b h : ℕ) (slots : List ℕ) (w₀ v w : ℕ) : Type 0 where
   pub inside : v < h
-  pub word : w ≡ getD slots (v * (3 + b) + (3 + n)) 0
-  pub ends : endOf (drop v (versionsIn bytes b h slots)) n ≡ endOf (versionsIn bytes b h slots) block
-  pub hop : v + hops (drop v (versionsIn bytes b h slots)) n ≡ hops (versionsIn bytes b h slots) block
+  pub leads : LeadsTo (length (pointersAt (versionsIn bytes b h slots) (suc v))) (wordToPointer w)
+  pub ends : endVia (wordToPointer w) (λ k. endOf (drop (suc v) (versionsIn bytes b h slots)) k) ≡ endVia (wordToPointer w₀) (λ k. endOf (drop 1 (versionsIn bytes b h slots)) k)
+  pub hop : v + hopsVia (wordToPointer w) (λ k. hops (drop (suc v) (versionsIn bytes b h slots)) k) ≡ hopsVia (wordToPointer w₀) (λ k. hops (drop 1 (versionsIn bytes b h slots)) k)
 
-module _ (bytes b h : ℕ) (slots : List ℕ) (ok : Traceable bytes b h slots) (block : ℕ) where
+module _ (bytes b h : ℕ) (slots : List ℕ) (ok : Traceable bytes b h slots) where
   abbrev vs : List Version
   vs = versionsIn bytes b h slots
 
-  pub trace-start : block < length (pointersAt vs 0) → Tracing bytes b h slots block 0 block (getD slots (3 + block) 0)
-  trace-start l = record {
-    there = l;
-    inside = ok .some;
-    word = let z : 0 * (3 + b) + (3 + block) ≡ 3 + block = omega (arith, zero-mul (3 + b)) in rw z;
-    ends = refl;
-    hop = zero-add (hops vs block);
-  }
-
-  module _ (v n w : ℕ) (t : Tracing bytes b h slots block v n w) where
+  -- block n of version v, by its word
+  module _ (v n w : ℕ) (there : n < length (pointersAt vs v)) (e : w ≡ getD slots (v * (3 + b) + (3 + n)) 0) where
     pointer : getD (pointersAt vs v) n nullPointer ≡ wordToPointer w
-    pointer = word-at bytes b h slots v n (t .there) (ok .fits v) ∙ ap wordToPointer (sym (t .word))
+    pointer = word-at bytes b h slots v n there (ok .fits v) ∙ ap wordToPointer (sym e)
 
     cut : drop v vs ≡ getD vs v noVersion ∷ drop (suc v) vs
-    cut = drop-cons vs v noVersion (omega (arith, t .inside, length-versions bytes b h slots))
+    cut = drop-cons vs v noVersion (omega (arith, version-there bytes b h slots v n there, length-versions bytes b h slots))
 
     end-via : endOf (drop v vs) n ≡ endVia (wordToPointer w) (λ k. endOf (drop (suc v) vs) k)
     unfolding endOf
@@ -128,9 +120,24 @@ module _ (bytes b h : ℕ) (slots : List ℕ) (ok : Traceable bytes b h slots) (
     unfolding hops
     hop-via = rw (cut, pointer)
 
+    leads-on : LeadsTo (length (pointersAt vs (suc v))) (wordToPointer w)
+    leads-on = subst (λ (p : Pointer). LeadsTo (length (pointersAt vs (suc v))) p) pointer (ok .leads v n)
+
+  first-at : (block : ℕ) → getD slots (3 + block) 0 ≡ getD slots (0 * (3 + b) + (3 + block)) 0
+  first-at block = let z : 0 * (3 + b) + (3 + block) ≡ 3 + block = omega (arith, zero-mul (3 + b)) in rw z
+
+  pub trace-start : (block : ℕ) → block < length (pointersAt vs 0) → Tracing bytes b h slots (getD slots (3 + block) 0) 0 (getD slots (3 + block) 0)
+  trace-start block l = record {
+    inside = ok .some;
+    leads = leads-on 0 block (getD slots (3 + block) 0) l (first-at block);
+    ends = refl;
+    hop = zero-add (hopsVia (wordToPointer (getD slots (3 + block) 0)) (λ k. hops (drop 1 vs) k));
+  }
+
+  module _ (w₀ v w : ℕ) (t : Tracing bytes b h slots w₀ v w) where
     next-there : w / 16777216 ≡ 2 → w % 16777216 < length (pointersAt vs (suc v))
     unfolding LeadsTo
-    next-there e = subst (λ (p : Pointer). LeadsTo (length (pointersAt vs (suc v))) p) (pointer ∙ indirect-word w e) (ok .leads v n)
+    next-there e = subst (λ (p : Pointer). LeadsTo (length (pointersAt vs (suc v))) p) (indirect-word w e) (t .leads)
 
     pub next-inside : w / 16777216 ≡ 2 → v + 1 < h
     next-inside e = rw (add-one v) (version-there bytes b h slots (suc v) (w % 16777216) (next-there e))
@@ -138,25 +145,27 @@ module _ (bytes b h : ℕ) (slots : List ℕ) (ok : Traceable bytes b h slots) (
     pub next-block : w / 16777216 ≡ 2 → w % 16777216 < b
     next-block e = omega (arith, next-there e, ok .fits (suc v))
 
-    pub trace-next : w / 16777216 ≡ 2 → Tracing bytes b h slots block (v + 1) (w % 16777216) (getD slots ((v + 1) * (3 + b) + (3 + w % 16777216)) 0)
+    pub trace-next : w / 16777216 ≡ 2 → Tracing bytes b h slots w₀ (v + 1) (getD slots ((v + 1) * (3 + b) + (3 + w % 16777216)) 0)
     unfolding endVia hopsVia
     trace-next e =
-        let i = next-inside e in
-        let en : endOf (drop v vs) n ≡ endOf (drop (suc v) vs) (w % 16777216) = end-via ∙ rw (indirect-word w e) in
-        let ho : hops (drop v vs) n ≡ suc (hops (drop (suc v) vs) (w % 16777216)) = hop-via ∙ rw (indirect-word w e) in
+        let n : ℕ = w % 16777216 in
+        let w′ : ℕ = getD slots ((v + 1) * (3 + b) + (3 + n)) 0 in
+        let there : n < length (pointersAt vs (v + 1)) = rw (add-one v) (next-there e) in
+        let en : endVia (wordToPointer w) (λ k. endOf (drop (suc v) vs) k) ≡ endOf (drop (v + 1) vs) n = rw (indirect-word w e, add-one v) in
+        let ho : hopsVia (wordToPointer w) (λ k. hops (drop (suc v) vs) k) ≡ suc (hops (drop (v + 1) vs) n) = rw (indirect-word w e, add-one v) in
         record {
-          there = rw (add-one v) (next-there e);
-          inside = i;
-          word = refl;
-          ends = rw (add-one v) (sym en ∙ t .ends);
-          hop = rw (add-one v) (suc-add v (hops (drop (suc v) vs) (w % 16777216)) ∙ sym (add-suc v (hops (drop (suc v) vs) (w % 16777216))) ∙ ap (λ (x : ℕ). v + x) (sym ho) ∙ t .hop);
+          inside = next-inside e;
+          leads = leads-on (v + 1) n w′ there refl;
+          ends = sym (end-via (v + 1) n w′ there refl) ∙ sym en ∙ t .ends;
+          hop = omega (arith, hop-via (v + 1) n w′ there refl, ho, t .hop);
         }
 
-    pub trace-ends : (w / 16777216 ≡ 2 → ⊥) → wordToPointer w ≡ endOf vs block
-    trace-ends f = sym (end-other w f (λ k. endOf (drop (suc v) vs) k)) ∙ sym end-via ∙ t .ends
+    module _ (f : w / 16777216 ≡ 2 → ⊥) (block : ℕ) (l : block < length (pointersAt vs 0)) (e : w₀ ≡ getD slots (3 + block) 0) where
+      pub trace-ends : wordToPointer w ≡ endOf vs block
+      trace-ends = sym (end-other w f (λ k. endOf (drop (suc v) vs) k)) ∙ t .ends ∙ sym (end-via 0 block w₀ l (e ∙ first-at block))
 
-    pub trace-hops : (w / 16777216 ≡ 2 → ⊥) → v ≡ hops vs block
-    trace-hops f = sym (add-zero v) ∙ ap (λ (x : ℕ). v + x) (sym (hops-other w f (λ k. hops (drop (suc v) vs) k)) ∙ sym hop-via) ∙ t .hop
+      pub trace-hops : v ≡ hops vs block
+      trace-hops = sym (add-zero v) ∙ ap (λ (x : ℕ). v + x) (sym (hops-other w f (λ k. hops (drop (suc v) vs) k))) ∙ t .hop ∙ sym (hop-via 0 block w₀ l (e ∙ first-at block))
 
 -- where every pointer fits, so does the last one
 pub ends-fit : (m l : ℕ) (vs : List Version) → ((i j : ℕ) → Fits m l (getD (pointersAt vs i) j nullPointer)) → (n : ℕ) → Fits m l (endOf vs n)

@@ -45,5 +45,5 @@ pub record Direct (n bytes b h : ℕ) (slots : List ℕ) (l : ℕ) : Type 0 wher
 
 -- where the tracing of a block of the first version ends, and how many pointers it follows
 pub record Traces (vs : List Version) (n : ℕ) (t : Traced) : Type 0 where
-  pub ends : wordToPointer (t .word) ≡ endOf vs n
+  pub ends : wordToPointer (t .pointer .0) ≡ endOf vs n
   pub hop : t .hops ≡ hops vs n

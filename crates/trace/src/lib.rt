@@ -1,7 +1,7 @@
 // A block's chain, and a version's image, which is put together in the output.
 ghost use mathlib.Core.Path.{_≡_};
-ghost use mathlib.Core.List.{List, [], _++_};
-ghost use Prim.Native.Nat.{ℕ, _+_, _*_, _≤_, _<_, max};
+ghost use mathlib.Core.List.{[], _++_};
+ghost use Prim.Native.Nat.{_+_, _*_, _≤_, _<_, max};
 ghost use lib.ListN.{length, take, drop, getD};
 ghost use Rattle.model.specs.Measures.{partsFor, recordWords};
 ghost use Rattle.model.specs.State.{nullPosition};
@@ -15,11 +15,12 @@ ghost use Rattle.trace.specs.Versions.{pointersAt, fillByte, Traceable, 
 use numbers::Block;
 use numbers::Cell;
 use numbers::Measures;
+use numbers::Pointer;
 use numbers::RecordNumber;
 
-// The word at which the tracing of a block ends, and how many pointers it followed.
+// The pointer at which the tracing of a block ends, and how many it followed.
 pub struct Traced {
-    pub word: u32,
+    pub pointer: Pointer,
     pub hops: u32,
 }
 
@@ -30,15 +31,14 @@ pub fn trace(slots: &[u32], bytes: usize, b: usize, h: usize, block: Block) -> T
     ensures { λ r. ⌜ Traces (versionsIn bytes b h (now (slots .entry))) (block .0) r ⌝ }
 {
     let mut v: usize = 0;
-    let mut n = block.0;
-    let mut w = slots[3 + n as usize];
-    while w / 16777216 == 2 {
-        n = w % 16777216;
+    let mut pointer = Pointer(slots[3 + block.0 as usize]);
+    while pointer.is_indirect() {
+        let named = pointer.block();
         v = v + 1;
-        w = slots[v * (3 + b) + (3 + n as usize)];
+        pointer = Pointer(slots[v * (3 + b) + (3 + named.0 as usize)]);
     }
     Traced {
-        word: w,
+        pointer: pointer,
         hops: v as u32,
     }
 }
@@ -54,32 +54,31 @@ pub fn cell_of(words: &[u32], number: RecordNumber, position: u32, n: usize) -> 
 }
 
 // The byte that fills a block that has no cell.
-fn fill_byte(pointer: u32) -> u8
-    ensures { λ r. ⌜ r ≡ fillByte (wordToPointer pointer) ⌝ }
+fn fill_byte(pointer: Pointer) -> u8
+    ensures { λ r. ⌜ r ≡ fillByte (wordToPointer (pointer .0)) ⌝ }
 {
-    if pointer / 16777216 == 3 {
+    if pointer.is_blank() {
         return 255;
     }
     0
 }
 
-// The front of the block that a pointer's word, which is not indirect, leads to goes to a block's place in the output.
+// The front of the block that a pointer, which is not indirect, leads to goes to a block's place in the output.
 pub fn put_block(
     pool: &[u8],
     words: &[u32],
-    pointer: u32,
+    pointer: Pointer,
     out: &mut [u8],
     block: Block,
     n: usize,
     m: Measures,
 )
     requires { ⌜ Stored (measuresOf m) (now pool) (now words) ⌝ }
-    requires { ⌜ Fits (m .blocks) (length (now words)) (wordToPointer pointer) × (n ≤ m .bytes) × (block .0 * m .bytes + n ≤ length (now out)) ⌝ }
-    ensures { λ _. ⌜ now (out .exit) ≡ take (block .0 * m .bytes) (now (out .entry)) ++ (take n (blockAt (m .bytes) (shelfIn (measuresOf m) (now (pool .entry)) (now (words .entry))) (wordToPointer pointer)) ++ drop (block .0 * m .bytes + n) (now (out .entry))) ⌝ }
+    requires { ⌜ Fits (m .blocks) (length (now words)) (wordToPointer (pointer .0)) × (n ≤ m .bytes) × (block .0 * m .bytes + n ≤ length (now out)) ⌝ }
+    ensures { λ _. ⌜ now (out .exit) ≡ take (block .0 * m .bytes) (now (out .entry)) ++ (take n (blockAt (m .bytes) (shelfIn (measuresOf m) (now (pool .entry)) (now (words .entry))) (wordToPointer (pointer .0))) ++ drop (block .0 * m .bytes + n) (now (out .entry))) ⌝ }
 {
-    if pointer / 16777216 == 1 {
-        let rest = pointer % 16777216;
-        let cell = cell_of(words, RecordNumber(rest / 16), rest % 16, m.blocks);
+    if pointer.is_direct() {
+        let cell = cell_of(words, pointer.record(), pointer.position(), m.blocks);
         blocks::copy_block(pool, cell, out, block, n, m.bytes);
         return;
     }
@@ -118,7 +117,7 @@ pub fn restore_image(
         let traced = trace(slots, bytes, b, h, block);
         let at = block.byte(bytes);
         let end = blocks::least(at + bytes, len);
-        put_block(pool, words, traced.word, out, block, end - at, m);
+        put_block(pool, words, traced.pointer, out, block, end - at, m);
         most = larger(most, traced.hops);
         n = n + 1;
     }

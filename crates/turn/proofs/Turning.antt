@@ -4,35 +4,30 @@ use mathlib.Core.Bool.{Bool, cond, false, true}
 use mathlib.Core.List.{List, [], _++_, _∷_, append-nil, map}
 use mathlib.Core.Option.{Option, none, some}
 use Prim.Native.Nat.{_%_, _*_, _+_, _-_, _/_, _<_, _≤_, suc, zero, ℕ}
-use native.Mathlib.Nat.{le-of-suc-le-suc, mul-le-mul-left, mul-le-mul-right, not-suc-le-zero, suc-mul}
+use native.Mathlib.Nat.{mul-le-mul-left, mul-le-mul-right, suc-mul}
 use native.Mathlib.Numerals.{add-one}
 use native.Mathlib.Omega.{arith}
-use lib.ListN.{List·getD-map, drop, getD, length, set, take}
+use lib.ListN.{drop, getD, length, set, take}
 use lib.Seq.{take-suc-set}
 use lib.Dec.{eqb}
-use borrow.Author.Tests.{eq-eqb, le-ltb, lt-ltb, ne-eqb}
+use borrow.Author.Tests.{eq-eqb, ne-eqb}
 use Rattle.lists.specs.Lists.{count, every, firstFrom, keep, sameNumbers}
-use Rattle.lists.specs.Over.{over}
 use Rattle.lists.specs.Rows.{fill}
-use Rattle.lists.proofs.Cuts.{part-word}
-use Rattle.lists.proofs.Each.{each-at}
 use Rattle.lists.proofs.Same.{same-eq}
 use Rattle.lists.proofs.Slices.{drop-end, drop-next}
 use Rattle.lists.proofs.Tests.{by-test}
 use Rattle.model.specs.Image.{blockFrom, blocksFrom, imageBlocks, isBlank, withBlanks}
 use Rattle.model.specs.Measures.{Measures, partsFor, recordWords}
 use Rattle.model.specs.Records.{cellAt, cellOf, positionAt}
-use Rattle.model.specs.State.{Block, Pointer, Segment, Shelf, direct, indirect, nullPointer, blankPointer, nullPosition}
-use Rattle.model.specs.Table.{cellsIn, pointerOf, pointerWord, recordToWords, recordsIn, shelfIn, wordToPointer}
+use Rattle.model.specs.State.{Block, Pointer, Shelf, indirect, blankPointer, nullPosition}
+use Rattle.model.specs.Table.{cellsIn, pointerOf, pointerWord, recordsIn, shelfIn, wordToPointer}
 use Rattle.model.specs.Turn.{foundOr, indirectAt, isFound, target, turn, turnsTo, turning}
-use Rattle.laws.proofs.Image.{length-blocks, blocks-next}
+use Rattle.laws.proofs.Image.{blocks-next}
 use Rattle.laws.proofs.Measures.{parts-few}
-use Rattle.laws.proofs.RoundTrip.{indirect-word}
 use Rattle.shelf.specs.Fits.{Fits}
 use Rattle.shelf.specs.Stored.{Stored}
 use Rattle.shelf.proofs.Inside.{cell-bytes, cell-inside, cell-room}
-use Rattle.lists.proofs.Puts.{first-found}
-use Rattle.turn.specs.Turn.{WordFits, keptWord, releasedOf, targetOf, targetWord, turnWord}
+use Rattle.turn.specs.Turn.{WordFits, keptWord, releasedOf, targetOf, targetWord}
 
 -- ---- the first equal block
 
@@ -64,18 +59,18 @@ module _ (bytes : ℕ) (f : Block → Bool) (image : List ℕ) (count : ℕ) whe
   unfolding firstFrom
   find-step at n h = rw (blocks-next bytes image at count n h, add-one n)
 
-  pub find-yes : (at n : ℕ) → n < count → true ≡ f (blockFrom bytes image at) → pointerWord (indirect n) ≡ targetWord (indirectAt (firstFrom f n (blocksFrom bytes image at (count - n))))
+  pub find-yes : (w at n : ℕ) → n < count → true ≡ f (blockFrom bytes image at) → pointerWord (indirect n) ≡ targetWord w (indirectAt (firstFrom f n (blocksFrom bytes image at (count - n))))
   unfolding targetWord
-  find-yes at n h e =
+  find-yes w at n h e =
       let found : firstFrom f n (blocksFrom bytes image at (count - n)) ≡ some n = find-step at n h ∙ rw (← e) in
-      sym (ap (λ (o : Option ℕ). targetWord (indirectAt o)) found)
+      sym (ap (λ (o : Option ℕ). targetWord w (indirectAt o)) found)
 
   pub find-no : (at n : ℕ) → n < count → false ≡ f (blockFrom bytes image at) → firstFrom f n (blocksFrom bytes image at (count - n)) ≡ firstFrom f (n + 1) (blocksFrom bytes image (at + bytes) (count - (n + 1)))
   find-no at n h e = find-step at n h ∙ rw (← e)
 
-  pub find-end : (at n : ℕ) → count ≤ n → 4294967295 ≡ targetWord (indirectAt (firstFrom f n (blocksFrom bytes image at (count - n))))
+  pub find-end : (w at n : ℕ) → count ≤ n → w ≡ targetWord w (indirectAt (firstFrom f n (blocksFrom bytes image at (count - n))))
   unfolding firstFrom blocksFrom targetWord
-  find-end at n h = let z : count - n ≡ 0 = omega arith in rw z
+  find-end w at n h = let z : count - n ≡ 0 = omega arith in rw z
 
   pub find-start : count ≡ partsFor bytes (length image) → firstFrom f 0 (blocksFrom bytes image 0 (count - 0)) ≡ firstFrom f 0 (imageBlocks bytes image)
   unfolding imageBlocks
@@ -91,7 +86,7 @@ kind-none w (suc (suc zero)) n shelf image h = refl
 kind-none w (suc (suc (suc zero))) n shelf image h = refl
 kind-none w (suc (suc (suc (suc k)))) n shelf image h = refl
 
-pub target-none : (m : Measures) (image pool ws : List ℕ) (w : ℕ) → (w / 16777216 ≡ 1 → ⊥) → 4294967295 ≡ targetOf m image pool ws w
+pub target-none : (m : Measures) (image pool ws : List ℕ) (w : ℕ) → (w / 16777216 ≡ 1 → ⊥) → w ≡ targetOf m image pool ws w
 unfolding targetOf targetWord wordToPointer
 target-none m image pool ws w h = rw (kind-none w (w / 16777216) (w % 16777216) (shelfIn m pool ws) (imageBlocks (m .blockBytes) image) h)
 
@@ -118,7 +113,7 @@ module _ (m : Measures) (image pool ws : List ℕ) (st : Stored m pool ws) (w : 
 
     -- with the cell's first byte as the code has it
     pub target-is : (start r : ℕ) → start ≡ c * m .blockBytes
-        → r ≡ targetWord (turnsTo withBlanks (imageBlocks (m .blockBytes) image) (take (start + m .blockBytes - start) (drop start pool))) → r ≡ targetOf m image pool ws w
+        → r ≡ targetWord w (turnsTo withBlanks (imageBlocks (m .blockBytes) image) (take (start + m .blockBytes - start) (drop start pool))) → r ≡ targetOf m image pool ws w
     unfolding targetOf wordToPointer pointerOf target positionAt cellAt shelfIn
     target-is start r es e =
         let z : start + m .blockBytes - start ≡ m .blockBytes = omega arith in
@@ -126,81 +121,84 @@ module _ (m : Measures) (image pool ws : List ℕ) (st : Stored m pool ws) (w : 
 
 -- ---- what a cell turns into
 
-pub blank-turns : (image : List Block) (cell : Block) → true ≡ every (λ x. eqb x 255) cell → pointerWord blankPointer ≡ targetWord (turnsTo withBlanks image cell)
+pub blank-turns : (w : ℕ) (image : List Block) (cell : Block) → true ≡ every (λ x. eqb x 255) cell → pointerWord blankPointer ≡ targetWord w (turnsTo withBlanks image cell)
 unfolding targetWord turnsTo isBlank
-blank-turns image cell e = rw (← e)
+blank-turns w image cell e = rw (← e)
 
-pub other-turns : (image : List Block) (cell : Block) → false ≡ every (λ x. eqb x 255) cell
-    → targetWord (indirectAt (firstFrom (sameNumbers cell) 0 image)) ≡ targetWord (turnsTo withBlanks image cell)
+pub other-turns : (w : ℕ) (image : List Block) (cell : Block) → false ≡ every (λ x. eqb x 255) cell
+    → targetWord w (indirectAt (firstFrom (sameNumbers cell) 0 image)) ≡ targetWord w (turnsTo withBlanks image cell)
 unfolding turnsTo isBlank
-other-turns image cell e = rw (← e)
+other-turns w image cell e = rw (← e)
 
 -- ---- words and pointers
 
--- a pointer whose word is not that of no target
-abbrev Told : Option Pointer → Type 0
-Told none = Unit {0}
-Told (some q) = pointerWord q < 4294967295
+-- a pointer that has another word
+abbrev Apart : ℕ → Option Pointer → Type 0
+Apart w none = Unit {0}
+Apart w (some q) = pointerWord q ≡ w → ⊥
 
-word-turns : (w : ℕ) (p : Pointer) (o : Option Pointer) → pointerWord p ≡ w → Told o → turnWord w (targetWord o) ≡ pointerWord (foundOr p o)
+word-turns : (w : ℕ) (p : Pointer) (o : Option Pointer) → pointerWord p ≡ w → targetWord w o ≡ pointerWord (foundOr p o)
 unfolding targetWord
-word-turns w p none e ok = sym e
-word-turns w p (some q) e ok = rw (ne-eqb (pointerWord q) 4294967295 (λ z. omega (arith, ok)))
+word-turns w p none e = sym e
+word-turns w p (some q) e = refl
 
-word-kept : (w : ℕ) (p : Pointer) (o : Option Pointer) (ws : List ℕ) (ps : List Pointer) → pointerWord p ≡ w → Told o → ws ≡ map pointerWord ps
-    → cond (eqb (targetWord o) 4294967295) ws (w ∷ ws) ≡ map pointerWord (cond (isFound o) (p ∷ ps) ps)
+word-kept : (w : ℕ) (p : Pointer) (o : Option Pointer) (ws : List ℕ) (ps : List Pointer) → pointerWord p ≡ w → Apart w o → ws ≡ map pointerWord ps
+    → cond (eqb (targetWord w o) w) ws (w ∷ ws) ≡ map pointerWord (cond (isFound o) (p ∷ ps) ps)
 unfolding targetWord
-word-kept w p none ws ps e ok f = f
-word-kept w p (some q) ws ps e ok f = rw (ne-eqb (pointerWord q) 4294967295 (λ z. omega (arith, ok)), e, f)
+word-kept w p none ws ps e ok f = rw (eq-eqb w w refl) f
+word-kept w p (some q) ws ps e ok f = rw (ne-eqb (pointerWord q) w ok, e, f)
 
-module _ (m : Measures) (some-bytes : 0 < m .blockBytes) (image pool ws : List ℕ) (small : length image ≤ 65536) where
+-- what a word of kind 1 turns into is of another kind
+found-apart : (w : ℕ) → w / 16777216 ≡ 1 → (o : Option ℕ) → Apart w (indirectAt o)
+unfolding pointerWord
+found-apart w one none = tt
+found-apart w one (some k) = λ e. omega (arith, one, e)
+
+turns-apart : (w : ℕ) → w / 16777216 ≡ 1 → (image : List Block) (b : Block) → Apart w (turnsTo withBlanks image b)
+unfolding turnsTo
+turns-apart w one image b = by-test (Apart w) (isBlank withBlanks b) (λ e. blank-apart) (λ e. found-apart w one (firstFrom (sameNumbers b) 0 image))
+  where
+    blank-apart : pointerWord blankPointer ≡ w → ⊥
+    blank-apart e = unfold pointerWord in omega (arith, one, e)
+
+kind-apart : (w kind n : ℕ) (shelf : Shelf) (image : List Block) → w / 16777216 ≡ kind → Apart w (target withBlanks shelf image (pointerOf kind n))
+unfolding target pointerOf
+kind-apart w zero n shelf image e = tt
+kind-apart w (suc zero) n shelf image e = turns-apart w e image (cellAt shelf (cellOf (positionAt shelf (n / 16) (n % 16))))
+kind-apart w (suc (suc zero)) n shelf image e = tt
+kind-apart w (suc (suc (suc zero))) n shelf image e = tt
+kind-apart w (suc (suc (suc (suc k)))) n shelf image e = tt
+
+target-apart : (w : ℕ) (shelf : Shelf) (image : List Block) → Apart w (target withBlanks shelf image (wordToPointer w))
+unfolding wordToPointer
+target-apart w shelf image = kind-apart w (w / 16777216) (w % 16777216) shelf image refl
+
+module _ (m : Measures) (image pool ws : List ℕ) (n l : ℕ) where
   abbrev shelf : Shelf
   shelf = shelfIn m pool ws
 
-  found-told : (o : Option ℕ) (f : Block → Bool) → firstFrom f 0 (imageBlocks (m .blockBytes) image) ≡ o → Told (indirectAt o)
-  unfolding imageBlocks
-  found-told none f e = tt
-  found-told (some k) f e =
-      let q = first-found [] f (blocksFrom (m .blockBytes) image 0 (partsFor (m .blockBytes) (length image))) k e in
-      let l : k < partsFor (m .blockBytes) (length image) = omega (arith, q .0, length-blocks (m .blockBytes) image 0 (partsFor (m .blockBytes) (length image))) in
-      omega (arith, small, begins-in (m .blockBytes) k (length image) some-bytes l, next-at (m .blockBytes) k some-bytes, indirect-word k)
+  abbrev blocks : List Block
+  blocks = imageBlocks (m .blockBytes) image
 
-  turns-told : (b : Block) → Told (turnsTo withBlanks (imageBlocks (m .blockBytes) image) b)
-  unfolding turnsTo
-  turns-told b = by-test Told (isBlank withBlanks b) (λ e. blank-told) (λ e. found-told _ (sameNumbers b) refl)
-    where
-      blank-told : pointerWord blankPointer < 4294967295
-      blank-told = unfold pointerWord in omega arith
+  pub turned-all : (vs : List ℕ) → ((b : ℕ) → b < length vs → WordFits n l (getD vs b 0)) → map (targetOf m image pool ws) vs ≡ map pointerWord (turn withBlanks shelf blocks (map wordToPointer vs))
+  unfolding turn targetOf
+  turned-all [] f = refl
+  turned-all (v ∷ vs) f =
+      ap₂ (λ (x : ℕ) (xs : List ℕ). x ∷ xs) (word-turns v (wordToPointer v) (target withBlanks shelf blocks (wordToPointer v)) (f 0 (omega arith) .says)) (turned-all vs (λ b h. f (suc b) (omega arith)))
 
-  target-told : (p : Pointer) → Told (target withBlanks shelf (imageBlocks (m .blockBytes) image) p)
-  unfolding target
-  target-told nullPointer = tt
-  target-told blankPointer = tt
-  target-told (direct k i) = turns-told (cellAt shelf (cellOf (positionAt shelf k i)))
-  target-told (indirect b) = tt
-
-  module _ (n l : ℕ) where
-    pub turned-all : (vs : List ℕ) → ((b : ℕ) → b < length vs → WordFits n l (getD vs b 0))
-        → over turnWord vs (map (targetOf m image pool ws) vs) ≡ map pointerWord (turn withBlanks shelf (imageBlocks (m .blockBytes) image) (map wordToPointer vs))
-    unfolding turn targetOf
-    turned-all [] f = refl
-    turned-all (v ∷ vs) f =
-        ap₂ (λ (x : ℕ) (xs : List ℕ). x ∷ xs) (word-turns v (wordToPointer v) (target withBlanks shelf (imageBlocks (m .blockBytes) image) (wordToPointer v)) (f 0 (omega arith) .says) (target-told (wordToPointer v)))
-        (turned-all vs (λ b h. f (suc b) (omega arith)))
-
-    pub released-all : (vs : List ℕ) → ((b : ℕ) → b < length vs → WordFits n l (getD vs b 0))
-        → releasedOf vs (map (targetOf m image pool ws) vs) ≡ map pointerWord (turning withBlanks shelf (imageBlocks (m .blockBytes) image) (map wordToPointer vs))
-    unfolding turning keep targetOf releasedOf
-    released-all [] f = refl
-    released-all (v ∷ vs) f =
-        word-kept v (wordToPointer v) (target withBlanks shelf (imageBlocks (m .blockBytes) image) (wordToPointer v)) (releasedOf vs (map (targetOf m image pool ws) vs)) (turning withBlanks shelf (imageBlocks (m .blockBytes) image) (map wordToPointer vs))
-        (f 0 (omega arith) .says) (target-told (wordToPointer v)) (released-all vs (λ b h. f (suc b) (omega arith)))
+  pub released-all : (vs : List ℕ) → ((b : ℕ) → b < length vs → WordFits n l (getD vs b 0))
+      → releasedOf vs (map (targetOf m image pool ws) vs) ≡ map pointerWord (turning withBlanks shelf blocks (map wordToPointer vs))
+  unfolding turning keep targetOf releasedOf
+  released-all [] f = refl
+  released-all (v ∷ vs) f =
+      word-kept v (wordToPointer v) (target withBlanks shelf blocks (wordToPointer v)) (releasedOf vs (map (targetOf m image pool ws) vs)) (turning withBlanks shelf blocks (map wordToPointer vs)) (f 0 (omega arith) .says)
+      (target-apart v shelf blocks) (released-all vs (λ b h. f (suc b) (omega arith)))
 
 -- ---- the words that are released, one by one
 
 pub released-step : (ps ts : List ℕ) (b : ℕ) → b < length ps → b < length ts → releasedOf (drop b ps) (drop b ts) ≡ keptWord (getD ps b 0) (getD ts b 0) ++ releasedOf (drop (b + 1) ps) (drop (b + 1) ts)
 unfolding releasedOf
-released-step ps ts b h l = rw (drop-next ps b 0 h, drop-next ts b 0 l) (go (eqb (getD ts b 0) 4294967295))
+released-step ps ts b h l = rw (drop-next ps b 0 h, drop-next ts b 0 l) (go (eqb (getD ts b 0) (getD ps b 0)))
   where
     go : (t : Bool) → cond t (releasedOf (drop (b + 1) ps) (drop (b + 1) ts)) (getD ps b 0 ∷ releasedOf (drop (b + 1) ps) (drop (b + 1) ts)) ≡ cond t [] (getD ps b 0 ∷ []) ++ releasedOf (drop (b + 1) ps) (drop (b + 1) ts)
     go true = refl
@@ -210,14 +208,12 @@ pub released-end : (ps ts : List ℕ) (b : ℕ) → length ps ≤ b → released
 unfolding releasedOf
 released-end ps ts b h = rw (drop-end ps b h)
 
-pub kept-not : (w t m : ℕ) (out : List ℕ) → t ≡ 4294967295 → take m out ≡ take m out ++ keptWord w t
-kept-not w t m out e = rw (eq-eqb t 4294967295 e) (sym (append-nil (take m out)))
+pub kept-not : (w t m : ℕ) (out : List ℕ) → t ≡ w → take m out ≡ take m out ++ keptWord w t
+kept-not w t m out e = rw (eq-eqb t w e) (sym (append-nil (take m out)))
 
-pub kept-put : (w t m : ℕ) (out : List ℕ) → (t ≡ 4294967295 → ⊥) → m < length out → take (m + 1) (set out m w) ≡ take m out ++ keptWord w t
-kept-put w t m out n h = rw (ne-eqb t 4294967295 n, add-one m) (take-suc-set out m w h)
+pub kept-put : (w t m : ℕ) (out : List ℕ) → (t ≡ w → ⊥) → m < length out → take (m + 1) (set out m w) ≡ take m out ++ keptWord w t
+kept-put w t m out n h = rw (ne-eqb t w n, add-one m) (take-suc-set out m w h)
 
-pub turn-same : (w t : ℕ) → t ≡ 4294967295 → w ≡ turnWord w t
-turn-same w t e = rw (eq-eqb t 4294967295 e)
-
-pub turn-new : (w t : ℕ) → (t ≡ 4294967295 → ⊥) → t ≡ turnWord w t
-turn-new w t n = rw (ne-eqb t 4294967295 n)
+-- all words are written
+pub copied-all : (ts ps : List ℕ) → length ps ≡ length ts → ts ++ drop (length ts) ps ≡ ts
+copied-all ts ps e = rw (drop-end ps (length ts) (omega (arith, e))) (append-nil ts)

@@ -22,25 +22,20 @@ pub record Followable (n l : ℕ) (p : Pointer) : Type 0 where
   pub back : wordToPointer (pointerWord p) ≡ p
   pub fits : Fits n l p
 
-abbrev pub noTarget : ℕ
-noTarget = 4294967295
-
-unfoldable pub targetWord : Option Pointer → ℕ
-targetWord none = noTarget
-targetWord (some q) = pointerWord q
+-- a pointer's word once the pointer has turned, if it does
+unfoldable pub targetWord : ℕ → Option Pointer → ℕ
+targetWord w none = w
+targetWord w (some q) = pointerWord q
 
 -- what a pointer's word turns into, as a word
 unfoldable pub targetOf : Measures → List ℕ → List ℕ → List ℕ → ℕ → ℕ
-targetOf m image pool ws w = targetWord (target withBlanks (shelfIn m pool ws) (imageBlocks (m .blockBytes) image) (wordToPointer w))
+targetOf m image pool ws w = targetWord w (target withBlanks (shelfIn m pool ws) (imageBlocks (m .blockBytes) image) (wordToPointer w))
 
-abbrev pub turnWord : ℕ → ℕ → ℕ
-turnWord w t = cond (eqb t 4294967295) w t
-
--- those of the words whose target is one
+-- those of the words whose target is another
 unfoldable pub releasedOf : List ℕ → List ℕ → List ℕ
 releasedOf [] ts = []
 releasedOf (w ∷ ws) [] = []
-releasedOf (w ∷ ws) (t ∷ ts) = let r = releasedOf ws ts in cond (eqb t 4294967295) r (w ∷ r)
+releasedOf (w ∷ ws) (t ∷ ts) = let r = releasedOf ws ts in cond (eqb t w) r (w ∷ r)
 
 abbrev pub keptWord : ℕ → ℕ → List ℕ
-keptWord w t = cond (eqb t 4294967295) [] (w ∷ [])
+keptWord w t = cond (eqb t w) [] (w ∷ [])

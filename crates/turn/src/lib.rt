@@ -1,22 +1,18 @@
 // Step 2 of a backup: the previous version's direct pointers turn blank, or to equal blocks of the new image.
 ghost use mathlib.Core.Path.{_≡_};
-ghost use mathlib.Core.List.{List, map, _++_};
+ghost use mathlib.Core.List.{map, _++_};
 ghost use Prim.Native.Nat.{ℕ, _+_, _%_, _≤_, _<_};
-ghost use lib.ListN.{length, getD, take, drop};
+ghost use lib.ListN.{length, getD, take};
 ghost use Rattle.lists.specs.Lists.{sameNumbers, firstFrom};
-ghost use Rattle.lists.specs.Over.{over};
 ghost use Rattle.model.specs.Image.{blockFrom, imageBlocks, withBlanks};
 ghost use Rattle.model.specs.Turn.{indirectAt, turnsTo, turn, turning};
 ghost use Rattle.model.specs.Table.{shelfIn, pointerWord, wordToPointer};
 ghost use Rattle.numbers.specs.Measures.{measuresOf};
 ghost use Rattle.shelf.specs.Stored.{Stored};
-ghost use Rattle.turn.specs.Turn.{WordFits, targetWord, targetOf, turnWord, releasedOf, keptWord};
+ghost use Rattle.turn.specs.Turn.{WordFits, targetWord, targetOf, releasedOf, keptWord};
 use numbers::Block;
 use numbers::Measures;
 use numbers::Pointer;
-use numbers::RecordNumber;
-
-const NO_TARGET: u32 = 0xFFFF_FFFF;
 
 // Whether the image's block at a byte equals a cell. The first byte settles most.
 fn block_here(image: &[u8], at: usize, cell: &[u8], bytes: usize) -> bool
@@ -29,54 +25,52 @@ fn block_here(image: &[u8], at: usize, cell: &[u8], bytes: usize) -> bool
     blocks::block_same(image, at, cell, bytes)
 }
 
-// An indirect pointer to the lowest block of the image that equals a cell.
-fn find_block(image: &[u8], cell: &[u8], bytes: usize) -> u32
+// An indirect pointer to the lowest block of the image that equals a cell; the pointer itself if none does.
+fn find_block(pointer: Pointer, image: &[u8], cell: &[u8], bytes: usize) -> Pointer
     requires { ⌜ (length (now image) ≤ 65536) × (length (now cell) ≡ bytes) × (64 ≤ bytes) × (bytes ≤ 512) × (bytes % 64 ≡ 0) ⌝ }
-    ensures { λ r. ⌜ r ≡ targetWord (indirectAt (firstFrom (sameNumbers (now (cell .entry))) 0 (imageBlocks bytes (now (image .entry))))) ⌝ }
+    ensures { λ r. ⌜ r .0 ≡ targetWord (pointer .0) (indirectAt (firstFrom (sameNumbers (now (cell .entry))) 0 (imageBlocks bytes (now (image .entry))))) ⌝ }
 {
     let count = numbers::parts_for(bytes, image.len());
     let mut at: usize = 0;
     let mut n: usize = 0;
     while n < count {
         if block_here(image, at, cell, bytes) {
-            let found = Pointer::indirect(Block(n as u32));
-            return found.0;
+            return Pointer::indirect(Block(n as u32));
         }
         at = at + bytes;
         n = n + 1;
     }
-    NO_TARGET
+    pointer
 }
 
-// What a direct pointer to a cell turns into: blank if the cell is, else indirect.
-fn turned_to(image: &[u8], cell: &[u8], bytes: usize) -> u32
+// What a direct pointer to a cell turns into: blank if the cell is, else indirect or itself.
+fn turned_to(pointer: Pointer, image: &[u8], cell: &[u8], bytes: usize) -> Pointer
     requires { ⌜ (length (now image) ≤ 65536) × (length (now cell) ≡ bytes) × (64 ≤ bytes) × (bytes ≤ 512) × (bytes % 64 ≡ 0) ⌝ }
-    ensures { λ r. ⌜ r ≡ targetWord (turnsTo withBlanks (imageBlocks bytes (now (image .entry))) (now (cell .entry))) ⌝ }
+    ensures { λ r. ⌜ r .0 ≡ targetWord (pointer .0) (turnsTo withBlanks (imageBlocks bytes (now (image .entry))) (now (cell .entry))) ⌝ }
 {
     if blocks::pieces_filled(cell, 255) {
         let erased = Pointer::blank();
-        return erased.0;
+        return erased;
     }
-    find_block(image, cell, bytes)
+    find_block(pointer, image, cell, bytes)
 }
 
-// What a pointer's word turns into.
-fn target_of(word: u32, image: &[u8], pool: &[u8], records: &[u32], m: Measures) -> u32
-    requires { ⌜ (length (now image) ≤ 65536) × Stored (measuresOf m) (now pool) (now records) × WordFits (m .blocks) (length (now records)) word ⌝ }
-    ensures { λ r. ⌜ r ≡ targetOf (measuresOf m) (now (image .entry)) (now (pool .entry)) (now (records .entry)) word ⌝ }
+// What a pointer turns into; itself if it does not turn.
+fn target_of(pointer: Pointer, image: &[u8], pool: &[u8], records: &[u32], m: Measures) -> Pointer
+    requires { ⌜ (length (now image) ≤ 65536) × Stored (measuresOf m) (now pool) (now records) × WordFits (m .blocks) (length (now records)) (pointer .0) ⌝ }
+    ensures { λ r. ⌜ r .0 ≡ targetOf (measuresOf m) (now (image .entry)) (now (pool .entry)) (now (records .entry)) (pointer .0) ⌝ }
 {
-    if word / 0x100_0000 != 1 {
-        return NO_TARGET;
+    if !pointer.is_direct() {
+        return pointer;
     }
-    let place = word % 0x100_0000;
-    let cell = trace::cell_of(records, RecordNumber(place / 16), place % 16, m.blocks);
+    let cell = trace::cell_of(records, pointer.record(), pointer.position(), m.blocks);
     let start = cell.byte(m.bytes);
     let end = start + m.bytes;
-    turned_to(image, &pool[start..end], m.bytes)
+    turned_to(pointer, image, &pool[start..end], m.bytes)
 }
 
 // What each pointer turns into.
-pub fn find_targets(
+fn find_targets(
     pointers: &[u32],
     image: &[u8],
     pool: &[u8],
@@ -89,42 +83,21 @@ pub fn find_targets(
 {
     let mut b: usize = 0;
     while b < pointers.len() {
-        targets[b] = target_of(pointers[b], image, pool, records, m);
+        let target = target_of(Pointer(pointers[b]), image, pool, records, m);
+        targets[b] = target.0;
         b = b + 1;
     }
 }
 
-// A pointer's word turned to its target.
-fn turned_word(word: u32, target: u32) -> u32
-    ensures { λ r. ⌜ r ≡ turnWord word target ⌝ }
-{
-    if target == NO_TARGET {
-        return word;
-    }
-    target
-}
-
-// Pointers turned to their targets.
-fn turn_words(pointers: &mut [u32], targets: &[u32])
-    requires { ⌜ length (now pointers) ≡ length (now targets) ⌝ }
-    ensures { λ _. ⌜ now (pointers .exit) ≡ over turnWord (now (pointers .entry)) (now (targets .entry)) ⌝ }
-{
-    let mut b: usize = 0;
-    while b < targets.len() {
-        pointers[b] = turned_word(pointers[b], targets[b]);
-        b = b + 1;
-    }
-}
-
-// A word is added to the list, if it has a target.
-fn keep_word(word: u32, target: u32, out: &mut [u32], m: usize) -> usize
+// A pointer that turns is added to the list: its target is another.
+fn keep_pointer(pointer: Pointer, target: Pointer, out: &mut [u32], m: usize) -> usize
     requires { ⌜ m < length (now out) ⌝ }
-    ensures { λ r. ⌜ (take r (now (out .exit)) ≡ take m (now (out .entry)) ++ keptWord word target) × (r ≤ m + 1) ⌝ }
+    ensures { λ r. ⌜ (take r (now (out .exit)) ≡ take m (now (out .entry)) ++ keptWord (pointer .0) (target .0)) × (r ≤ m + 1) ⌝ }
 {
-    if target == NO_TARGET {
+    if target.0 == pointer.0 {
         return m;
     }
-    out[m] = word;
+    out[m] = pointer.0;
     m + 1
 }
 
@@ -136,7 +109,7 @@ fn list_released(pointers: &[u32], targets: &[u32], out: &mut [u32]) -> usize
     let mut m: usize = 0;
     let mut b: usize = 0;
     while b < pointers.len() {
-        m = keep_word(pointers[b], targets[b], out, m);
+        m = keep_pointer(Pointer(pointers[b]), Pointer(targets[b]), out, m);
         b = b + 1;
     }
     m
@@ -157,6 +130,6 @@ pub fn turn_pointers(
 {
     find_targets(pointers, image, pool, records, targets, m);
     let r = list_released(pointers, targets, out);
-    turn_words(pointers, targets);
+    words::copy_in(targets, pointers);
     r
 }

@@ -19,11 +19,11 @@ loop-holds c =
     let a = c .before .before in
     (a .pre .0 .0, record { changing = record { inside = omega arith; long = refl; told = a .pre .0 .1; rest = refl }; same = λ k j. refl; most = λ k j. omega arith })
 
-mul-raise : tie.Need-mul-raise Inv-loop μ-loop
-mul-raise c = search needs
+mul-t5 : tie.Need-mul-t5 Inv-loop μ-loop
+mul-t5 c = search needs
 
-shared-slice-read-raise : tie.Need-shared-slice-read-raise Inv-loop μ-loop
-shared-slice-read-raise c = search needs
+shared-slice-read-t11 : tie.Need-shared-slice-read-t11 Inv-loop μ-loop
+shared-slice-read-t11 c = search needs
 
 raise-requires : tie.Need-raise-requires Inv-loop μ-loop
 raise-requires c κs =
@@ -62,8 +62,8 @@ claim-spec =
     Inv-loop
     μ-loop
     loop-holds
-    mul-raise
-    shared-slice-read-raise
+    mul-t5
+    shared-slice-read-t11
     raise-requires
     add-i
     loop-less

@@ -21,23 +21,23 @@ abbrev μ-loop : tie.MeasureT-loop
 loop-holds : tie.Need-loop-holds Inv-loop μ-loop
 loop-holds c = (omega arith, refl, refl, refl, refl)
 
-mul-word : tie.Need-mul-word Inv-loop μ-loop
-mul-word c = search needs
+mul-t8 : tie.Need-mul-t8 Inv-loop μ-loop
+mul-t8 c = search needs
 
-slice-read-word : tie.Need-slice-read-word Inv-loop μ-loop
-slice-read-word c = omega (arith, c .before .before .loop .inv .2, c .before .before .loop .inv .1, c .before .loop-test .taken, c .before .before .before .before .before .before .pre)
+slice-read-t11 : tie.Need-slice-read-t11 Inv-loop μ-loop
+slice-read-t11 c = omega (arith, c .before .before .loop .inv .2, c .before .before .loop .inv .1, c .before .loop-test .taken, c .before .before .before .before .before .before .pre)
 
-taken-word-requires : tie.Need-taken-word-requires Inv-loop μ-loop
-taken-word-requires c κs = search needs
+taken-pointer-requires : tie.Need-taken-pointer-requires Inv-loop μ-loop
+taken-pointer-requires c κs = search needs
+
+pointer-after-requires : tie.Need-pointer-after-requires Inv-loop μ-loop
+pointer-after-requires c κs = search needs
 
 mul-taken : tie.Need-mul-taken Inv-loop μ-loop
 mul-taken c = search needs
 
 slice-write-taken : tie.Need-slice-write-taken Inv-loop μ-loop
 slice-write-taken c = search needs
-
-word-after-requires : tie.Need-word-after-requires Inv-loop μ-loop
-word-after-requires c κs = search needs
 
 mul-older : tie.Need-mul-older Inv-loop μ-loop
 mul-older c = search needs
@@ -59,11 +59,11 @@ loop-again c =
     let older = now (a .args .older) in
     let h : l .i < length older = omega (arith, l .inv .1, c .before .before .before .loop-test .taken, a .pre) in
     let e = still-at (takeOverWord gone) older (l .older) (l .i) h (l .inv .3) in
-    let q : c .before .taken-word .result ≡ takenWord gone (getD (l .older) (l .i) 0) = c .before .taken-word .ensures in (
+    let q : c .before .taken-pointer .result .0 ≡ takenWord gone (getD (l .older) (l .i) 0) = c .before .taken-pointer .ensures in (
       omega (arith, h, a .pre),
       simp length-set (l .inv .1),
       simp length-set (l .inv .2),
-      map-more (takeOverWord gone) older older (l .older) (l .i) _ h refl (l .inv .3) (c .word-after .ensures gone q ∙ ap (takeOverWord gone) e),
+      map-more (takeOverWord gone) older older (l .older) (l .i) _ h refl (l .inv .3) (c .pointer-after .ensures gone q ∙ ap (takeOverWord gone) e),
       map-more (takenWord gone) older (now (a .args .taken)) (l .taken) (l .i) _ h (a .pre) (l .inv .4) (q ∙ ap (takenWord gone) e),
     )
 
@@ -90,12 +90,12 @@ take-over-spec =
     Inv-loop
     μ-loop
     loop-holds
-    mul-word
-    slice-read-word
-    taken-word-requires
+    mul-t8
+    slice-read-t11
+    taken-pointer-requires
+    pointer-after-requires
     mul-taken
     slice-write-taken
-    word-after-requires
     mul-older
     slice-write-older
     add-i

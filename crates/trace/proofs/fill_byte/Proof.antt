@@ -1,16 +1,18 @@
+use mathlib.Core.Path.{_∙_, sym}
+use borrow.Author.Needs.{needs}
+use borrow.Author.Tests.{eqb-false, eqb-true}
 use Rattle.trace.proofs.Images.{blank-fill, null-fill}
 use Rattle.trace.proofs.fill_byte.Statement.{statement}
 use Rattle.trace.proofs.fill_byte.Tie as tie
-use Rattle.trace.proofs.fill_byte.Reads as reads
-use Rattle.trace.proofs.fill_byte.Lts as lts
 
--- src/lib.rt:61:9
+is-blank-requires : tie.Need-is-blank-requires
+is-blank-requires c κs = search needs
+
 returns : tie.Need-returns
-returns c = blank-fill (c .before .args .pointer) (c .if1 .taken)
+returns c = blank-fill (c .before .before .args .pointer .0) (eqb-true _ _ (sym (c .before .is-blank .ensures) ∙ c .if1 .taken))
 
--- src/lib.rt:57:1
 returns-2 : tie.Need-returns-2
-returns-2 c = null-fill (c .before .args .pointer) (c .if1 .left)
+returns-2 c = null-fill (c .before .before .args .pointer .0) (eqb-false _ _ (sym (c .before .is-blank .ensures) ∙ c .if1 .left))
 
 pub fill-byte-spec : {M : Type 1} → statement M
-fill-byte-spec = tie.close (tie.spec returns returns-2)
+fill-byte-spec = tie.close (tie.spec is-blank-requires returns returns-2)

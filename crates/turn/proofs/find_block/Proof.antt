@@ -1,8 +1,8 @@
 use native.Mathlib.Omega.{arith}
 use borrow.Author.Needs.{needs}
-use mathlib.Core.Path.{_≡_, _∙_, sym, refl, ap}
+use mathlib.Core.Path.{_≡_, _∙_, sym, ap}
 use mathlib.Core.Option.{Option}
-use Prim.Native.Nat.{ℕ, _+_, _*_, _-_, _<_, _≤_}
+use Prim.Native.Nat.{ℕ, _*_, _-_, _≤_}
 use native.Mathlib.Nat.{suc-mul}
 use denote.Ref.{now}
 use lib.ListN.{length}
@@ -21,10 +21,10 @@ use Rattle.numbers.proofs.parts_for.Reads as parts-for-reads
 use Rattle.numbers.proofs.Pointer.indirect.Reads as indirect-reads
 
 abbrev Inv-loop : tie.InvT-loop
-Inv-loop image cell bytes count at₀ n₀ at n = (n ≤ count) × (count ≡ partsFor bytes (length image)) × (at ≡ n * bytes) × (firstFrom (sameNumbers cell) n (blocksFrom bytes image at (count - n)) ≡ firstFrom (sameNumbers cell) 0 (imageBlocks bytes image))
+Inv-loop pointer image cell bytes count at₀ n₀ at n = (n ≤ count) × (count ≡ partsFor bytes (length image)) × (at ≡ n * bytes) × (firstFrom (sameNumbers cell) n (blocksFrom bytes image at (count - n)) ≡ firstFrom (sameNumbers cell) 0 (imageBlocks bytes image))
 
 abbrev μ-loop : tie.MeasureT-loop
-μ-loop image cell bytes count at₀ n₀ at n = count - n
+μ-loop pointer image cell bytes count at₀ n₀ at n = count - n
 
 -- src/lib.rt:26:9
 parts-for-requires : tie.Need-parts-for-requires Inv-loop μ-loop
@@ -62,8 +62,8 @@ returns c =
     let l = c .before .before .before .before .loop in
     let a = c .before .before .before .before .before .before .before .before .args in
     c .indirect .ensures
-    ∙ find-yes (a .bytes) (sameNumbers (now (a .cell))) (now (a .image)) _ (l .at) (l .n) (c .before .before .before .loop-test .taken) (sym (c .before .if1 .taken) ∙ c .before .before .block-here .ensures)
-    ∙ ap (λ (o : Option ℕ). targetWord (indirectAt o)) (l .inv .3)
+    ∙ find-yes (a .bytes) (sameNumbers (now (a .cell))) (now (a .image)) _ (a .pointer .0) (l .at) (l .n) (c .before .before .before .loop-test .taken) (sym (c .before .if1 .taken) ∙ c .before .before .block-here .ensures)
+    ∙ ap (λ (o : Option ℕ). targetWord (a .pointer .0) (indirectAt o)) (l .inv .3)
 
 -- src/lib.rt:33:14
 add-at : tie.Need-add-at Inv-loop μ-loop
@@ -83,7 +83,7 @@ loop-again c = let l = c .before .before .before .loop in let a = c .before .bef
 
 -- src/lib.rt:22:1
 returns-2 : tie.Need-returns-2 Inv-loop μ-loop
-returns-2 c = let l = c .before .loop in let a = c .before .before .before .before .before .args in find-end (a .bytes) (sameNumbers (now (a .cell))) (now (a .image)) (c .before .before .parts-for .result) (l .at) (l .n) (omega arith) ∙ ap (λ (o : Option ℕ). targetWord (indirectAt o)) (l .inv .3)
+returns-2 c = let l = c .before .loop in let a = c .before .before .before .before .before .args in find-end (a .bytes) (sameNumbers (now (a .cell))) (now (a .image)) (c .before .before .parts-for .result) (a .pointer .0) (l .at) (l .n) (omega arith) ∙ ap (λ (o : Option ℕ). targetWord (a .pointer .0) (indirectAt o)) (l .inv .3)
 
 pub find-block-spec : {M : Type 1} → statement M
 find-block-spec =

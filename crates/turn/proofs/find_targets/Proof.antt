@@ -20,11 +20,11 @@ abbrev μ-loop : tie.MeasureT-loop
 loop-holds : tie.Need-loop-holds Inv-loop μ-loop
 loop-holds c = (search needs, refl, refl)
 
-mul-target-of : tie.Need-mul-target-of Inv-loop μ-loop
-mul-target-of c = search needs
+mul-t9 : tie.Need-mul-t9 Inv-loop μ-loop
+mul-t9 c = search needs
 
-shared-slice-read-target-of : tie.Need-shared-slice-read-target-of Inv-loop μ-loop
-shared-slice-read-target-of c = search needs
+shared-slice-read-t12 : tie.Need-shared-slice-read-t12 Inv-loop μ-loop
+shared-slice-read-t12 c = search needs
 
 target-of-requires : tie.Need-target-of-requires Inv-loop μ-loop
 target-of-requires c κs =
@@ -65,8 +65,8 @@ find-targets-spec =
     Inv-loop
     μ-loop
     loop-holds
-    mul-target-of
-    shared-slice-read-target-of
+    mul-t9
+    shared-slice-read-t12
     target-of-requires
     mul-targets
     slice-write-targets

@@ -19,20 +19,20 @@ abbrev μ-loop : tie.MeasureT-loop
 loop-holds : tie.Need-loop-holds Inv-loop μ-loop
 loop-holds c = (search needs, search needs, refl, refl)
 
-mul-keep-word : tie.Need-mul-keep-word Inv-loop μ-loop
-mul-keep-word c = search needs
+mul-t6 : tie.Need-mul-t6 Inv-loop μ-loop
+mul-t6 c = search needs
 
-shared-slice-read-keep-word : tie.Need-shared-slice-read-keep-word Inv-loop μ-loop
-shared-slice-read-keep-word c = search needs
+shared-slice-read-t9 : tie.Need-shared-slice-read-t9 Inv-loop μ-loop
+shared-slice-read-t9 c = search needs
 
-mul-keep-word-2 : tie.Need-mul-keep-word-2 Inv-loop μ-loop
-mul-keep-word-2 c = search needs
+mul-t11 : tie.Need-mul-t11 Inv-loop μ-loop
+mul-t11 c = search needs
 
-shared-slice-read-keep-word-2 : tie.Need-shared-slice-read-keep-word-2 Inv-loop μ-loop
-shared-slice-read-keep-word-2 c = search needs
+shared-slice-read-t13 : tie.Need-shared-slice-read-t13 Inv-loop μ-loop
+shared-slice-read-t13 c = search needs
 
-keep-word-requires : tie.Need-keep-word-requires Inv-loop μ-loop
-keep-word-requires c κs = search needs
+keep-pointer-requires : tie.Need-keep-pointer-requires Inv-loop μ-loop
+keep-pointer-requires c κs = search needs
 
 add-b : tie.Need-add-b Inv-loop μ-loop
 add-b c = search needs
@@ -45,9 +45,9 @@ loop-again c =
     let l = c .before .before .before .before .before .before .before .loop in
     let a = c .before .before .before .before .before .before .before .before .before .before .before .args in (
       omega arith,
-      omega (arith, c .before .before .keep-word .ensures .1),
+      omega (arith, c .before .before .keep-pointer .ensures .1),
       omega arith,
-      rw (c .before .before .keep-word .ensures .0, append-assoc) (ap (λ (x : List ℕ). take (l .m) (l .out) ++ x) (sym (released-step (now (a .pointers)) (now (a .targets)) (l .b) (omega arith) (omega arith))) ∙ l .inv .3),
+      rw (c .before .before .keep-pointer .ensures .0, append-assoc) (ap (λ (x : List ℕ). take (l .m) (l .out) ++ x) (sym (released-step (now (a .pointers)) (now (a .targets)) (l .b) (omega arith) (omega arith))) ∙ l .inv .3),
     )
 
 same-length : tie.Need-same-length Inv-loop μ-loop
@@ -66,11 +66,11 @@ list-released-spec =
     Inv-loop
     μ-loop
     loop-holds
-    mul-keep-word
-    shared-slice-read-keep-word
-    mul-keep-word-2
-    shared-slice-read-keep-word-2
-    keep-word-requires
+    mul-t6
+    shared-slice-read-t9
+    mul-t11
+    shared-slice-read-t13
+    keep-pointer-requires
     add-b
     loop-less
     loop-again

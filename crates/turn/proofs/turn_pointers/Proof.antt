@@ -1,13 +1,10 @@
 use mathlib.Core.Path.{_∙_, ap}
-use Prim.Native.Nat.{_<_}
-use native.Mathlib.Omega.{arith}
 use lib.ListN.{length}
 use borrow.Author.Needs.{needs}
 use denote.Ref.{now}
-use Rattle.lists.specs.Over.{over}
 use Rattle.numbers.specs.Measures.{measuresOf}
-use Rattle.turn.specs.Turn.{releasedOf, targetOf, turnWord}
-use Rattle.turn.proofs.Turning.{released-all, turned-all}
+use Rattle.turn.specs.Turn.{releasedOf}
+use Rattle.turn.proofs.Turning.{copied-all, released-all, turned-all}
 use Rattle.turn.proofs.turn_pointers.Statement.{statement}
 use Rattle.turn.proofs.turn_pointers.Tie as tie
 
@@ -17,8 +14,8 @@ find-targets-requires c κs = search needs
 list-released-requires : tie.Need-list-released-requires
 list-released-requires c κs = search needs
 
-turn-words-requires : tie.Need-turn-words-requires
-turn-words-requires c κs = search needs
+copy-in-requires : tie.Need-copy-in-requires
+copy-in-requires c κs = search needs
 
 same-length : tie.Need-same-length
 same-length c = search needs
@@ -33,14 +30,13 @@ returns : tie.Need-returns
 returns c =
     let a = c .before .before .before .before .before .before .before .before .before .before .before .before .before .before .before .before .before .before .before .before .before .before in
     let m = measuresOf (a .args .m) in
-    let some : 0 < m .blockBytes = omega (arith, a .pre .1 .measured .someBytes) in
     let image = now (a .args .image) in
     let pool = now (a .args .pool) in
     let ws = now (a .args .records) in
     let ps = now (a .args .pointers) in
     let t = c .before .before .before .before .before .before .before .before .before .before .before .before .before .find-targets .ensures in (
-      c .before .before .turn-words .ensures ∙ ap (over turnWord ps) t ∙ turned-all m some image pool ws (a .pre .0) (m .segmentBlocks) (length ws) ps (a .pre .4),
-      c .before .before .before .before .before .before .before .list-released .ensures .0 ∙ ap (releasedOf ps) t ∙ released-all m some image pool ws (a .pre .0) (m .segmentBlocks) (length ws) ps (a .pre .4),
+      c .before .before .copy-in .ensures ∙ copied-all _ _ (search needs) ∙ t ∙ turned-all m image pool ws (m .segmentBlocks) (length ws) ps (a .pre .4),
+      c .before .before .before .before .before .before .before .list-released .ensures .0 ∙ ap (releasedOf ps) t ∙ released-all m image pool ws (m .segmentBlocks) (length ws) ps (a .pre .4),
       c .before .before .before .before .before .before .before .list-released .ensures .1,
     )
 
@@ -50,7 +46,7 @@ turn-pointers-spec =
     (tie.spec
     find-targets-requires
     list-released-requires
-    turn-words-requires
+    copy-in-requires
     same-length
     same-length-2
     same-length-3

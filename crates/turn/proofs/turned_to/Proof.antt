@@ -23,7 +23,7 @@ blank-requires c κs = search needs
 returns : tie.Need-returns
 returns c =
     let a = c .before .before .before .before .before .args in
-    c .blank .ensures ∙ blank-turns (imageBlocks (a .bytes) (now (a .image))) (now (a .cell)) (sym (c .before .if1 .taken) ∙ c .before .before .pieces-filled .ensures)
+    c .blank .ensures ∙ blank-turns (a .pointer .0) (imageBlocks (a .bytes) (now (a .image))) (now (a .cell)) (sym (c .before .if1 .taken) ∙ c .before .before .pieces-filled .ensures)
 
 -- src/lib.rt:60:5
 find-block-requires : tie.Need-find-block-requires
@@ -33,7 +33,7 @@ find-block-requires c κs = search needs
 returns-2 : tie.Need-returns-2
 returns-2 c =
     let a = c .before .before .before .before .before .args in
-    c .find-block .ensures ∙ other-turns (imageBlocks (a .bytes) (now (a .image))) (now (a .cell)) (sym (c .before .if1 .left) ∙ c .before .before .pieces-filled .ensures)
+    c .find-block .ensures ∙ other-turns (a .pointer .0) (imageBlocks (a .bytes) (now (a .image))) (now (a .cell)) (sym (c .before .if1 .left) ∙ c .before .before .pieces-filled .ensures)
 
 pub turned-to-spec : {M : Type 1} → statement M
 turned-to-spec =
