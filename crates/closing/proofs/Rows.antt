@@ -5,7 +5,7 @@ use mathlib.Core.Bool.{Bool, true, _&&_}
 use mathlib.Core.List.{List, [], _∷_, _++_}
 use lib.ListN.{length, set, replicate}
 use lib.Dec.{eqb}
-use Rattle.lists.specs.Lists.{counted, every, keep, count, total, firstFrom, allOf, sameNumbers, rises, isIn, distinct, allZero, largest}
+use Rattle.lists.specs.Lists.{counted, every, keep, count, total, firstFrom, allOf, sameNumbers, rises, isIn, distinct, allZero, largest, isSome}
 use Rattle.lists.specs.Rows.{joined, parts, chunks, fill}
 use Rattle.lists.specs.Masks.{maskOf}
 use Rattle.model.specs.Measures.{recordWords, isWithin, areMeasures, inRange, partsFor, tableWords, poolBytes, isBase, Shape}
@@ -156,7 +156,7 @@ rows =
 rows-hold : every holds rows ≡ true
 unfolding rows shop ABCD ABCE EFGH zeros blocks holds holdsFrom isAt recordAt imagesIn closingFits backupOne backupEach backupAll allRefused allAnswer backupAllAnswer backupAllIn backupAllAs
     stateOr outcomeRefusal outcomeNumber onlyBackUp withRights setRights rightsAnswer setRightsIn setRightsOf
-    counted every keep count total firstFrom allOf sameNumbers rises isIn distinct allZero largest joined parts chunks fill maskOf isWithin areMeasures inRange partsFor
+    counted every keep count total isSome firstFrom allOf sameNumbers rises isIn distinct allZero largest joined parts chunks fill maskOf isWithin areMeasures inRange partsFor
     tableWords poolBytes zeroBlock blankBlock isBlank isBare blockFrom blocksFrom imageBlocks segmentsFrom imageSegments freeSegment isFree cellsOf namedCells cellAt positionAt
     equals freeCells better scan findRun barePointer barePosition pointersTo newPositions stored share write writeRun writeRecord shareOrWrite placeSegment afterSome
     placeNext placeAll turnsTo target turn turning changeAt changeAll release moved clearCells freeRecord strikeOnly compact removeFrom sweepRecord sweepFrom

@@ -4,7 +4,7 @@ use Prim.Native.Nat.{ℕ, _*_}
 use mathlib.Core.Path.{_≡_, refl}
 use mathlib.Core.Bool.{true}
 use mathlib.Core.List.{List, [], _∷_, _++_}
-use Rattle.lists.specs.Lists.{counted, every, keep, count, total, firstFrom, allOf, sameNumbers, rises, isIn, distinct, allZero, largest}
+use Rattle.lists.specs.Lists.{counted, every, keep, count, total, firstFrom, allOf, sameNumbers, rises, isIn, distinct, allZero, largest, isSome}
 use Rattle.lists.specs.Rows.{joined, parts, chunks, fill}
 use Rattle.lists.specs.Masks.{maskOf}
 use Rattle.model.specs.Measures.{isWithin, areMeasures, inRange, partsFor, tableWords, poolBytes, isBase, Shape}
@@ -80,7 +80,7 @@ till1First = record {
 
 records-may-differ : every holds (till0First ∷ till1First ∷ []) ≡ true
 unfolding till0First till1First closed shop ABCD ABCE zeros blocks holds holdsFrom isAt recordAt refusalFor ownerRefusal backupAs restoreAs listingAs tallyAs
-    counted every keep count total firstFrom allOf sameNumbers rises isIn distinct allZero largest joined parts chunks fill maskOf isWithin areMeasures inRange partsFor
+    counted every keep count total isSome firstFrom allOf sameNumbers rises isIn distinct allZero largest joined parts chunks fill maskOf isWithin areMeasures inRange partsFor
     tableWords poolBytes zeroBlock blankBlock isBlank isBare blockFrom blocksFrom imageBlocks segmentsFrom imageSegments freeSegment isFree cellsOf namedCells cellAt positionAt
     equals freeCells better scan findRun barePointer barePosition pointersTo newPositions stored share write writeRun writeRecord shareOrWrite placeSegment afterSome
     placeNext placeAll turnsTo target turn turning changeAt changeAll release moved clearCells freeRecord strikeOnly compact removeFrom sweepRecord sweepFrom

@@ -10,7 +10,7 @@ use lib.ListN.{length, getD, set, length-set, length-append, replicate}
 use lib.Seq.{set-getD, getD-set-other, ext-getD}
 use lib.Dec.{eqb, ltb}
 use borrow.Author.Tests.{eqb-true, eqb-false}
-use Rattle.lists.specs.Lists.{keep, count, total}
+use Rattle.lists.specs.Lists.{keep, count, total, isSome}
 use Rattle.lists.specs.Rows.{joined, rows}
 use Rattle.lists.proofs.Counted.{length-counted}
 use Rattle.lists.proofs.Sets.{upd-same}
@@ -23,7 +23,7 @@ use Rattle.model.specs.Records.{freeSegment, isHeld, countOf, cellsOf, namedCel
 use Rattle.model.specs.Place.{oneMore}
 use Rattle.model.specs.Runs.{Run, findRun}
 use Rattle.model.specs.Sweep.{oneLess, changeAt, changeAll, goes, stays, struck, moved, freeRecord, strikeOnly, compact, removeFrom, sweepRecord, sweepFrom, sweep, release, claim}
-use Rattle.model.specs.Turn.{isFound, target, turning}
+use Rattle.model.specs.Turn.{target, turning}
 use Rattle.model.specs.Sound.{isSound, leadsTo}
 use Rattle.model.specs.Calls.{tillOf, newestPointers}
 use Rattle.laws.specs.Shelves.{Suffices}
@@ -252,7 +252,7 @@ keep-among f g (x ∷ xs) =
 -- for some of the pointers as for all
 pub turning-suffices : (era : Era) (shelf : Shelf) (bs : List Block) (segs : List Segment) (ps : List Pointer) → Suffices segs ps → Suffices segs (turning era shelf bs ps)
 unfolding turning
-turning-suffices era shelf bs segs ps h k i = omega (arith, keep-among (leadsTo k i) (λ p. isFound (target era shelf bs p)) ps, h k i)
+turning-suffices era shelf bs segs ps h k i = omega (arith, keep-among (leadsTo k i) (λ p. isSome (target era shelf bs p)) ps, h k i)
 
 -- after a placing as before it
 pub placed-suffices : (era : Era) (m : Measures) (a b : Shelf) (bs : List Block) (new ps : List Pointer) → PlacedOk era m a b bs new → Suffices (a .records) ps → Suffices (b .records) ps

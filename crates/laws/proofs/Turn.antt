@@ -9,13 +9,13 @@ use native.Mathlib.Omega.{arith}
 use lib.ListN.{length, getD, drop, length-map, List·getD-map, List·getD-eq-default}
 use lib.Dec.{eqb, ltb}
 use borrow.Author.Tests.{ltb-true, ltb-false}
-use Rattle.lists.specs.Lists.{every, keep, count, firstFrom, sameNumbers, allZero}
+use Rattle.lists.specs.Lists.{every, keep, count, firstFrom, sameNumbers, allZero, isSome}
 use Rattle.lists.specs.Each.{Each}
 use Rattle.model.specs.Measures.{Measures, Shape, partsFor}
 use Rattle.model.specs.State.{Block, Pointer, nullPointer, blankPointer, direct, indirect, Shelf, Version, withPointers}
 use Rattle.model.specs.Image.{Era, isBlank, isBare}
 use Rattle.model.specs.Records.{isHeld, cellOf, cellAt, positionAt}
-use Rattle.model.specs.Turn.{indirectAt, turnsTo, target, isFound, foundOr, turn, turning}
+use Rattle.model.specs.Turn.{indirectAt, turnsTo, target, foundOr, turn, turning}
 use Rattle.model.specs.Trace.{endVia, endOf, blockAt, tracedBlock}
 use Rattle.model.specs.Sound.{isNull, leads, leadsTo, nextPointers, endsZero, hasLength, areTraceable}
 use Rattle.model.specs.Calls.{newestPointers, withNewestPointers}
@@ -68,19 +68,19 @@ module _ (era : Era) (m : Measures) (p : Shelf) (x : Exact p) (bs : List Block) 
   turned q = foundOr q (target era p bs q)
 
   pub turn-count : (k i : ℕ) (ps : List Pointer) → count (leadsTo k i) ps ≡ count (leadsTo k i) (turning era p bs ps) + count (leadsTo k i) (turn era p bs ps)
-  unfolding turn turning keep count
+  unfolding turn turning keep count isSome
   turn-count k i [] = refl
   turn-count k i (q ∷ ps) = go (target era p bs q) (target-ok q) (turn-count k i ps)
     where
       rs : List Pointer
-      rs = keep (λ r. isFound (target era p bs r)) ps
+      rs = keep (λ r. isSome (target era p bs r)) ps
 
       ts : List Pointer
       ts = map (λ r. foundOr r (target era p bs r)) ps
 
       go : (o : Option Pointer) → TurnOk (blockAt (m .blockBytes) p q) o → count (leadsTo k i) ps ≡ count (leadsTo k i) rs + count (leadsTo k i) ts
           → cond (leadsTo k i q) 1 0 + count (leadsTo k i) ps
-          ≡ count (leadsTo k i) (cond (isFound o) (q ∷ rs) rs) + (cond (leadsTo k i (foundOr q o)) 1 0 + count (leadsTo k i) ts)
+          ≡ count (leadsTo k i) (cond (isSome o) (q ∷ rs) rs) + (cond (leadsTo k i (foundOr q o)) 1 0 + count (leadsTo k i) ts)
       go none t e = omega (arith, e)
       go (some nullPointer) t e = absurd t
       go (some blankPointer) t e = omega (arith, e)

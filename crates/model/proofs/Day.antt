@@ -5,7 +5,7 @@ use mathlib.Core.Path.{_≡_, refl}
 use mathlib.Core.Bool.{true}
 use mathlib.Core.List.{List, [], _∷_, _++_}
 use lib.ListN.{take, drop, replicate}
-use Rattle.lists.specs.Lists.{counted, every, keep, count, total, firstFrom, allOf, sameNumbers, rises, isIn, distinct, allZero, largest}
+use Rattle.lists.specs.Lists.{counted, every, keep, count, total, isSome, firstFrom, allOf, sameNumbers, rises, isIn, distinct, allZero, largest}
 use Rattle.lists.specs.Rows.{joined, parts, chunks, fill}
 use Rattle.lists.specs.Masks.{maskOf}
 use Rattle.model.specs.Measures.{isWithin, areMeasures, inRange, partsFor, tableWords, poolBytes, isBase, Shape}
@@ -594,7 +594,7 @@ day-holds : every holds (theDay ++ (blanks ++ (dates ++ (keys ++ (beside ++ othe
 unfolding theDay blanks dates keys seen each onlyList onlyBackUp onlyRestore onlyRetire allRights shopOf oneBlock A B beside otherMeasures boxOf version case1 case2 case3 case4 case5 case6 v512 to8 run8 letters ABCDEFGH ABCDEFGZ AIJKLMNO ABIJKLMN IJKLMNOP QRSTUVWX zeros blocks atBase box holds
     holdsFrom isAt tillAt slotAt recordAt
     refusalFor ownerRefusal backupRefusal backupAs restoreAs retireRefusal retireAs listingAs versionOnRefusal versionOnAs tallyRefusal tallyAs withRights Rights.setRights rightsAnswer setRightsIn setRightsOf
-    counted every keep count total firstFrom allOf sameNumbers rises isIn distinct allZero largest joined parts chunks fill maskOf isWithin areMeasures inRange partsFor
+    counted every keep count total isSome firstFrom allOf sameNumbers rises isIn distinct allZero largest joined parts chunks fill maskOf isWithin areMeasures inRange partsFor
     tableWords poolBytes zeroBlock blankBlock isBlank isBare blockFrom blocksFrom imageBlocks segmentsFrom imageSegments freeSegment isFree cellsOf namedCells cellAt positionAt
     equals freeCells better scan findRun barePointer barePosition pointersTo newPositions stored share write writeRun writeRecord shareOrWrite placeSegment afterSome
     placeNext placeAll turnsTo target turn turning changeAt changeAll release claim moved clearCells freeRecord strikeOnly compact removeFrom sweepRecord sweepFrom

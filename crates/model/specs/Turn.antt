@@ -3,7 +3,7 @@ use Prim.Native.Nat.{ℕ}
 use mathlib.Core.Bool.{Bool, true, false, cond}
 use mathlib.Core.List.{List, map}
 use mathlib.Core.Option.{Option, none, some}
-use Rattle.lists.specs.Lists.{keep, firstFrom, sameNumbers}
+use Rattle.lists.specs.Lists.{keep, firstFrom, sameNumbers, isSome}
 use Rattle.model.specs.State.{Block, Pointer, nullPointer, blankPointer, direct, indirect, Shelf}
 use Rattle.model.specs.Image.{Era, isBlank}
 use Rattle.model.specs.Records.{cellAt, positionAt, cellOf}
@@ -23,10 +23,6 @@ target era shelf image blankPointer = none
 target era shelf image (direct k i) = turnsTo era image (cellAt shelf (cellOf (positionAt shelf k i)))
 target era shelf image (indirect n) = none
 
-abbrev pub isFound : Option Pointer → Bool
-isFound none = false
-isFound (some q) = true
-
 abbrev pub foundOr : Pointer → Option Pointer → Pointer
 foundOr p none = p
 foundOr p (some q) = q
@@ -36,4 +32,4 @@ turn era shelf image ps = map (λ p. foundOr p (target era shelf image p)) ps
 
 -- those of the pointers that turn: their counts fall by 1
 unfoldable pub turning : Era → Shelf → List Block → List Pointer → List Pointer
-turning era shelf image ps = keep (λ p. isFound (target era shelf image p)) ps
+turning era shelf image ps = keep (λ p. isSome (target era shelf image p)) ps

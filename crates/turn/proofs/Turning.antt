@@ -11,7 +11,7 @@ use lib.ListN.{drop, getD, length, set, take}
 use lib.Seq.{take-suc-set}
 use lib.Dec.{eqb}
 use borrow.Author.Tests.{eq-eqb, ne-eqb}
-use Rattle.lists.specs.Lists.{count, every, firstFrom, keep, sameNumbers}
+use Rattle.lists.specs.Lists.{count, every, firstFrom, keep, sameNumbers, isSome}
 use Rattle.lists.specs.Rows.{fill}
 use Rattle.lists.proofs.Same.{same-eq}
 use Rattle.lists.proofs.Slices.{drop-end, drop-next}
@@ -21,7 +21,7 @@ use Rattle.model.specs.Measures.{Measures, partsFor, recordWords}
 use Rattle.model.specs.Records.{cellAt, cellOf, positionAt}
 use Rattle.model.specs.State.{Block, Pointer, Shelf, indirect, blankPointer, nullPosition}
 use Rattle.model.specs.Table.{cellsIn, pointerOf, pointerWord, recordsIn, shelfIn, wordToPointer}
-use Rattle.model.specs.Turn.{foundOr, indirectAt, isFound, target, turn, turnsTo, turning}
+use Rattle.model.specs.Turn.{foundOr, indirectAt, target, turn, turnsTo, turning}
 use Rattle.laws.proofs.Image.{blocks-next}
 use Rattle.laws.proofs.Measures.{parts-few}
 use Rattle.shelf.specs.Fits.{Fits}
@@ -143,8 +143,8 @@ word-turns w p none e = sym e
 word-turns w p (some q) e = refl
 
 word-kept : (w : ℕ) (p : Pointer) (o : Option Pointer) (ws : List ℕ) (ps : List Pointer) → pointerWord p ≡ w → Apart w o → ws ≡ map pointerWord ps
-    → cond (eqb (targetWord w o) w) ws (w ∷ ws) ≡ map pointerWord (cond (isFound o) (p ∷ ps) ps)
-unfolding targetWord
+    → cond (eqb (targetWord w o) w) ws (w ∷ ws) ≡ map pointerWord (cond (isSome o) (p ∷ ps) ps)
+unfolding targetWord isSome
 word-kept w p none ws ps e ok f = rw (eq-eqb w w refl) f
 word-kept w p (some q) ws ps e ok f = rw (ne-eqb (pointerWord q) w ok, e, f)
 
