@@ -17,7 +17,6 @@ pub mod Copies
 pub mod Parts
 pub mod Places
 pub mod Uptos
-pub mod Overs
 pub mod Masks
 pub mod Walks
 pub mod Marks
