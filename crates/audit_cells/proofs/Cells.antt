@@ -2,71 +2,29 @@
 use mathlib.Core.Path.{_≡_, refl, sym, ap, _∙_}
 use mathlib.Core.Bool.{Bool, true, false, not, Bool·beq}
 use mathlib.Core.List.{List, [], _∷_, map}
-use Prim.Native.Nat.{ℕ, zero, suc, _+_, _*_, _/_, _%_, _≤_, _<_}
+use Prim.Native.Nat.{ℕ, zero, suc, _+_, _*_, _/_, _≤_, _<_}
 use native.Mathlib.Nat.{not-suc-le-zero, le-of-suc-le-suc, zero-add, add-zero}
 use native.Mathlib.Omega.{arith}
 use lib.ListN.{length, getD, take, drop, replicate, length-map, length-replicate, List·getD-map}
 use Rattle.lists.specs.Lists.{isIn, allZero}
-use Rattle.lists.specs.Rows.{joined, rows, chunks}
-use Rattle.lists.specs.Marks.{fits, marked, collect, Marks}
+use Rattle.lists.specs.Rows.{chunks}
+use Rattle.lists.specs.Marks.{fits, marked, collect}
 use Rattle.lists.proofs.Checkers.{clash}
 use Rattle.lists.proofs.Tests.{clause, all-true}
 use Rattle.lists.proofs.Cuts.{length-chunks, chunk-at, length-read}
-use Rattle.model.specs.State.{Block, nullPosition, blankPosition, held, removed, Segment}
+use Rattle.model.specs.State.{Block}
 use Rattle.model.specs.Measures.{Measures, recordWords}
 use Rattle.model.specs.Records.{cellsOf, namedCells}
-use Rattle.model.specs.Table.{positionOf, positionsIn, segmentIn, recordsIn, cellsIn, shelfIn}
+use Rattle.model.specs.Table.{segmentIn, recordsIn, cellsIn, shelfIn}
 use Rattle.model.specs.Sound.{hasCells, areFilled}
-use Rattle.audit_words.specs.Words.{bitOf}
-use Rattle.audit_words.proofs.Positions.{bit-off, position-held, other-cells, segment-at}
 use Rattle.audit_cells.specs.Cells.{CellsSay}
 use Rattle.lists.proofs.Apart.{collect-at, Apart, fits-apart, apart-fits, none-marked, marked-all}
 
 -- ---- the cells named, in the code's order
 
-cells-of : (seg : Segment) → rows (λ p. cellsOf (p ∷ [])) seg ≡ cellsOf seg
-unfolding joined cellsOf
-cells-of [] = refl
-cells-of (nullPosition ∷ seg) = cells-of seg
-cells-of (blankPosition ∷ seg) = cells-of seg
-cells-of (held c n ∷ seg) = ap {B = List ℕ} (λ l. c ∷ l) (cells-of seg)
-cells-of (removed ∷ seg) = cells-of seg
-
--- of position i
-abbrev pub cells-at : ℕ → List ℕ → ℕ → List ℕ
-cells-at n row i = cellsOf (getD (segmentIn n row) i nullPosition ∷ [])
-
 -- of record k
 abbrev pub cells-in : ℕ → List ℕ → ℕ → List ℕ
 cells-in n ws k = cellsOf (segmentIn n (take (recordWords n) (drop (k * recordWords n) ws)))
-
--- by position
-pub record-cells : (n : ℕ) (seg : Segment) → length seg ≡ n → collect (λ i. cellsOf (getD seg i nullPosition ∷ [])) 0 n ≡ cellsOf seg
-unfolding cellsOf
-record-cells n seg l =
-    ap (collect (λ i. cellsOf (getD seg i nullPosition ∷ [])) 0) (sym (length-map seg (λ p. cellsOf (p ∷ [])) ∙ l))
-    ∙ collect-at (λ i. cellsOf (getD seg i nullPosition ∷ [])) [] (map (λ p. cellsOf (p ∷ [])) seg) (λ j h. sym (List·getD-map (λ p. cellsOf (p ∷ [])) seg j nullPosition))
-    ∙ cells-of seg
-
--- none where no position is held
-none-held : (r b : ℕ) (cs ns : List ℕ) → cellsOf (positionsIn 0 r b cs ns) ≡ []
-unfolding positionsIn positionOf cellsOf
-none-held r b [] ns = refl
-none-held r b (c ∷ cs) [] = refl
-none-held r b (c ∷ cs) (n ∷ ns) = go (r % 2) (b % 2) (none-held (r / 2) (b / 2) cs ns)
-  where
-    go : (x y : ℕ) → cellsOf (positionsIn 0 (r / 2) (b / 2) cs ns) ≡ [] → cellsOf (positionOf 0 x y c n ∷ positionsIn 0 (r / 2) (b / 2) cs ns) ≡ []
-    go zero zero e = e
-    go zero (suc y) e = e
-    go (suc x) y e = e
-
-pub marks-none : (n : ℕ) (row : List ℕ) (c : ℕ) (occ : List Bool) → getD row 0 0 ≡ 0 → Marks true c (cellsOf (segmentIn n row)) occ occ
-unfolding segmentIn fits marked
-marks-none n row c occ e =
-    let z : cellsOf (segmentIn n row) ≡ [] =
-    ap (λ (h : ℕ). cellsOf (positionsIn h (getD row 1 0) (getD row 2 0) (take n (drop 3 row)) (take n (drop (3 + n) row)))) e
-    ∙ none-held (getD row 1 0) (getD row 2 0) (take n (drop 3 row)) (take n (drop (3 + n) row)) in
-    record { ok = ap (λ (cs : List ℕ). fits c cs occ) (sym z); done = λ t. ap (λ (cs : List ℕ). marked cs occ) (sym z) }
 
 -- by record
 pub all-cells : (n : ℕ) (ws : List ℕ) (c : ℕ) → c ≡ length ws / recordWords n → collect (cells-in n ws) 0 c ≡ namedCells (recordsIn n ws)
@@ -150,13 +108,3 @@ module _ (sz : Measures) (m : ℕ) (pool ws : List ℕ) (most : length pool / sz
             marked-all m named k (omega (arith, g, most)) ∙ ap (λ (x : ℕ). isIn x named) (sym (zero-add k))
             ∙ filled-at named 0 (cellsIn (sz .blockBytes) pool) (s .filled) k (rw cells-long g) ∙ ap (λ (l : List ℕ). not (allZero l)) (cell-is k g);
       }
-
--- ---- a position's cell
-
-module _ (n : ℕ) (row : List ℕ) (l : length row ≡ recordWords n) (i : ℕ) (h : i < n) where
-  pub cell-held : bitOf (getD row 0 0) i ≡ 1 → cellsOf (getD (segmentIn n row) i nullPosition ∷ []) ≡ getD row (3 + i) 0 ∷ []
-  unfolding cellsOf
-  cell-held e = rw (segment-at n row l i h, position-held (bitOf (getD row 0 0) i) (bitOf (getD row 1 0) i) (bitOf (getD row 2 0) i) (getD row (3 + i) 0) (getD row (3 + n + i) 0) e)
-
-  pub cell-none : (bitOf (getD row 0 0) i ≡ 1 → ⊥) → cellsOf (getD (segmentIn n row) i nullPosition ∷ []) ≡ []
-  cell-none e = rw (segment-at n row l i h) (other-cells _ _ _ _ _ (bit-off (getD row 0 0) i e))

@@ -17,15 +17,12 @@ ghost use Rattle.audit_cells.specs.Cells.{CellsSay};
 use numbers::Cell;
 use numbers::Measures;
 
-// The cell of a position, if it is held, is marked; false if it is no cell or marked already.
-fn mark_position(row: &[u32], i: usize, n: usize, cells: usize, occupied: &mut [bool]) -> bool
-    requires { ⌜ (i < n) × (n ≤ 16) × (length (now row) ≡ recordWords n) × (cells ≤ length (now occupied)) ⌝ }
-    ensures { λ r. ⌜ Marks r cells (cellsOf (getD (segmentIn n (now (row .entry))) i nullPosition ∷ [])) (now (occupied .entry)) (now (occupied .exit)) ⌝ }
+// A cell is marked; false if it is no cell or marked already.
+fn mark_cell(cell: u32, cells: usize, occupied: &mut [bool]) -> bool
+    requires { ⌜ cells ≤ length (now occupied) ⌝ }
+    ensures { λ r. ⌜ Marks r cells (cell ∷ []) (now (occupied .entry)) (now (occupied .exit)) ⌝ }
 {
-    if audit_words::bit(row[0], i) != 1 {
-        return true;
-    }
-    let c = row[3 + i] as usize;
+    let c = cell as usize;
     if cells <= c {
         return false;
     }
@@ -36,30 +33,24 @@ fn mark_position(row: &[u32], i: usize, n: usize, cells: usize, occupied: &mut [
     true
 }
 
-// The cells of a record, position by position.
-fn mark_positions(row: &[u32], n: usize, cells: usize, occupied: &mut [bool]) -> bool
-    requires { ⌜ (n ≤ 16) × (length (now row) ≡ recordWords n) × (cells ≤ length (now occupied)) ⌝ }
-    ensures { λ r. ⌜ Marks r cells (cellsOf (segmentIn n (now (row .entry)))) (now (occupied .entry)) (now (occupied .exit)) ⌝ }
-{
-    let mut i: usize = 0;
-    while i < n {
-        if !mark_position(row, i, n, cells, occupied) {
-            return false;
-        }
-        i += 1;
-    }
-    true
-}
-
-// The same at once where no position is held.
+// The cells of a record, from one held position to the next.
 fn mark_record(row: &[u32], n: usize, cells: usize, occupied: &mut [bool]) -> bool
     requires { ⌜ (n ≤ 16) × (length (now row) ≡ recordWords n) × (cells ≤ length (now occupied)) ⌝ }
     ensures { λ r. ⌜ Marks r cells (cellsOf (segmentIn n (now (row .entry)))) (now (occupied .entry)) (now (occupied .exit)) ⌝ }
 {
-    if row[0] == 0 {
-        return true;
+    let mut m = row[0];
+    while m != 0 {
+        let p = u32::trailing_zeros(m);
+        let i = p as usize;
+        if n <= i {
+            return true;
+        }
+        if !mark_cell(row[3 + i], cells, occupied) {
+            return false;
+        }
+        m = m - (1u32 << p);
     }
-    mark_positions(row, n, cells, occupied)
+    true
 }
 
 // The cells of all records.

@@ -1,3 +1,4 @@
 pub mod Counters
 pub mod Pointers
 pub mod Counts
+pub mod Held

@@ -23,45 +23,34 @@ pub fn bump(counts: &mut [u32], w: u32)
     }
 }
 
-// Whether a position's count word, if it is held, is the count and at least 1.
-fn count_says(row: &[u32], i: usize, count: u32, n: usize) -> bool
-    requires { ⌜ (i < n) × (n ≤ 16) × (length (now row) ≡ recordWords n) ⌝ }
-    ensures { λ r. ⌜ Tells r (CountSays n (now (row .entry)) i count) ⌝ }
+// Whether a held position's count word is the count and at least 1.
+fn count_says(word: u32, count: u32) -> bool
+    ensures { λ r. ⌜ Tells r ((1 ≤ word) × (word ≡ count)) ⌝ }
 {
-    if audit_words::bit(row[0], i) != 1 {
-        return true;
-    }
-    let word = row[3 + n + i];
     if word < 1 {
         return false;
     }
     word == count
 }
 
-// Whether those of a record are, by its counters.
-fn positions_counts(row: &[u32], counts: &[u32], n: usize) -> bool
-    requires { ⌜ (n ≤ 16) × (length (now row) ≡ recordWords n) × (n ≤ length (now counts)) ⌝ }
-    ensures { λ r. ⌜ Tells r ((i : ℕ) → i < n → CountSays n (now (row .entry)) i (getD (now (counts .entry)) i 0)) ⌝ }
-{
-    let mut i: usize = 0;
-    while i < n {
-        if !count_says(row, i, counts[i], n) {
-            return false;
-        }
-        i += 1;
-    }
-    true
-}
-
-// The same at once where no position is held.
+// Whether those of a record are, by its counters, from one held position to the next.
 fn record_counts(row: &[u32], counts: &[u32], n: usize) -> bool
     requires { ⌜ (n ≤ 16) × (length (now row) ≡ recordWords n) × (n ≤ length (now counts)) ⌝ }
     ensures { λ r. ⌜ Tells r ((i : ℕ) → i < n → CountSays n (now (row .entry)) i (getD (now (counts .entry)) i 0)) ⌝ }
 {
-    if row[0] == 0 {
-        return true;
+    let mut m = row[0];
+    while m != 0 {
+        let p = u32::trailing_zeros(m);
+        let i = p as usize;
+        if n <= i {
+            return true;
+        }
+        if !count_says(row[3 + n + i], counts[i]) {
+            return false;
+        }
+        m = m - (1u32 << p);
     }
-    positions_counts(row, counts, n)
+    true
 }
 
 // Whether those of all records are. A record has as many counters as the most positions that one can have.

@@ -1,18 +1,16 @@
 -- The positions that a record's words are read as.
 use mathlib.Core.Path.{_≡_, refl, sym, ap, ap₂, _∙_}
-use mathlib.Core.Bool.{true, false}
+use mathlib.Core.Bool.{false}
 use mathlib.Core.List.{List, [], _∷_}
 use Prim.Native.Nat.{ℕ, zero, suc, _+_, _-_, _/_, _%_, _≤_, _<_}
 use native.Mathlib.Nat.{not-suc-le-zero, le-of-suc-le-suc, suc-inj}
 use native.Mathlib.Omega.{arith}
-use borrow.Author.Tests.{eqb-true, eq-eqb}
-use lib.Dec.{eqb}
 use lib.ListN.{length, getD, take, drop, length-drop, List·getD-eq-default}
 use lib.Seq.{getD-take, getD-drop, length-take-le}
 use Rattle.lists.proofs.Masks.{bit-zero, half-bit}
 use Rattle.model.specs.Measures.{recordWords}
 use Rattle.model.specs.State.{nullPosition, held}
-use Rattle.model.specs.Records.{isHeld, cellOf, cellsOf}
+use Rattle.model.specs.Records.{isHeld, cellOf}
 use Rattle.model.specs.Table.{positionOf, positionsIn, segmentIn}
 use Rattle.audit_words.specs.Words.{bitOf}
 
@@ -26,14 +24,6 @@ position-held (suc h) r b c n e = refl
 -- a bit is 0 or 1
 pub bit-off : (m i : ℕ) → (bitOf m i ≡ 1 → ⊥) → bitOf m i ≡ 0
 bit-off m i h = omega arith
-
--- two bits whose sum is 0
-module _ (x y i r b : ℕ) (e : r ≡ bitOf x i) (f : b ≡ bitOf y i) where
-  pub both-off : eqb (r + b) 0 ≡ true → (bitOf x i ≡ 0) × (bitOf y i ≡ 0)
-  both-off h = let z = eqb-true (r + b) 0 h in (omega arith, omega arith)
-
-  pub off-both : bitOf x i ≡ 0 → bitOf y i ≡ 0 → eqb (r + b) 0 ≡ true
-  off-both g h = eq-eqb (r + b) 0 (omega arith)
 
 module _ (h r b c n : ℕ) (e : h ≡ 0) where
   pub other-held : isHeld (positionOf h r b c n) ≡ false
@@ -50,15 +40,6 @@ module _ (h r b c n : ℕ) (e : h ≡ 0) where
   other-cell = rw e (go r b)
     where
       go : (r b : ℕ) → cellOf (positionOf 0 r b c n) ≡ 0
-      go zero zero = refl
-      go zero (suc b) = refl
-      go (suc r) b = refl
-
-  pub other-cells : cellsOf (positionOf h r b c n ∷ []) ≡ []
-  unfolding positionOf cellsOf
-  other-cells = rw e (go r b)
-    where
-      go : (r b : ℕ) → cellsOf (positionOf 0 r b c n ∷ []) ≡ []
       go zero zero = refl
       go zero (suc b) = refl
       go (suc r) b = refl

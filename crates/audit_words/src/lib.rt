@@ -57,38 +57,53 @@ pub fn bit(m: u32, i: usize) -> u32
     (m >> i) % 2
 }
 
-// Whether a position's words are in order.
-fn position_form(row: &[u32], i: usize, n: usize) -> bool
-    requires { ⌜ (i < n) × (length (now row) ≡ recordWords n) × (n ≤ 16) ⌝ }
-    ensures { λ r. ⌜ Tells r (PositionForm n (now (row .entry)) i) ⌝ }
+// Whether no position is in both masks.
+fn apart(a: u32, b: u32) -> bool
+    ensures { λ r. ⌜ Tells r ((i : ℕ) → bitOf a i ≡ 1 → bitOf b i ≡ 0) ⌝ }
 {
-    let removed = bit(row[1], i);
-    let blank = bit(row[2], i);
-    if bit(row[0], i) == 1 {
-        return removed + blank == 0;
-    }
-    if 1 < removed + blank {
-        return false;
-    }
-    if row[3 + i] != 0 {
-        return false;
-    }
-    row[3 + n + i] == 0
+    a & b == 0
 }
 
-// Whether the words of all positions are.
-fn positions_form(row: &[u32], n: usize) -> bool
-    requires { ⌜ (length (now row) ≡ recordWords n) × (n ≤ 16) ⌝ }
-    ensures { λ r. ⌜ Tells r ((i : ℕ) → i < n → PositionForm n (now (row .entry)) i) ⌝ }
+// The words of a position that is not held; 0 if it is.
+fn unheld(words: u32, held: u32) -> u32
+    ensures { λ r. ⌜ (held ≡ 0 → r ≡ words) × ((held ≡ 0 → ⊥) → r ≡ 0) ⌝ }
 {
+    if held == 0 {
+        return words;
+    }
+    0
+}
+
+// Whether each position that is not held has zeros for its cell and its count. No exit from the loop, so that the compiler takes many positions at a time.
+fn unheld_zero(row: &[u32], n: usize) -> bool
+    requires { ⌜ (length (now row) ≡ recordWords n) × (n ≤ 16) ⌝ }
+    ensures { λ r. ⌜ Tells r ((i : ℕ) → i < n → bitOf (getD (now (row .entry)) 0 0) i ≡ 0 → (getD (now (row .entry)) (3 + i) 0 ≡ 0) × (getD (now (row .entry)) (3 + n + i) 0 ≡ 0)) ⌝ }
+{
+    let helds = row[0];
+    let mut all: u32 = 0;
     let mut i: usize = 0;
     while i < n {
-        if !position_form(row, i, n) {
-            return false;
-        }
+        all = all | unheld(row[3 + i] | row[3 + n + i], bit(helds, i));
         i += 1;
     }
-    true
+    all == 0
+}
+
+// Whether the words of all positions are in order.
+fn positions_form(row: &[u32], n: usize) -> bool
+    requires { ⌜ (length (now row) ≡ recordWords n) × (n ≤ 16) × (getD (now row) 0 0 < 2 ^ n) × (getD (now row) 1 0 < 2 ^ n) ⌝ }
+    ensures { λ r. ⌜ Tells r ((i : ℕ) → i < n → PositionForm n (now (row .entry)) i) ⌝ }
+{
+    if !apart(row[0], row[1]) {
+        return false;
+    }
+    if !apart(row[0], row[2]) {
+        return false;
+    }
+    if !apart(row[1], row[2]) {
+        return false;
+    }
+    unheld_zero(row, n)
 }
 
 // Whether the words of a record that holds a position are in order.
