@@ -1,18 +1,24 @@
 // Numbers that look drawn; a seed gives the same ones each time (xorshift).
+ghost use mathlib.Core.Path.{_≡_};
 ghost use Prim.Native.Nat.{_≤_, _<_};
+ghost use Rattle.trial_draw.specs.Mixed.{nextState};
 
 pub struct Dice {
     pub state: u64,
 }
 
-pub fn mixed(x: u64) -> u64 {
+pub fn mixed(x: u64) -> u64
+    ensures { λ r. ⌜ r ≡ nextState x ⌝ }
+{
     let a = x ^ (x << 13);
     let b = a ^ (a >> 7);
     b ^ (b << 17)
 }
 
 impl Dice {
-    pub fn rolled(self) -> Dice {
+    pub fn rolled(self) -> Dice
+        ensures { λ r. ⌜ r .state ≡ nextState (self .state) ⌝ }
+    {
         Dice {
             state: mixed(self.state),
         }

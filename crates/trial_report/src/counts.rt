@@ -1,6 +1,7 @@
 // The counters: at n stands how many calls got the number n (0: accepted), from 40 on the things named here.
 ghost use mathlib.Core.Path.{_≡_};
-ghost use lib.ListN.{getD};
+ghost use lib.ListN.{getD, set};
+ghost use Rattle.trial_report.specs.Counts.{added, addedIf, raised, expected, unaltered, answeredWith};
 
 pub const LENGTHS: usize = 40;
 
@@ -60,39 +61,60 @@ pub fn count_at(counts: &[u64], at: usize) -> u64
     0
 }
 
-pub fn add(counts: &mut [u64], at: usize, n: u64) {
+fn put(counts: &mut [u64], at: usize, n: u64)
+    ensures { λ _. ⌜ now (counts .exit) ≡ set (now (counts .entry)) at n ⌝ }
+{
     if at < counts.len() {
-        counts[at] = std::num::wrapping_add_u64(counts[at], n);
+        counts[at] = n;
     }
 }
 
-fn add_if(counts: &mut [u64], ok: bool, at: usize) {
+pub fn add(counts: &mut [u64], at: usize, n: u64)
+    ensures { λ _. ⌜ now (counts .exit) ≡ added (now (counts .entry)) at n ⌝ }
+{
+    let sum = std::num::wrapping_add_u64(count_at(counts, at), n);
+    put(counts, at, sum);
+}
+
+fn add_if(counts: &mut [u64], ok: bool, at: usize)
+    ensures { λ _. ⌜ now (counts .exit) ≡ addedIf ok (now (counts .entry)) at ⌝ }
+{
     if ok {
         add(counts, at, 1);
     }
 }
 
 // The largest seen.
-pub fn raise(counts: &mut [u64], at: usize, n: u64) {
-    if at < counts.len() {
-        if counts[at] < n {
-            counts[at] = n;
-        }
+pub fn raise(counts: &mut [u64], at: usize, n: u64)
+    ensures { λ _. ⌜ now (counts .exit) ≡ raised (now (counts .entry)) at n ⌝ }
+{
+    if count_at(counts, at) < n {
+        put(counts, at, n);
     }
 }
 
-pub fn expect(counts: &mut [u64], ok: bool) {
-    add_if(counts, !ok, WRONG_ANSWERS);
+pub fn expect(counts: &mut [u64], ok: bool)
+    ensures { λ _. ⌜ now (counts .exit) ≡ expected (now (counts .entry)) ok ⌝ }
+{
+    if !ok {
+        add(counts, WRONG_ANSWERS, 1);
+    }
 }
 
-pub fn expect_unaltered(counts: &mut [u64], ok: bool) {
-    add_if(counts, !ok, ALTERED);
+pub fn expect_unaltered(counts: &mut [u64], ok: bool)
+    ensures { λ _. ⌜ now (counts .exit) ≡ unaltered (now (counts .entry)) ok ⌝ }
+{
+    if !ok {
+        add(counts, ALTERED, 1);
+    }
 }
 
 // A call got a number where one was expected.
-pub fn answered(counts: &mut [u64], kind: usize, refusal: u32, expected: u32) {
+pub fn answered(counts: &mut [u64], kind: usize, refusal: u32, wanted: u32)
+    ensures { λ _. ⌜ now (counts .exit) ≡ answeredWith (now (counts .entry)) kind refusal wanted ⌝ }
+{
     add(counts, CALLS, 1);
     add_if(counts, refusal == 0, kind);
     add_if(counts, refusal < 40, refusal as usize);
-    add_if(counts, refusal != expected, WRONG_ANSWERS);
+    expect(counts, refusal == wanted);
 }

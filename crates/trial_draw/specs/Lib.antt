@@ -1,0 +1,2 @@
+-- What the contracts of drawn numbers cite.
+pub mod Mixed

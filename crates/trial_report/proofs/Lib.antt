@@ -1,0 +1,2 @@
+-- The module of the crate's proofs.
+pub mod Counting

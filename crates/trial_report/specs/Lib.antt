@@ -1,0 +1,2 @@
+-- What the contracts of the counters cite.
+pub mod Counts
