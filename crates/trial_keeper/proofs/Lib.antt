@@ -2,3 +2,4 @@
 pub mod Places
 pub mod Versions
 pub mod Users
+pub mod Filing

@@ -1,11 +1,12 @@
 -- The keeper's notes, eleven for each till: the last number given, the number held at each of five places (0 at a free one), a length for each place; and then
 -- the rights, 1 for one that is given, four for each of eight users on each till.
 use mathlib.Core.Bool.{Bool, false, cond}
-use mathlib.Core.List.{List, [], _∷_}
-use Prim.Native.Nat.{ℕ, suc, _+_, _*_, min}
+use mathlib.Core.List.{List, [], _∷_, _++_}
+use Prim.Native.Nat.{ℕ, suc, _+_, _-_, _*_, _%_, _^_, min}
 use lib.Dec.{eqb, ltb, leb}
-use lib.ListN.{getD, set}
+use lib.ListN.{length, getD, set, take, drop}
 use Rattle.lists.specs.Lists.{counted, count, largest}
+use Rattle.trial_compare.specs.Bytes.{wrongBytes, others}
 
 abbrev pub lastGiven : List ℕ → ℕ → ℕ
 lastGiven notes till = getD notes (till * 11) 0
@@ -58,6 +59,39 @@ lengthOf notes till n = cond (isHeld notes till n) (lengthAt notes till (placeOf
 -- its place is free
 abbrev pub struck : List ℕ → ℕ → ℕ → List ℕ
 struck notes till n = cond (isHeld notes till n) (set notes (till * 11 + 1 + placeOf notes till n) 0) notes
+
+-- a version at a place, with its number and its length
+abbrev pub noted : List ℕ → ℕ → ℕ → ℕ → ℕ → List ℕ
+noted notes till place version bytes = set (set notes (till * 11 + 1 + place) version) (till * 11 + 6 + place) (min bytes 65536)
+
+-- one more number is given; the version takes the first free place, if there is one
+unfoldable pub filed : List ℕ → ℕ → ℕ → List ℕ
+filed notes till bytes =
+    let version = (lastGiven notes till + 1) % 2 ^ 32 in
+    let given = set notes (till * 11) version in
+    let place = placeOf notes till 0 in
+    cond (ltb place 5) (noted given till place version bytes) given
+
+-- the images of a till's places stand one after the other, each with room for 1280 bytes
+abbrev pub imageAt : ℕ → ℕ → ℕ
+imageAt till place = (till * 5 + place) * 1280
+
+-- an image stands from `at` on, if there is room for all of it
+unfoldable pub withImage : List ℕ → ℕ → List ℕ → List ℕ
+withImage images at image =
+    cond (leb (at + length image) (length images)) (take at images ++ (image ++ drop (at + length image) images)) images
+
+unfoldable pub filedImages : List ℕ → List ℕ → ℕ → List ℕ → List ℕ
+filedImages images notes till image =
+    let place = placeOf notes till 0 in
+    cond (ltb place 5) (withImage images (imageAt till place) image) images
+
+-- how many bytes of an output differ from those of an image that starts at `at`, or after it from 170, with which the output was marked;
+-- where the image or the output is too short, the output's or the image's whole length
+unfoldable pub wrongFrom : List ℕ → ℕ → ℕ → List ℕ → ℕ
+wrongFrom images at bytes output =
+    cond (ltb (length images) (at + bytes)) (length output)
+    (cond (ltb (length output) bytes) bytes ((wrongBytes (take bytes (drop at images)) (take bytes output) + others 170 (drop bytes output)) % 2 ^ 64))
 
 -- an image's most bytes
 abbrev pub mostBytes : ℕ → ℕ → ℕ

@@ -3,8 +3,8 @@
 // After those of three tills come the rights, 1 for one that is given: on each till those of each user to list, to back up, to restore and to retire.
 ghost use mathlib.Core.Path.{_≡_};
 ghost use Prim.Native.Nat.{_+_, _*_, _≤_, _<_, min};
-ghost use lib.ListN.{getD, set};
-ghost use Rattle.trial_keeper.specs.Notes.{lastGiven, numberAt, newerThan, placeOf, newestOf, oldestOf, lengthOf, isHeld, struck, mostBytes, missingNumber, rightAt, userRefusal, ownerRefusal, setRefusal, rightsSet, backupRefusal, restoreRefusal, retireRefusal};
+ghost use lib.ListN.{length, getD, set};
+ghost use Rattle.trial_keeper.specs.Notes.{lastGiven, numberAt, newerThan, placeOf, newestOf, oldestOf, lengthOf, isHeld, struck, noted, filed, imageAt, withImage, filedImages, wrongFrom, mostBytes, missingNumber, rightAt, userRefusal, ownerRefusal, setRefusal, rightsSet, backupRefusal, restoreRefusal, retireRefusal};
 use layout::Capacities;
 use numbers::Block;
 use rights::Rights;
@@ -84,7 +84,7 @@ pub fn newer(notes: &[u32], till: u32, version: u32) -> u32
     n
 }
 
-pub fn held(notes: &[u32], till: u32) -> u32
+fn held(notes: &[u32], till: u32) -> u32
     ensures { λ r. ⌜ r ≡ newerThan (now (notes .entry)) till 0 ⌝ }
 {
     newer(notes, till, 0)
@@ -181,7 +181,9 @@ pub fn length(notes: &[u32], till: u32, version: u32) -> u32
     note_at(notes, length_note(till, place_of(notes, till, version)))
 }
 
-fn short(n: usize) -> u32 {
+fn short(n: usize) -> u32
+    ensures { λ r. ⌜ r ≡ min n 65536 ⌝ }
+{
     if n < 65536 {
         return n as u32;
     }
@@ -190,34 +192,47 @@ fn short(n: usize) -> u32 {
 
 // Where the image of a place starts.
 fn image_at(till: u32, place: u32) -> usize
-    ensures { λ r. ⌜ r ≡ (till * 5 + place) * 1280 ⌝ }
+    ensures { λ r. ⌜ r ≡ imageAt till place ⌝ }
 {
     (till as usize * 5 + place as usize) * BYTES
 }
 
-fn copy(images: &mut [u8], at: usize, image: &[u8]) {
+// An image without room is not kept.
+fn copy(images: &mut [u8], at: usize, image: &[u8])
+    ensures { λ _. ⌜ now (images .exit) ≡ withImage (now (images .entry)) at (now (image .entry)) ⌝ }
+{
     if images.len() < at {
         return;
     }
-    let room = &mut images[at..];
-    if image.len() <= room.len() {
-        bytes::copy(image, room);
+    if images.len() - at < image.len() {
+        return;
     }
+    blocks::copy_part(image, 0, images, at, image.len());
 }
 
-fn note_version(notes: &mut [u32], till: u32, place: u32, version: u32, bytes: usize) {
+fn note_version(notes: &mut [u32], till: u32, place: u32, version: u32, bytes: usize)
+    ensures { λ _. ⌜ now (notes .exit) ≡ noted (now (notes .entry)) till place version bytes ⌝ }
+{
     put_note(notes, number_note(till, place), version);
     put_note(notes, length_note(till, place), short(bytes));
 }
 
+fn file_at(images: &mut [u8], notes: &mut [u32], till: u32, place: u32, version: u32, image: &[u8])
+    ensures { λ _. ⌜ (now (notes .exit) ≡ noted (now (notes .entry)) till place version (length (now (image .entry)))) × (now (images .exit) ≡ withImage (now (images .entry)) (imageAt till place) (now (image .entry))) ⌝ }
+{
+    note_version(notes, till, place, version, image.len());
+    copy(images, image_at(till, place), image);
+}
+
 // An image takes the first free place. One without is not kept, and shows as a wrong answer.
-pub fn file(images: &mut [u8], notes: &mut [u32], till: u32, image: &[u8]) {
+pub fn file(images: &mut [u8], notes: &mut [u32], till: u32, image: &[u8])
+    ensures { λ _. ⌜ (now (notes .exit) ≡ filed (now (notes .entry)) till (length (now (image .entry)))) × (now (images .exit) ≡ filedImages (now (images .entry)) (now (notes .entry)) till (now (image .entry))) ⌝ }
+{
     let version = std::num::wrapping_add_u32(last(notes, till), 1);
     let place = place_of(notes, till, 0);
     put_note(notes, till as usize * 11, version);
     if place < PLACES {
-        note_version(notes, till, place, version, image.len());
-        copy(images, image_at(till, place), image);
+        file_at(images, notes, till, place, version, image);
     }
 }
 
@@ -232,7 +247,9 @@ pub fn strike(notes: &mut [u32], till: u32, version: u32)
 }
 
 // How many bytes of an output are not the image's that starts there, or not as they were marked after it.
-fn wrong_from(images: &[u8], at: usize, bytes: usize, output: &[u8]) -> usize {
+fn wrong_from(images: &[u8], at: usize, bytes: usize, output: &[u8]) -> usize
+    ensures { λ r. ⌜ r ≡ wrongFrom (now (images .entry)) at bytes (now (output .entry)) ⌝ }
+{
     if images.len() < at {
         return output.len();
     }
@@ -247,7 +264,9 @@ fn wrong_from(images: &[u8], at: usize, bytes: usize, output: &[u8]) -> usize {
     std::num::wrapping_add_usize(wrong, trial_compare::unmarked(&output[bytes..]))
 }
 
-pub fn wrong_in(images: &[u8], notes: &[u32], till: u32, version: u32, output: &[u8]) -> usize {
+pub fn wrong_in(images: &[u8], notes: &[u32], till: u32, version: u32, output: &[u8]) -> usize
+    ensures { λ r. ⌜ r ≡ wrongFrom (now (images .entry)) (imageAt till (placeOf (now (notes .entry)) till version)) (lengthOf (now (notes .entry)) till version) (now (output .entry)) ⌝ }
+{
     let at = image_at(till, place_of(notes, till, version));
     wrong_from(images, at, length(notes, till, version) as usize, output)
 }
