@@ -46,7 +46,7 @@ fn histories(count: u32, pool: &mut [u8], table: &mut [u32], counts: &mut [u64])
 
 fn trial(pool: &mut [u8], table: &mut [u32], counts: &mut [u64]) {
     trial_cases::cases();
-    trial_refusals::measures(counts);
+    trial_refusals::lengths(counts);
     trial_refusals::layouts(pool, table, counts);
     trial_refusals::last_number(counts);
     trial_refusals::sent::messages(counts);

@@ -1,14 +1,57 @@
 // Each call made on the store, its answer judged.
-ghost use Prim.Native.Nat.{_≤_};
+ghost use mathlib.Core.Path.{_≡_};
+ghost use Prim.Native.Nat.{_+_, _*_, _≤_};
 ghost use lib.ListN.{length};
+use backup::BackedUp;
 use layout::Capacities;
 use restore::Restored;
+use retire::Retired;
 use rights::Rights;
 use trial_report::counts;
+
+// The words of a table as docs/FORMAT.md counts them: header, tills with their slots, records.
+fn words_in(tills: u32, versions: u32, blocks: u32, records: u32, segment: u32) -> u32
+    requires { ⌜ (tills ≤ 16) × (versions ≤ 64) × (blocks ≤ 1024) × (records ≤ 4096) × (segment ≤ 16) ⌝ }
+    ensures { λ r. ⌜ r ≡ 8 + tills * (4 + versions * (3 + blocks)) + records * (3 + 2 * segment) ⌝ }
+{
+    8 + tills * (4 + versions * (3 + blocks)) + records * (3 + 2 * segment)
+}
+
+fn segment_of(c: Capacities) -> u32
+    ensures { λ r. ⌜ r ≤ 16 ⌝ }
+{
+    let m = c.measures;
+    if m.blocks < 16 {
+        return m.blocks as u32;
+    }
+    16
+}
+
+// 0 for capacities that no store has.
+fn words_of(c: Capacities) -> u32 {
+    if 16 < c.tills {
+        return 0;
+    }
+    if 64 < c.versions {
+        return 0;
+    }
+    if 1024 < c.blocks {
+        return 0;
+    }
+    if 4096 < c.records {
+        return 0;
+    }
+    words_in(c.tills, c.versions, c.blocks, c.records, segment_of(c))
+}
 
 pub fn table_length(c: Capacities, counts: &mut [u64], expected: u32) {
     let a = store::table_length(c);
     counts::answered(counts, counts::LENGTHS, a.refusal, expected);
+    if a.refusal == 0 {
+        counts::expect(counts, a.words == words_of(c));
+    } else {
+        counts::expect(counts, a.words == 0);
+    }
 }
 
 pub fn lay_out(
@@ -18,10 +61,29 @@ pub fn lay_out(
     counts: &mut [u64],
     expected: u32,
 ) {
-    let before = trial_compare::sum_of(pool, table);
+    let mut bytes = [0u8; trial_compare::POOL];
+    let mut entries = [0u32; trial_compare::TABLE];
+    trial_compare::copy(pool, table, &mut bytes, &mut entries);
     let refusal = store::lay_out(pool, table, c);
     counts::answered(counts, counts::LAYOUTS, refusal, expected);
-    trial_judge::buffers(refusal, before, pool, table, counts);
+    trial_judge::buffers(refusal, &bytes, &entries, pool, table, counts);
+}
+
+// The store's answer to a backup that leaves the buffers, if it is refused.
+fn backed_up(
+    user: u32,
+    till: u32,
+    image: &[u8],
+    pool: &mut [u8],
+    table: &mut [u32],
+    counts: &mut [u64],
+) -> BackedUp {
+    let mut bytes = [0u8; trial_compare::POOL];
+    let mut entries = [0u32; trial_compare::TABLE];
+    trial_compare::copy(pool, table, &mut bytes, &mut entries);
+    let a = store::backup(pool, table, user, till, image);
+    trial_judge::buffers(a.refusal, &bytes, &entries, pool, table, counts);
+    a
 }
 
 pub fn back_up(
@@ -35,10 +97,24 @@ pub fn back_up(
     notes: &mut [u32],
     counts: &mut [u64],
 ) {
-    let before = trial_compare::sum_of(pool, table);
-    let a = store::backup(pool, table, user, till, image);
-    trial_judge::buffers(a.refusal, before, pool, table, counts);
+    let a = backed_up(user, till, image, pool, table, counts);
     trial_judge::backed_up(a, c, user, till, image, images, notes, counts);
+}
+
+fn retired(
+    user: u32,
+    till: u32,
+    version: u32,
+    pool: &mut [u8],
+    table: &mut [u32],
+    counts: &mut [u64],
+) -> Retired {
+    let mut bytes = [0u8; trial_compare::POOL];
+    let mut entries = [0u32; trial_compare::TABLE];
+    trial_compare::copy(pool, table, &mut bytes, &mut entries);
+    let a = store::retire(pool, table, user, till, version);
+    trial_judge::buffers(a.refusal, &bytes, &entries, pool, table, counts);
+    a
 }
 
 pub fn retire(
@@ -51,9 +127,7 @@ pub fn retire(
     notes: &mut [u32],
     counts: &mut [u64],
 ) {
-    let before = trial_compare::sum_of(pool, table);
-    let a = store::retire(pool, table, user, till, version);
-    trial_judge::buffers(a.refusal, before, pool, table, counts);
+    let a = retired(user, till, version, pool, table, counts);
     trial_judge::retired(a, c, user, till, version, notes, counts);
 }
 
@@ -165,12 +239,28 @@ pub fn tally(c: Capacities, pool: &[u8], table: &[u32], counts: &mut [u64]) {
 pub fn tally_as(user: u32, pool: &[u8], table: &[u32], counts: &mut [u64]) {
     let expected = trial_keeper::owner_refusal(user);
     let a = store::tally(pool, table, user);
-    counts::answered(counts, counts::TALLIES, a.refusal, expected);
-    if expected != 0 {
-        counts::expect(counts, a.cells == 0);
-        counts::expect(counts, a.records == 0);
-        counts::expect(counts, a.counts == 0);
+    if expected == 0 {
+        counts::answered(counts, counts::TALLIES, a.refusal, 0);
+    } else {
+        trial_judge::tally_refused(a, expected, counts);
     }
+}
+
+fn rights_set(
+    user: u32,
+    subject: u32,
+    till: u32,
+    rights: Rights,
+    pool: &[u8],
+    table: &mut [u32],
+    counts: &mut [u64],
+) -> u32 {
+    let mut bytes = [0u8; trial_compare::POOL];
+    let mut entries = [0u32; trial_compare::TABLE];
+    trial_compare::copy(pool, table, &mut bytes, &mut entries);
+    let refusal = store::set_rights(pool, table, user, subject, till, rights);
+    trial_judge::buffers(refusal, &bytes, &entries, pool, table, counts);
+    refusal
 }
 
 pub fn set_rights(
@@ -184,8 +274,6 @@ pub fn set_rights(
     notes: &mut [u32],
     counts: &mut [u64],
 ) {
-    let before = trial_compare::sum_of(pool, table);
-    let refusal = store::set_rights(pool, table, user, subject, till, rights);
-    trial_judge::buffers(refusal, before, pool, table, counts);
+    let refusal = rights_set(user, subject, till, rights, pool, table, counts);
     trial_judge::rights_set(refusal, c, user, subject, till, rights, notes, counts);
 }

@@ -1,7 +1,6 @@
 // A drawn closing: up to four images, perhaps of the same till, now and then with one among them that is refused.
 use layout::Capacities;
 use trial_draw::dice::Dice;
-use trial_report::counts;
 
 // Other numbers than those of the turns that follow.
 fn seeded(d: Dice) -> Dice {
@@ -49,47 +48,6 @@ fn draw_each(
     bytes
 }
 
-// Of the lists the first n places, of the room the first bytes. Images that had no room show as a wrong answer.
-fn close_first(
-    c: Capacities,
-    user: u32,
-    n: usize,
-    bytes: usize,
-    tills: &[u32],
-    lengths: &[u32],
-    sent: &[u8],
-    pool: &mut [u8],
-    table: &mut [u32],
-    images: &mut [u8],
-    notes: &mut [u32],
-    counts: &mut [u64],
-) {
-    if tills.len() < n {
-        counts::expect(counts, false);
-        return;
-    }
-    if lengths.len() < n {
-        counts::expect(counts, false);
-        return;
-    }
-    if sent.len() < bytes {
-        counts::expect(counts, false);
-        return;
-    }
-    crate::back_up(
-        c,
-        user,
-        &tills[0..n],
-        &lengths[0..n],
-        &sent[0..bytes],
-        pool,
-        table,
-        images,
-        notes,
-        counts,
-    );
-}
-
 pub fn close(
     c: Capacities,
     d: Dice,
@@ -104,7 +62,7 @@ pub fn close(
     let mut sent = [0u8; 5632];
     let n = d.drawn(5, 4) as usize + 1;
     let bytes = draw_each(c, d, n, &mut tills, &mut lengths, &mut sent);
-    close_first(
+    crate::back_up_first(
         c,
         trial_choice::user_of(d),
         n,

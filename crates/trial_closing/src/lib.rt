@@ -4,9 +4,7 @@ pub mod whole;
 
 ghost use mathlib.Core.Path.{_≡_};
 ghost use Prim.Native.Nat.{_+_, _≤_, _<_, min};
-ghost use lib.ListN.{length, getD};
-ghost use Rattle.closing.specs.Closing.{backupAllAs};
-ghost use Rattle.closing_backup.specs.Answers.{allBackedUp};
+ghost use lib.ListN.{getD};
 use backup::BackedUp;
 use closing_backup::AllBackedUp;
 use layout::Capacities;
@@ -31,25 +29,27 @@ fn judge_rest(words: &[u32], images: usize, counts: &mut [u64]) {
     counts::expect(counts, trial_compare::filled_words(&words[images..]) == 0);
 }
 
-// Where no version is given the buffers stay.
-fn judge_lists(
-    refusals: &[u32],
-    versions: &[u32],
-    images: usize,
-    before: u64,
-    pool: &[u8],
-    table: &[u32],
-    counts: &mut [u64],
-) {
-    judge_rest(refusals, images, counts);
-    judge_rest(versions, images, counts);
-    if trial_compare::filled_words(versions) == 0 {
-        counts::expect_unaltered(counts, trial_compare::sum_of(pool, table) == before);
-    }
+// What can be told of an answer without a keeper.
+fn judge_answer(a: AllBackedUp, images: usize, expected: u32, counts: &mut [u64]) {
+    let refusals = a.refusals;
+    let versions = a.versions;
+    let n = answered(a.refusal, images);
+    counts::answered(counts, counts::CLOSINGS, a.refusal, expected);
+    judge_rest(&refusals, n, counts);
+    judge_rest(&versions, n, counts);
 }
 
-// The call, and what can be told of it without a keeper. The answer is the store's.
-pub fn call(
+// 0 if an image is taken.
+fn none_taken(a: AllBackedUp) -> u32 {
+    let versions = a.versions;
+    if trial_compare::filled_words(&versions) == 0 {
+        return 1;
+    }
+    0
+}
+
+// The call, which leaves the buffers where no version is given.
+fn call(
     user: u32,
     tills: &[u32],
     lengths: &[u32],
@@ -57,17 +57,12 @@ pub fn call(
     pool: &mut [u8],
     table: &mut [u32],
     counts: &mut [u64],
-    expected: u32,
-) -> AllBackedUp
-    ensures { λ r. ⌜ allBackedUp r (now (pool .exit)) (now (table .exit)) ≡ backupAllAs (now (pool .entry)) (now (table .entry)) user (now (tills .entry)) (now (lengths .entry)) (now (sent .entry)) ⌝ }
-{
-    let before = trial_compare::sum_of(pool, table);
+) -> AllBackedUp {
+    let mut bytes = [0u8; trial_compare::POOL];
+    let mut entries = [0u32; trial_compare::TABLE];
+    trial_compare::copy(pool, table, &mut bytes, &mut entries);
     let a = store::backup_all(pool, table, user, tills, lengths, sent);
-    let refusals = a.refusals;
-    let versions = a.versions;
-    let images = answered(a.refusal, tills.len());
-    counts::answered(counts, counts::CLOSINGS, a.refusal, expected);
-    judge_lists(&refusals, &versions, images, before, pool, table, counts);
+    trial_judge::buffers(none_taken(a), &bytes, &entries, pool, table, counts);
     a
 }
 
@@ -150,8 +145,37 @@ fn judge_each(
     }
 }
 
+// The answers to the images, each by itself.
+fn judge_images(
+    a: AllBackedUp,
+    c: Capacities,
+    user: u32,
+    tills: &[u32],
+    lengths: &[u32],
+    sent: &[u8],
+    images: &mut [u8],
+    notes: &mut [u32],
+    counts: &mut [u64],
+) {
+    let refusals = a.refusals;
+    let versions = a.versions;
+    judge_answer(a, tills.len(), 0, counts);
+    judge_each(
+        c,
+        user,
+        tills,
+        lengths,
+        sent,
+        &refusals,
+        &versions,
+        images,
+        notes,
+        counts,
+    );
+}
+
 // A closing whose lists fit each other.
-pub fn back_up(
+fn back_up(
     c: Capacities,
     user: u32,
     tills: &[u32],
@@ -163,17 +187,45 @@ pub fn back_up(
     notes: &mut [u32],
     counts: &mut [u64],
 ) {
-    let a = call(user, tills, lengths, sent, pool, table, counts, 0);
-    let refusals = a.refusals;
-    let versions = a.versions;
-    judge_each(
+    let a = call(user, tills, lengths, sent, pool, table, counts);
+    judge_images(a, c, user, tills, lengths, sent, images, notes, counts);
+}
+
+// Of the lists the first n places, of the room the first bytes. Images that had no room show as a wrong answer.
+fn back_up_first(
+    c: Capacities,
+    user: u32,
+    n: usize,
+    bytes: usize,
+    tills: &[u32],
+    lengths: &[u32],
+    sent: &[u8],
+    pool: &mut [u8],
+    table: &mut [u32],
+    images: &mut [u8],
+    notes: &mut [u32],
+    counts: &mut [u64],
+) {
+    if tills.len() < n {
+        counts::expect(counts, false);
+        return;
+    }
+    if lengths.len() < n {
+        counts::expect(counts, false);
+        return;
+    }
+    if sent.len() < bytes {
+        counts::expect(counts, false);
+        return;
+    }
+    back_up(
         c,
         user,
-        tills,
-        lengths,
-        sent,
-        &refusals,
-        &versions,
+        &tills[0..n],
+        &lengths[0..n],
+        &sent[0..bytes],
+        pool,
+        table,
         images,
         notes,
         counts,

@@ -17,20 +17,20 @@ fn capacities() -> Capacities {
 
 // The first of so many tills, lengths and bytes.
 fn refuse_parts(
+    p: Parts,
     tills: &[u32],
     lengths: &[u32],
     sent: &[u8],
-    t: usize,
-    l: usize,
-    s: usize,
     pool: &mut [u8],
     table: &mut [u32],
     counts: &mut [u64],
-    expected: u32,
 )
-    requires { ⌜ (t ≤ length (now tills)) × (l ≤ length (now lengths)) × (s ≤ length (now sent)) ⌝ }
+    requires { ⌜ (p .tills ≤ length (now tills)) × (p .lengths ≤ length (now lengths)) × (p .bytes ≤ length (now sent)) ⌝ }
 {
-    crate::call(
+    let t = p.tills;
+    let l = p.lengths;
+    let s = p.bytes;
+    let a = crate::call(
         0,
         &tills[0..t],
         &lengths[0..l],
@@ -38,76 +38,101 @@ fn refuse_parts(
         pool,
         table,
         counts,
-        expected,
     );
+    crate::judge_answer(a, t, p.expected, counts);
 }
 
-// So many tills, so many images of one byte, so many bytes.
-fn refuse(
-    t: usize,
-    l: usize,
-    s: usize,
-    pool: &mut [u8],
-    table: &mut [u32],
-    counts: &mut [u64],
+// How many tills, lengths and bytes; the till's reserved word; the number that is expected.
+struct Parts {
+    tills: usize,
+    lengths: usize,
+    bytes: usize,
+    reserved: u32,
     expected: u32,
-)
-    requires { ⌜ (t ≤ 17) × (l ≤ 17) × (s ≤ 17) ⌝ }
+}
+
+fn malformed(tills: usize, lengths: usize, bytes: usize) -> Parts
+    requires { ⌜ (tills ≤ 17) × (lengths ≤ 17) × (bytes ≤ 17) ⌝ }
+    ensures { λ r. ⌜ (r .tills ≤ 17) × (r .lengths ≤ 17) × (r .bytes ≤ 17) ⌝ }
+{
+    Parts {
+        tills: tills,
+        lengths: lengths,
+        bytes: bytes,
+        reserved: 0,
+        expected: 4,
+    }
+}
+
+// With a reserved word that is not zero: 10, also for what would be 4.
+fn unsound(images: usize) -> Parts
+    requires { ⌜ images ≤ 17 ⌝ }
+    ensures { λ r. ⌜ (r .tills ≤ 17) × (r .lengths ≤ 17) × (r .bytes ≤ 17) ⌝ }
+{
+    Parts {
+        tills: images,
+        lengths: images,
+        bytes: images,
+        reserved: 1,
+        expected: 10,
+    }
+}
+
+// One image too many; a till without a length, and a length without a till; a byte too few, a byte too many, and one for no image.
+fn parts_of(n: u32) -> Parts
+    ensures { λ r. ⌜ (r .tills ≤ 17) × (r .lengths ≤ 17) × (r .bytes ≤ 17) ⌝ }
+{
+    match n {
+        0 => malformed(17, 17, 17),
+        1 => malformed(2, 1, 1),
+        2 => malformed(1, 2, 2),
+        3 => malformed(3, 3, 2),
+        4 => malformed(3, 3, 4),
+        5 => malformed(0, 0, 1),
+        6 => unsound(17),
+        _ => unsound(1),
+    }
+}
+
+// Images of one byte for the first till.
+fn refuse(p: Parts, pool: &mut [u8], table: &mut [u32], counts: &mut [u64])
+    requires { ⌜ (p .tills ≤ 17) × (p .lengths ≤ 17) × (p .bytes ≤ 17) ⌝ }
 {
     let tills = [0u32; 17];
     let lengths = [1u32; 17];
     let sent = [65u8; 17];
-    refuse_parts(
-        &tills,
-        &lengths,
-        &sent,
-        t,
-        l,
-        s,
-        pool,
-        table,
-        counts,
-        expected,
-    );
+    refuse_parts(p, &tills, &lengths, &sent, pool, table, counts);
 }
 
-// One image too many; a till without a length, and a length without a till.
-fn other_counts(pool: &mut [u8], table: &mut [u32], counts: &mut [u64]) {
-    refuse(17, 17, 17, pool, table, counts, 4);
-    refuse(2, 1, 1, pool, table, counts, 4);
-    refuse(1, 2, 2, pool, table, counts, 4);
+fn refuse_one(n: u32, pool: &mut [u8], table: &mut [u32], counts: &mut [u64]) {
+    let p = parts_of(n);
+    trial_keeper::put_note(table, 11, p.reserved);
+    refuse(p, pool, table, counts);
 }
 
-// A byte too few, a byte too many, and one for no image.
-fn other_sums(pool: &mut [u8], table: &mut [u32], counts: &mut [u64]) {
-    refuse(3, 3, 2, pool, table, counts, 4);
-    refuse(3, 3, 4, pool, table, counts, 4);
-    refuse(0, 0, 1, pool, table, counts, 4);
+fn refuse_each(pool: &mut [u8], table: &mut [u32], counts: &mut [u64]) {
+    let mut n = 0;
+    while n < 8 {
+        refuse_one(n, pool, table, counts);
+        n += 1;
+    }
 }
 
 // In 32 bits these lengths would add up to the one byte.
 fn wrapped(pool: &mut [u8], table: &mut [u32], counts: &mut [u64]) {
     let tills = [0u32; 2];
     let lengths = [4294967295u32, 2];
-    crate::call(0, &tills, &lengths, b"A", pool, table, counts, 4);
-}
-
-// With a reserved word of the till that is not zero: 10, also for what would be 4.
-fn unsound(pool: &mut [u8], table: &mut [u32], counts: &mut [u64]) {
-    trial_keeper::put_note(table, 11, 1);
-    refuse(17, 17, 17, pool, table, counts, 10);
-    refuse(1, 1, 1, pool, table, counts, 10);
-    trial_keeper::put_note(table, 11, 0);
+    let a = crate::call(0, &tills, &lengths, b"A", pool, table, counts);
+    crate::judge_answer(a, 2, 4, counts);
 }
 
 fn refused(pool: &mut [u8], table: &mut [u32], counts: &mut [u64]) {
-    other_counts(pool, table, counts);
-    other_sums(pool, table, counts);
+    refuse_each(pool, table, counts);
+    trial_keeper::put_note(table, 11, 0);
     wrapped(pool, table, counts);
-    unsound(pool, table, counts);
 }
 
-// Nothing at all; and two images that are taken, with a till that is not there and an empty image between them.
+// Two images that are taken, with a till that is not there and an empty image between them.
 fn few(
     pool: &mut [u8],
     table: &mut [u32],
@@ -117,19 +142,6 @@ fn few(
 ) {
     let tills = [0u32, 1, 0, 0];
     let lengths = [3u32, 1, 0, 2];
-    let none = [0u32; 0];
-    crate::back_up(
-        capacities(),
-        0,
-        &none,
-        &none,
-        b"",
-        pool,
-        table,
-        images,
-        notes,
-        counts,
-    );
     crate::back_up(
         capacities(),
         0,
@@ -144,8 +156,9 @@ fn few(
     );
 }
 
-// Sixteen, of which the till has room for two.
-fn most(
+// So many images of a byte: none at all, and sixteen, of which the till has room for two.
+fn bytes_each(
+    n: usize,
     pool: &mut [u8],
     table: &mut [u32],
     images: &mut [u8],
@@ -154,9 +167,11 @@ fn most(
 ) {
     let tills = [0u32; 16];
     let lengths = [1u32; 16];
-    crate::back_up(
+    crate::back_up_first(
         capacities(),
         0,
+        n,
+        n,
         &tills,
         &lengths,
         b"ABCDEFGHIJKLMNOP",
@@ -168,11 +183,22 @@ fn most(
     );
 }
 
+fn all_taken(
+    pool: &mut [u8],
+    table: &mut [u32],
+    images: &mut [u8],
+    notes: &mut [u32],
+    counts: &mut [u64],
+) {
+    bytes_each(0, pool, table, images, notes, counts);
+    few(pool, table, images, notes, counts);
+    bytes_each(16, pool, table, images, notes, counts);
+}
+
 fn taken(pool: &mut [u8], table: &mut [u32], counts: &mut [u64]) {
     let mut images = [0u8; trial_keeper::IMAGES];
     let mut notes = [0u32; trial_keeper::NOTES];
-    few(pool, table, &mut images, &mut notes, counts);
-    most(pool, table, &mut images, &mut notes, counts);
+    all_taken(pool, table, &mut images, &mut notes, counts);
 }
 
 fn on_store(pool: &mut [u8], table: &mut [u32], counts: &mut [u64]) {

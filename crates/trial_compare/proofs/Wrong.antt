@@ -8,9 +8,9 @@ use native.Mathlib.Numerals.{add-one}
 use native.Mathlib.Omega.{arith}
 use borrow.Author.Tests.{eqb-true, eqb-false, eq-eqb, ne-eqb}
 use lib.Dec.{eqb}
-use lib.ListN.{length, getD, drop, replicate, length-drop, drop-of-length-le}
-use lib.Seq.{drop-cons}
-use Rattle.trial_compare.specs.Bytes.{oneIfNot, wrongHead, tail, wrongBytes, others}
+use lib.ListN.{length, getD, take, drop, replicate, drop-of-length-le}
+use lib.Seq.{drop-cons, take-all}
+use Rattle.trial_compare.specs.Bytes.{oneIfNot, wrongHead, tail, differing, wrongBytes, others}
 
 pub drop-next : (l : List ℕ) (i : ℕ) → i < length l → drop i l ≡ getD l i 0 ∷ drop (i + 1) l
 drop-next l i h = rw (add-one i) (drop-cons l i 0 h)
@@ -41,20 +41,16 @@ head-none l i x h = rw (drop-of-length-le l {i = i} h)
 
 -- ---- two lists
 
-pub wrong-next :
-    (a b : List ℕ) (i : ℕ) → i < length a → wrongBytes (drop i a) (drop i b) ≡ wrongHead (getD a i 0) (drop i b) + wrongBytes (drop (i + 1) a) (drop (i + 1) b)
-unfolding wrongBytes
-wrong-next a b i h =
-    ap (λ (l : List ℕ). wrongBytes l (drop i b)) (drop-next a i h)
-    ∙ ap (λ (l : List ℕ). wrongHead (getD a i 0) (drop i b) + wrongBytes (drop (i + 1) a) l) (tail-drop b i)
+pub differing-next :
+    (a b : List ℕ) (i : ℕ) → i < length a → differing (drop i a) (drop i b) ≡ wrongHead (getD a i 0) (drop i b) + differing (drop (i + 1) a) (drop (i + 1) b)
+unfolding differing
+differing-next a b i h =
+    ap (λ (l : List ℕ). differing l (drop i b)) (drop-next a i h)
+    ∙ ap (λ (l : List ℕ). wrongHead (getD a i 0) (drop i b) + differing (drop (i + 1) a) l) (tail-drop b i)
 
-pub wrong-end : (a b : List ℕ) (i : ℕ) → length a ≤ i → wrongBytes (drop i a) (drop i b) ≡ length b - i
-unfolding wrongBytes
-wrong-end a b i h = ap (λ (l : List ℕ). wrongBytes l (drop i b)) (drop-of-length-le a {i = i} h) ∙ length-drop i b
-
-no-length : (b : List ℕ) → length b ≡ 0 → [] ≡ b
-no-length [] e = refl
-no-length (y ∷ b) e = absurd (let z : suc (length b) ≡ 0 = e in omega arith)
+pub differing-end : (a b : List ℕ) (i : ℕ) → length a ≤ i → differing (drop i a) (drop i b) ≡ 0
+unfolding differing
+differing-end a b i h = ap (λ (l : List ℕ). differing l (drop i b)) (drop-of-length-le a {i = i} h)
 
 -- a first byte that is not wrong is there, and the same
 head-zero : (x : ℕ) (ys : List ℕ) → wrongHead x ys ≡ 0 → ys ≡ x ∷ tail ys
@@ -66,14 +62,26 @@ head-zero x (y ∷ ys) e = go (eqb y x) refl e
     go true q z = ap (λ (n : ℕ). n ∷ ys) (eqb-true y x q)
     go false q z = absurd (let w : _≡_ {A = ℕ} 1 0 = z in omega arith)
 
+pub none-differing : (a b : List ℕ) → differing a b ≡ 0 → take (length a) b ≡ a
+unfolding differing
+none-differing [] b e = refl
+none-differing (x ∷ a) b e =
+    let s : wrongHead x b + differing a (tail b) ≡ 0 = e in
+    let h : wrongHead x b ≡ 0 = omega arith in
+    let t : differing a (tail b) ≡ 0 = omega arith in
+    ap (take (suc (length a))) (head-zero x b h) ∙ ap (λ (l : List ℕ). x ∷ l) (none-differing a (tail b) t)
+
+pub wrong-is : (a b : List ℕ) (d p : ℕ) → d ≡ differing a b → p ≡ length b - length a → d + p ≡ wrongBytes a b
+unfolding wrongBytes
+wrong-is a b d p e f = rw (e, f)
+
 pub none-wrong : (a b : List ℕ) → wrongBytes a b ≡ 0 → a ≡ b
 unfolding wrongBytes
-none-wrong [] b e = no-length b e
-none-wrong (x ∷ a) b e =
-    let s : wrongHead x b + wrongBytes a (tail b) ≡ 0 = e in
-    let h : wrongHead x b ≡ 0 = omega arith in
-    let t : wrongBytes a (tail b) ≡ 0 = omega arith in
-    ap (λ (l : List ℕ). x ∷ l) (none-wrong a (tail b) t) ∙ sym (head-zero x b h)
+none-wrong a b e =
+    let s : differing a b + (length b - length a) ≡ 0 = e in
+    let d : differing a b ≡ 0 = omega arith in
+    let l : length b ≤ length a = omega arith in
+    sym (none-differing a b d) ∙ take-all (length a) b l
 
 -- ---- one list against one byte
 

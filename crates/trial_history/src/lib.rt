@@ -50,6 +50,7 @@ fn on_store(
 ) {
     let mut images = [0u8; trial_keeper::IMAGES];
     let mut notes = [0u32; trial_keeper::NOTES];
+    trial_calls::table_length(c, counts, 0);
     open_and_play(c, seed, count, pool, table, &mut images, &mut notes, counts);
 }
 

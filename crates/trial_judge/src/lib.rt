@@ -4,14 +4,69 @@ use layout::Capacities;
 use restore::Restored;
 use retire::Retired;
 use rights::Rights;
+use tally::Tally;
 use tills::Listing;
 use trial_report::counts;
 
+// The buffers have the bytes and words of their copies.
+pub fn unaltered(bytes: &[u8], entries: &[u32], pool: &[u8], table: &[u32], counts: &mut [u64]) {
+    counts::expect_unaltered(counts, trial_compare::differing_bytes(pool, bytes) == 0);
+    counts::expect_unaltered(counts, trial_compare::differing_words(table, entries) == 0);
+}
+
 // A refusal leaves the buffers as they were.
-pub fn buffers(refusal: u32, before: u64, pool: &[u8], table: &[u32], counts: &mut [u64]) {
+pub fn buffers(
+    refusal: u32,
+    bytes: &[u8],
+    entries: &[u32],
+    pool: &[u8],
+    table: &[u32],
+    counts: &mut [u64],
+) {
     if refusal != 0 {
-        counts::expect_unaltered(counts, trial_compare::sum_of(pool, table) == before);
+        unaltered(bytes, entries, pool, table, counts);
     }
+}
+
+// A refusal has its number, and every other field is 0.
+pub fn backup_refused(a: BackedUp, expected: u32, counts: &mut [u64]) {
+    counts::answered(counts, counts::BACKUPS, a.refusal, expected);
+    counts::expect(counts, a.version == 0);
+}
+
+pub fn retire_refused(a: Retired, expected: u32, counts: &mut [u64]) {
+    counts::answered(counts, counts::RETIRES, a.refusal, expected);
+    counts::expect(counts, a.length == 0);
+}
+
+pub fn tally_refused(a: Tally, expected: u32, counts: &mut [u64]) {
+    counts::answered(counts, counts::TALLIES, a.refusal, expected);
+    counts::expect(counts, a.cells == 0);
+    counts::expect(counts, a.records == 0);
+    counts::expect(counts, a.counts == 0);
+}
+
+fn not_listed(a: Listing, counts: &mut [u64]) {
+    counts::expect(counts, a.oldest == 0);
+    counts::expect(counts, a.newest == 0);
+    counts::expect(counts, a.last == 0);
+}
+
+pub fn listing_refused(a: Listing, expected: u32, counts: &mut [u64]) {
+    counts::answered(counts, counts::LISTINGS, a.refusal, expected);
+    not_listed(a, counts);
+}
+
+// The output is as it was marked.
+fn not_restored(a: Restored, output: &[u8], counts: &mut [u64]) {
+    counts::expect(counts, a.length == 0);
+    counts::expect(counts, a.hops == 0);
+    counts::expect_unaltered(counts, trial_compare::unmarked(output) == 0);
+}
+
+pub fn restore_refused(a: Restored, expected: u32, output: &[u8], counts: &mut [u64]) {
+    counts::answered(counts, counts::RESTORES, a.refusal, expected);
+    not_restored(a, output, counts);
 }
 
 // The first refusal, if there is one, or the second.
@@ -155,12 +210,6 @@ fn restored_chain(a: Restored, till: u32, version: u32, notes: &[u32], counts: &
     counts::expect(counts, a.hops <= newer);
 }
 
-pub fn not_restored(a: Restored, output: &[u8], counts: &mut [u64]) {
-    counts::expect(counts, a.length == 0);
-    counts::expect(counts, a.hops == 0);
-    counts::expect_unaltered(counts, trial_compare::unmarked(output) == 0);
-}
-
 fn restore_number(
     c: Capacities,
     user: u32,
@@ -198,12 +247,6 @@ pub fn restored(
     } else {
         not_restored(a, output, counts);
     }
-}
-
-fn not_listed(a: Listing, counts: &mut [u64]) {
-    counts::expect(counts, a.oldest == 0);
-    counts::expect(counts, a.newest == 0);
-    counts::expect(counts, a.last == 0);
 }
 
 pub fn listed(a: Listing, c: Capacities, user: u32, till: u32, notes: &[u32], counts: &mut [u64]) {

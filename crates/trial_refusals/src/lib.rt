@@ -42,26 +42,102 @@ fn most_of(n: u32) -> u32
     }
 }
 
-// The least, the most, and one past each.
-fn lengths_of(n: u32, counts: &mut [u64]) {
-    let most = most_of(n);
-    trial_calls::table_length(with_one(n, 1), counts, 0);
-    trial_calls::table_length(with_one(n, most), counts, 0);
-    trial_calls::table_length(with_one(n, 0), counts, 1);
-    trial_calls::table_length(with_one(n, most + 1), counts, 1);
+// Capacities, and the number that they get.
+struct Sizes {
+    c: Capacities,
+    expected: u32,
 }
 
-fn ranges_of(n: u32, pool: &mut [u8], table: &mut [u32], counts: &mut [u64]) {
-    let past = most_of(n) + 1;
-    lengths_of(n, counts);
-    trial_calls::lay_out(with_one(n, 0), pool, table, counts, 1);
-    trial_calls::lay_out(with_one(n, past), pool, table, counts, 1);
+// The least and the most of each of the five, and one past each.
+fn range_of(n: u32) -> Sizes {
+    let most = most_of(n / 4);
+    let kind = n % 4;
+    if kind == 0 {
+        return Sizes {
+            c: with_one(n / 4, 1),
+            expected: 0,
+        };
+    }
+    if kind == 1 {
+        return Sizes {
+            c: with_one(n / 4, most),
+            expected: 0,
+        };
+    }
+    if kind == 2 {
+        return Sizes {
+            c: with_one(n / 4, 0),
+            expected: 1,
+        };
+    }
+    Sizes {
+        c: with_one(n / 4, most + 1),
+        expected: 1,
+    }
+}
+
+// An image of so many blocks of these measures, the other four capacities 1.
+fn measured(bytes: u32, blocks: u32, percent: u32, image: u32, expected: u32) -> Sizes {
+    let mut c = with_one(2, image);
+    c.measures = Measures::chosen(bytes, blocks, percent);
+    Sizes {
+        c: c,
+        expected: expected,
+    }
+}
+
+// Measures in range; then no such block, or too many; then no such segment, or percentage.
+fn measures_of(n: u32) -> Sizes {
+    match n {
+        0 => measured(64, 4, 0, 1024, 0),
+        1 => measured(128, 8, 100, 512, 0),
+        2 => measured(256, 16, 50, 256, 0),
+        3 => measured(512, 16, 20, 128, 0),
+        4 => measured(0, 8, 20, 1, 1),
+        5 => measured(96, 8, 20, 1, 1),
+        6 => measured(1024, 8, 20, 1, 1),
+        7 => measured(512, 8, 20, 129, 1),
+        8 => measured(64, 0, 20, 1, 1),
+        9 => measured(64, 5, 20, 1, 1),
+        10 => measured(64, 32, 20, 1, 1),
+        _ => measured(64, 8, 101, 1, 1),
+    }
+}
+
+fn sizes_of(n: u32) -> Sizes {
+    if n < 20 {
+        return range_of(n);
+    }
+    measures_of(n - 20)
+}
+
+fn length_of(n: u32, counts: &mut [u64]) {
+    let s = sizes_of(n);
+    let c = s.c;
+    trial_calls::table_length(c, counts, s.expected);
+}
+
+pub fn lengths(counts: &mut [u64]) {
+    let mut n = 0;
+    while n < 32 {
+        length_of(n, counts);
+        n += 1;
+    }
+}
+
+// Those of the ranges that are refused.
+fn lay_out_past(n: u32, pool: &mut [u8], table: &mut [u32], counts: &mut [u64]) {
+    let s = range_of(n);
+    let c = s.c;
+    if s.expected == 1 {
+        trial_calls::lay_out(c, pool, table, counts, 1);
+    }
 }
 
 fn ranges(pool: &mut [u8], table: &mut [u32], counts: &mut [u64]) {
     let mut n = 0;
-    while n < 5 {
-        ranges_of(n, pool, table, counts);
+    while n < 20 {
+        lay_out_past(n, pool, table, counts);
         n += 1;
     }
 }
@@ -73,12 +149,13 @@ fn lay_out_ones(
     bytes: usize,
     words: usize,
     counts: &mut [u64],
-    expected: u32,
 ) {
     if pool.len() < bytes {
+        counts::expect(counts, false);
         return;
     }
     if table.len() < words {
+        counts::expect(counts, false);
         return;
     }
     trial_calls::lay_out(
@@ -86,59 +163,23 @@ fn lay_out_ones(
         &mut pool[0..bytes],
         &mut table[0..words],
         counts,
-        expected,
+        2,
     );
 }
 
 // A store of ones has 64 bytes and 35 words.
-fn too_short(pool: &mut [u8], table: &mut [u32], counts: &mut [u64]) {
-    lay_out_ones(pool, table, 63, 35, counts, 2);
-    lay_out_ones(pool, table, 64, 34, counts, 2);
-}
-
-fn too_long(pool: &mut [u8], table: &mut [u32], counts: &mut [u64]) {
-    lay_out_ones(pool, table, 65, 35, counts, 2);
-    lay_out_ones(pool, table, 64, 36, counts, 2);
-}
-
-// An image of so many blocks of these measures, the other four capacities 1.
-fn length_of(bytes: u32, blocks: u32, percent: u32, image: u32, counts: &mut [u64], expected: u32) {
-    let mut c = with_one(2, image);
-    c.measures = Measures::chosen(bytes, blocks, percent);
-    trial_calls::table_length(c, counts, expected);
-}
-
-fn measures_in_range(counts: &mut [u64]) {
-    length_of(64, 4, 0, 1024, counts, 0);
-    length_of(128, 8, 100, 512, counts, 0);
-    length_of(256, 16, 50, 256, counts, 0);
-    length_of(512, 16, 20, 128, counts, 0);
-}
-
-fn no_such_block(counts: &mut [u64]) {
-    length_of(0, 8, 20, 1, counts, 1);
-    length_of(96, 8, 20, 1, counts, 1);
-    length_of(1024, 8, 20, 1, counts, 1);
-    length_of(512, 8, 20, 129, counts, 1);
-}
-
-fn no_such_segment(counts: &mut [u64]) {
-    length_of(64, 0, 20, 1, counts, 1);
-    length_of(64, 5, 20, 1, counts, 1);
-    length_of(64, 32, 20, 1, counts, 1);
-    length_of(64, 8, 101, 1, counts, 1);
-}
-
-pub fn measures(counts: &mut [u64]) {
-    measures_in_range(counts);
-    no_such_block(counts);
-    no_such_segment(counts);
+fn other_lengths(pool: &mut [u8], table: &mut [u32], counts: &mut [u64]) {
+    let mut n = 0;
+    while n < 2 {
+        lay_out_ones(pool, table, 63 + 2 * n, 35, counts);
+        lay_out_ones(pool, table, 64, 34 + 2 * n, counts);
+        n += 1;
+    }
 }
 
 pub fn layouts(pool: &mut [u8], table: &mut [u32], counts: &mut [u64]) {
     ranges(pool, table, counts);
-    too_short(pool, table, counts);
-    too_long(pool, table, counts);
+    other_lengths(pool, table, counts);
 }
 
 // Version n comes to a store of ones.
@@ -154,44 +195,47 @@ fn go(n: u32, pool: &mut [u8], table: &mut [u32], counts: &mut [u64]) {
     counts::expect(counts, a.length == 50);
 }
 
-fn come_and_go(n: u32, image: &[u8], pool: &mut [u8], table: &mut [u32], counts: &mut [u64]) {
-    come(n, image, pool, table, counts);
-    go(n, pool, table, counts);
-}
-
 fn every_number(image: &[u8], pool: &mut [u8], table: &mut [u32], counts: &mut [u64]) {
     let mut n = 0;
     while n < 65535 {
         n += 1;
-        come_and_go(n, image, pool, table, counts);
+        come(n, image, pool, table, counts);
+        go(n, pool, table, counts);
     }
 }
 
 fn no_more(image: &[u8], pool: &mut [u8], table: &mut [u32], counts: &mut [u64]) {
-    let before = trial_compare::sum_of(pool, table);
+    let mut bytes = [0u8; 64];
+    let mut entries = [0u32; 35];
+    trial_compare::copy(pool, table, &mut bytes, &mut entries);
     let a = store::backup(pool, table, 0, 0, image);
-    counts::answered(counts, counts::BACKUPS, a.refusal, 12);
-    trial_judge::buffers(a.refusal, before, pool, table, counts);
+    trial_judge::backup_refused(a, 12, counts);
+    trial_judge::unaltered(&bytes, &entries, pool, table, counts);
 }
 
 fn none_held(pool: &[u8], table: &[u32], counts: &mut [u64]) {
     let a = store::listing(pool, table, 0, 0);
     counts::answered(counts, counts::LISTINGS, a.refusal, 0);
+    counts::expect(counts, a.oldest == 0);
     counts::expect(counts, a.newest == 0);
     counts::expect(counts, a.last == 65535);
 }
 
 // All 65,535 numbers are given, and no more.
 fn to_the_last(image: &[u8], pool: &mut [u8], table: &mut [u32], counts: &mut [u64]) {
-    trial_calls::lay_out(with_one(0, 1), pool, table, counts, 0);
     every_number(image, pool, table, counts);
     no_more(image, pool, table, counts);
     none_held(pool, table, counts);
+}
+
+fn on_store(image: &[u8], pool: &mut [u8], table: &mut [u32], counts: &mut [u64]) {
+    trial_calls::lay_out(with_one(0, 1), pool, table, counts, 0);
+    to_the_last(image, pool, table, counts);
 }
 
 pub fn last_number(counts: &mut [u64]) {
     let image = [65u8; 50];
     let mut pool = [0u8; 64];
     let mut table = [0u32; 35];
-    to_the_last(&image, &mut pool, &mut table, counts);
+    on_store(&image, &mut pool, &mut table, counts);
 }

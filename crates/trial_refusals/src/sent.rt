@@ -30,39 +30,6 @@ fn refuse_offer(
     counts::expect_unaltered(counts, trial_compare::unmarked(marks) == 0);
 }
 
-// A second one is refused, and the buffers stay.
-fn refuse(
-    bytes: u32,
-    prints: &[u8],
-    marks: &[u8],
-    segments: &[u8],
-    pool: &mut [u8],
-    table: &mut [u32],
-    counts: &mut [u64],
-    expected: u32,
-) {
-    let before = trial_compare::sum_of(pool, table);
-    let a = store::backup_sent(pool, table, 0, 0, bytes, prints, marks, segments);
-    counts::answered(counts, counts::BACKUPS, a.refusal, expected);
-    counts::expect(counts, a.version == 0);
-    trial_judge::buffers(expected, before, pool, table, counts);
-}
-
-// One is taken, as a version.
-fn take(
-    prints: &[u8],
-    marks: &[u8],
-    segments: &[u8],
-    pool: &mut [u8],
-    table: &mut [u32],
-    counts: &mut [u64],
-    version: u32,
-) {
-    let a = store::backup_sent(pool, table, 0, 0, 576, prints, marks, segments);
-    counts::answered(counts, counts::BACKUPS, a.refusal, 0);
-    counts::expect(counts, a.version == version);
-}
-
 // A fingerprint and part of one, and one mark for two.
 fn offered_wrong(prints: &[u8], pool: &[u8], table: &[u32], counts: &mut [u64]) {
     let mut marks = [0u8; 1];
@@ -70,8 +37,75 @@ fn offered_wrong(prints: &[u8], pool: &[u8], table: &[u32], counts: &mut [u64]) 
     refuse_offer(prints, &mut marks, pool, table, counts, 4);
 }
 
-// All sent, of which one has another fingerprint, or a byte follows the length; and one mark of 2 for two of 1.
-fn sent_wrong(
+// On what is no sound store.
+fn offered_unsound(prints: &[u8], pool: &[u8], table: &[u32], counts: &mut [u64]) {
+    let mut marks = [0u8; 2];
+    refuse_offer(prints, &mut marks, pool, table, counts, 10);
+}
+
+// A second message: the length, both marks, what follows (1 the image, 2 another one, 0 nothing); the number and the version that are expected.
+struct Message {
+    bytes: u32,
+    first: u8,
+    second: u8,
+    follows: u32,
+    expected: u32,
+    version: u32,
+}
+
+fn refused(bytes: u32, first: u8, second: u8, follows: u32, expected: u32) -> Message {
+    Message {
+        bytes: bytes,
+        first: first,
+        second: second,
+        follows: follows,
+        expected: expected,
+        version: 0,
+    }
+}
+
+fn taken(mark: u8, follows: u32, version: u32) -> Message {
+    Message {
+        bytes: 576,
+        first: mark,
+        second: mark,
+        follows: follows,
+        expected: 0,
+        version: version,
+    }
+}
+
+// All sent, of which one has another fingerprint, or a byte follows the length; one mark of 2 for two of 1; nothing sent that the box lacks, then all. Now the
+// box has the image and nothing needs to be sent; but a byte follows a lesser length. The last is for what is no sound store.
+fn message_of(n: u32) -> Message {
+    match n {
+        0 => refused(576, 1, 1, 2, 19),
+        1 => refused(575, 1, 1, 1, 19),
+        2 => refused(576, 2, 0, 1, 4),
+        3 => refused(576, 0, 0, 0, 20),
+        4 => taken(1, 1, 1),
+        5 => taken(0, 0, 2),
+        6 => refused(575, 0, 0, 0, 19),
+        _ => refused(576, 1, 1, 1, 10),
+    }
+}
+
+fn send(
+    m: Message,
+    prints: &[u8],
+    segments: &[u8],
+    pool: &mut [u8],
+    table: &mut [u32],
+    counts: &mut [u64],
+) {
+    let marks = [m.first, m.second];
+    let a = store::backup_sent(pool, table, 0, 0, m.bytes, prints, &marks, segments);
+    counts::answered(counts, counts::BACKUPS, a.refusal, m.expected);
+    counts::expect(counts, a.version == m.version);
+}
+
+fn send_one(
+    m: Message,
     prints: &[u8],
     image: &[u8],
     other: &[u8],
@@ -79,35 +113,52 @@ fn sent_wrong(
     table: &mut [u32],
     counts: &mut [u64],
 ) {
-    refuse(576, prints, b"\x01\x01", other, pool, table, counts, 19);
-    refuse(575, prints, b"\x01\x01", image, pool, table, counts, 19);
-    refuse(576, prints, b"\x02\0", image, pool, table, counts, 4);
+    if m.follows == 0 {
+        send(m, prints, b"", pool, table, counts);
+    } else if m.follows == 1 {
+        send(m, prints, image, pool, table, counts);
+    } else {
+        send(m, prints, other, pool, table, counts);
+    }
 }
 
-// Nothing is sent that the box lacks; then all is.
-fn lacked(prints: &[u8], image: &[u8], pool: &mut [u8], table: &mut [u32], counts: &mut [u64]) {
-    refuse(576, prints, b"\0\0", b"", pool, table, counts, 20);
-    take(prints, b"\x01\x01", image, pool, table, counts, 1);
+// A refusal leaves the buffers.
+fn send_judged(
+    m: Message,
+    prints: &[u8],
+    image: &[u8],
+    other: &[u8],
+    pool: &mut [u8],
+    table: &mut [u32],
+    counts: &mut [u64],
+) {
+    let mut bytes = [0u8; 2048];
+    let mut entries = [0u32; 240];
+    trial_compare::copy(pool, table, &mut bytes, &mut entries);
+    send_one(m, prints, image, other, pool, table, counts);
+    trial_judge::buffers(m.expected, &bytes, &entries, pool, table, counts);
 }
 
-// The box has the image: nothing needs to be sent. But a byte follows a lesser length.
-fn had(prints: &[u8], pool: &mut [u8], table: &mut [u32], counts: &mut [u64]) {
-    take(prints, b"\0\0", b"", pool, table, counts, 2);
-    refuse(575, prints, b"\0\0", b"", pool, table, counts, 19);
+fn send_each(
+    prints: &[u8],
+    image: &[u8],
+    other: &[u8],
+    pool: &mut [u8],
+    table: &mut [u32],
+    counts: &mut [u64],
+) {
+    let mut n = 0;
+    while n < 7 {
+        send_judged(message_of(n), prints, image, other, pool, table, counts);
+        n += 1;
+    }
 }
 
 // With a reserved word of the till that is not zero, both are refused.
 fn unsound(prints: &[u8], image: &[u8], pool: &mut [u8], table: &mut [u32], counts: &mut [u64]) {
-    let mut marks = [0u8; 2];
     trial_keeper::put_note(table, 11, 1);
-    refuse_offer(prints, &mut marks, pool, table, counts, 10);
-    refuse(576, prints, b"\x01\x01", image, pool, table, counts, 10);
-}
-
-fn kept(prints: &[u8], image: &[u8], pool: &mut [u8], table: &mut [u32], counts: &mut [u64]) {
-    offered_wrong(prints, pool, table, counts);
-    lacked(prints, image, pool, table, counts);
-    had(prints, pool, table, counts);
+    offered_unsound(prints, pool, table, counts);
+    send_judged(message_of(7), prints, image, image, pool, table, counts);
 }
 
 fn in_turn(
@@ -118,8 +169,8 @@ fn in_turn(
     table: &mut [u32],
     counts: &mut [u64],
 ) {
-    sent_wrong(prints, image, other, pool, table, counts);
-    kept(prints, image, pool, table, counts);
+    offered_wrong(prints, pool, table, counts);
+    send_each(prints, image, other, pool, table, counts);
     unsound(prints, image, pool, table, counts);
 }
 

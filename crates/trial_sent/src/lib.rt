@@ -345,6 +345,23 @@ fn both(
     filled_up(c, sender, image.len(), &whole, pool, table, counts)
 }
 
+// A refusal leaves the buffers.
+fn both_judged(
+    c: Capacities,
+    sender: Sender,
+    image: &[u8],
+    pool: &mut [u8],
+    table: &mut [u32],
+    counts: &mut [u64],
+) -> BackedUp {
+    let mut bytes = [0u8; trial_compare::POOL];
+    let mut entries = [0u32; trial_compare::TABLE];
+    trial_compare::copy(pool, table, &mut bytes, &mut entries);
+    let a = both(c, sender, image, pool, table, counts);
+    trial_judge::buffers(a.refusal, &bytes, &entries, pool, table, counts);
+    a
+}
+
 // Judged as the backup of the whole image.
 pub fn back_up(
     c: Capacities,
@@ -357,13 +374,11 @@ pub fn back_up(
     notes: &mut [u32],
     counts: &mut [u64],
 ) {
-    let before = trial_compare::sum_of(pool, table);
     let sender = Sender {
         user: user,
         till: till,
         refusal: trial_keeper::refusal_of(c, notes, user, till, trial_keeper::BACK_UP),
     };
-    let a = both(c, sender, image, pool, table, counts);
-    trial_judge::buffers(a.refusal, before, pool, table, counts);
+    let a = both_judged(c, sender, image, pool, table, counts);
     trial_judge::backed_up(a, c, user, till, image, images, notes, counts);
 }

@@ -12,7 +12,7 @@ fn refuse_image(
     counts: &mut [u64],
 ) {
     let a = store::backup(pool, table, user, till, image);
-    counts::answered(counts, counts::BACKUPS, a.refusal, 10);
+    trial_judge::backup_refused(a, 10, counts);
 }
 
 fn refuse_backup(user: u32, till: u32, pool: &mut [u8], table: &mut [u32], counts: &mut [u64]) {
@@ -29,7 +29,7 @@ fn refuse_retire(
     counts: &mut [u64],
 ) {
     let a = store::retire(pool, table, user, till, version);
-    counts::answered(counts, counts::RETIRES, a.refusal, 10);
+    trial_judge::retire_refused(a, 10, counts);
 }
 
 fn refuse_rights(user: u32, till: u32, pool: &[u8], table: &mut [u32], counts: &mut [u64]) {
@@ -51,11 +51,24 @@ fn refuse_writes(
     table: &mut [u32],
     counts: &mut [u64],
 ) {
-    let before = trial_compare::sum_of(pool, table);
     refuse_backup(user, till, pool, table, counts);
     refuse_retire(user, till, version, pool, table, counts);
     refuse_rights(user, till, pool, table, counts);
-    trial_judge::buffers(10, before, pool, table, counts);
+}
+
+fn refuse_changes(
+    user: u32,
+    till: u32,
+    version: u32,
+    pool: &mut [u8],
+    table: &mut [u32],
+    counts: &mut [u64],
+) {
+    let mut bytes = [0u8; trial_compare::POOL];
+    let mut entries = [0u32; trial_compare::TABLE];
+    trial_compare::copy(pool, table, &mut bytes, &mut entries);
+    refuse_writes(user, till, version, pool, table, counts);
+    trial_judge::unaltered(&bytes, &entries, pool, table, counts);
 }
 
 fn refuse_output(
@@ -69,8 +82,7 @@ fn refuse_output(
 ) {
     trial_compare::mark(output);
     let a = store::restore(pool, table, user, till, version, output);
-    counts::answered(counts, counts::RESTORES, a.refusal, 10);
-    trial_judge::not_restored(a, output, counts);
+    trial_judge::restore_refused(a, 10, output, counts);
 }
 
 fn refuse_restore(
@@ -87,9 +99,9 @@ fn refuse_restore(
 
 fn refuse_reads(user: u32, till: u32, pool: &[u8], table: &[u32], counts: &mut [u64]) {
     let a = store::listing(pool, table, user, till);
-    counts::answered(counts, counts::LISTINGS, a.refusal, 10);
+    trial_judge::listing_refused(a, 10, counts);
     let b = store::tally(pool, table, user);
-    counts::answered(counts, counts::TALLIES, b.refusal, 10);
+    trial_judge::tally_refused(b, 10, counts);
 }
 
 fn refuse_all(
@@ -100,7 +112,7 @@ fn refuse_all(
     table: &mut [u32],
     counts: &mut [u64],
 ) {
-    refuse_writes(user, till, version, pool, table, counts);
+    refuse_changes(user, till, version, pool, table, counts);
     refuse_restore(user, till, version, pool, table, counts);
     refuse_reads(user, till, pool, table, counts);
 }

@@ -7,47 +7,47 @@ use Rattle.trial_refusals.proofs.ranges.Statement.{statement}
 use Rattle.trial_refusals.proofs.ranges.Tie as tie
 use Rattle.trial_refusals.proofs.ranges.Reads as reads
 use Rattle.trial_refusals.proofs.ranges.Lts as lts
-use Rattle.trial_refusals.proofs.ranges_of.Reads as ranges-of-reads
+use Rattle.trial_refusals.proofs.lay_out_past.Reads as lay-out-past-reads
 
 abbrev Inv-loop : tie.InvT-loop
-Inv-loop pool₀ table₀ counts₀ n₀ pool table counts n = (n ≤ 5) × (length pool ≡ length pool₀) × (length table ≡ length table₀) × (length counts ≡ length counts₀)
+Inv-loop pool₀ table₀ counts₀ n₀ pool table counts n = (n ≤ 20) × (length pool ≡ length pool₀) × (length table ≡ length table₀) × (length counts ≡ length counts₀)
 
 abbrev μ-loop : tie.MeasureT-loop
-μ-loop pool₀ table₀ counts₀ n₀ pool table counts n = 5 - n
+μ-loop pool₀ table₀ counts₀ n₀ pool table counts n = 20 - n
 
--- src/lib.rt:60:5
+-- src/lib.rt:139:5
 loop-holds : tie.Need-loop-holds Inv-loop μ-loop
 loop-holds c = search needs
 
--- src/lib.rt:61:9
-ranges-of-requires : tie.Need-ranges-of-requires Inv-loop μ-loop
-ranges-of-requires c κs = search needs
+-- src/lib.rt:140:9
+lay-out-past-requires : tie.Need-lay-out-past-requires Inv-loop μ-loop
+lay-out-past-requires c κs = search needs
 
--- src/lib.rt:62:9
+-- src/lib.rt:141:9
 add-n : tie.Need-add-n Inv-loop μ-loop
 add-n c = search needs
 
--- src/lib.rt:60:5
+-- src/lib.rt:139:5
 loop-less : tie.Need-loop-less Inv-loop μ-loop
 loop-less c = search needs
 
--- src/lib.rt:60:5
+-- src/lib.rt:139:5
 loop-again : tie.Need-loop-again Inv-loop μ-loop
 loop-again c = search needs
 
--- src/lib.rt:58:1
+-- src/lib.rt:137:1
 same-length : tie.Need-same-length Inv-loop μ-loop
 same-length c = search needs
 
--- src/lib.rt:58:1
+-- src/lib.rt:137:1
 same-length-2 : tie.Need-same-length-2 Inv-loop μ-loop
 same-length-2 c = search needs
 
--- src/lib.rt:58:1
+-- src/lib.rt:137:1
 same-length-3 : tie.Need-same-length-3 Inv-loop μ-loop
 same-length-3 c = search needs
 
--- src/lib.rt:58:1
+-- src/lib.rt:137:1
 returns : tie.Need-returns Inv-loop μ-loop
 returns c = search needs
 
@@ -58,7 +58,7 @@ ranges-spec =
     Inv-loop
     μ-loop
     loop-holds
-    ranges-of-requires
+    lay-out-past-requires
     add-n
     loop-less
     loop-again
