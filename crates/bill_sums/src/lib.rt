@@ -240,5 +240,13 @@ pub fn bill_store(pool: &[u8], table: &[u32], price: u32) -> Bill
     let count = table[0] as usize;
     let blocks = table[2] as usize;
     let records = table[3] as usize;
-    bill_tills(&table[layout::HEADER_WORDS..], width, count, m.bytes, blocks, records, price)
+    bill_tills(
+        &table[layout::HEADER_WORDS..],
+        width,
+        count,
+        m.bytes,
+        blocks,
+        records,
+        price,
+    )
 }
