@@ -22,7 +22,7 @@ use Rattle.closing.specs.Closing.{TillImage, backupOne, backupEach}
 use Rattle.history.specs.Calls.{Call, callLayout, callBackup, callRestore, callRetire, callListing, callVersionOn, callTally, callBill, callWriteStream, callOffer, callBackupSent, callBackupAll, callSetRights, Answer, refusalIn, stateAfter, isAccepted, tillNamed}
 use Rattle.history.specs.Users.{forUser, answerInBy}
 use Rattle.history.specs.Keeper.{CallMade, backupFor, backupsMade}
-use Rattle.history.specs.View.{TillView, viewAt, changed, IsPlain}
+use Rattle.history.proofs.View.{TillView, viewAt, changed, IsPlain}
 use Rattle.history.specs.Apart.{FromTill, IsFromTill}
 use Rattle.history.proofs.Frame.{frame-own, frame-other}
 use Rattle.history.proofs.Reach.{one-sound}

@@ -29,7 +29,7 @@ use Rattle.laws.proofs.Unless.{unless-some}
 use Rattle.history.specs.Calls.{Call, callLayout, callBackup, callRestore, callRetire, callListing, callVersionOn, callTally, callBill, callWriteStream, callOffer, callBackupSent, callBackupAll, callSetRights, Buffers, Answer, restored, retired, listed, foundOn, tallied, billed, streamed, backedUpAll, refusalIn, answerIn, tillNamed}
 use Rattle.history.specs.Users.{buffersBy, answerBy, forUser, stateBy, answerInBy}
 use Rattle.history.specs.Keeper.{itself, comesTo}
-use Rattle.history.specs.View.{viewAt}
+use Rattle.history.proofs.View.{viewAt}
 use Rattle.history.specs.Demand.{laidOutIn}
 use Rattle.history.specs.Apart.{Item, both, first, second, Lacks, FromTill, IsFromTill, segmentsMet, InBoth, Differ, SameAnswer, Agree, NonInterference}
 use Rattle.history.proofs.Steps.{Left, left-laid}

@@ -24,7 +24,7 @@ use Rattle.closing.specs.Closing.{TillImage, imagesIn, closingFits, backupEach,
 use Rattle.history.specs.Calls.{Call, callLayout, callBackup, callRestore, callRetire, callListing, callVersionOn, callTally, callBill, callWriteStream, callOffer, callBackupSent, callBackupAll, callSetRights, Buffers, Answer, refusalIn, refusedLayout, tillNamed}
 use Rattle.history.specs.Users.{UserCall, answerBy, refusalBy, forUser, stateBy, answerInBy}
 use Rattle.history.specs.Keeper.{imageOr, imageSent, CallMade, backupFor, backupsMade, closingMade, itself, comesTo}
-use Rattle.history.specs.View.{TillView, isOnTill, changed, IsPlain}
+use Rattle.history.proofs.View.{TillView, isOnTill, changed, IsPlain}
 use Rattle.history.specs.Apart.{both, second, IsOn, FromTill, IsFromTill, sentWith, segmentsMet}
 use Rattle.history.proofs.Steps.{Left, left-store, closing-same}
 use Rattle.history.proofs.Users.{answer-by}

@@ -22,7 +22,7 @@ use Rattle.model.specs.Rights.{toBackUp, toRestore, userRefusal, backupRefusal,
 use Rattle.history.specs.Calls.{Call, callBackup, callBackupSent, callRestore, callRetire, callListing, Buffers, Answer, laidOut, backedUp, restored, retired, listed, foundOn, tallied, billed, streamed, offered, backedUpAll, rightsSet, answerOf, refusalIn, tillNamed}
 use Rattle.history.specs.Users.{answerBy, refusalBy}
 use Rattle.history.specs.Keeper.{Kept, KeptTill, Keeper, noTill, keptTill, filed, imageSent, change, fed, fedEach, comesTo, keptFrom, oldestKept, newestKept}
-use Rattle.history.specs.View.{VersionView, TillView, viewOf, viewAt, isOnTill, chainShown, newestDayShown, dayShown, shownFrom, oldestShown, newestShown, restoreShown, retireShown, answerShown}
+use Rattle.history.proofs.View.{VersionView, TillView, viewOf, viewAt, isOnTill, chainShown, newestDayShown, dayShown, shownFrom, oldestShown, newestShown, restoreShown, retireShown, answerShown}
 use Rattle.sent.specs.Sent.{backupSentBy, backupSentOf, backupSentAs}
 use Rattle.history.specs.Demand.{Restores}
 use Rattle.history.proofs.Sent.{accepted-is}

@@ -24,7 +24,7 @@ use Rattle.closing.specs.Closing.{TillImage, imagesIn, closingFits, backupOne, 
 use Rattle.history.specs.Calls.{Call, callLayout, callBackup, callRestore, callRetire, callListing, callVersionOn, callTally, callBill, callWriteStream, callOffer, callBackupSent, callBackupAll, callSetRights, Buffers, Answer, stateAfter, answerIn, refusalIn, isAccepted, tillNamed}
 use Rattle.history.specs.Users.{answerBy, refusalBy, forUser, stateBy, answerInBy}
 use Rattle.history.specs.Keeper.{imageSent, CallMade, backupFor, backupsMade, closingMade, itself, comesTo}
-use Rattle.history.specs.View.{viewAt, IsPlain}
+use Rattle.history.proofs.View.{viewAt, IsPlain}
 use Rattle.history.proofs.Sent.{here, sent-alike}
 use Rattle.history.proofs.Reach.{sound-after}
 use Rattle.history.proofs.Frame.{frame-other}

@@ -18,7 +18,7 @@ use Rattle.model.specs.Sound.{isSound, leads, nextPointers, areTraceable}
 use Rattle.model.specs.Calls.{emptyTill, tillOf, heldFrom}
 use Rattle.laws.proofs.Fits.{Proper}
 use Rattle.laws.proofs.Turn.{lead-at}
-use Rattle.history.specs.View.{VersionView, viewVersions, viewOf, viewAt, chainShown, shownFrom}
+use Rattle.history.proofs.View.{VersionView, viewVersions, viewOf, viewAt, chainShown, shownFrom}
 use Rattle.history.proofs.Shown.{from-same, chain-is, views-length}
 use Rattle.history.proofs.Traced.{till-ok}
 

@@ -24,7 +24,7 @@ use Rattle.laws.proofs.Backup.{backup-day}
 use Rattle.history.specs.Calls.{Call, callLayout, callBackup, callRestore, callRetire, callListing, callVersionOn, callTally, callBill, callWriteStream, callOffer, callBackupSent, callBackupAll, callSetRights, Buffers, stateAfter, answerIn, refusalIn, isAccepted, tillNamed}
 use Rattle.history.specs.Users.{UserCall, buffersBy, stateBy, refusedLayouts, stateAfterAll}
 use Rattle.history.specs.Keeper.{Kept, KeptTill, Keeper, noTill, keptTill, newestKept, keptNotAfter, CallMade, comesTo}
-use Rattle.history.specs.View.{VersionView, TillView, viewVersions, viewOf, viewAt, withKinds, turnNewest, newestDayShown, dayShown, shownWith, takeOverKind, dropVersion, shownWithout, shownRights, changed, IsPlain, shownNotAfter}
+use Rattle.history.proofs.View.{VersionView, TillView, viewVersions, viewOf, viewAt, withKinds, turnNewest, newestDayShown, dayShown, shownWith, takeOverKind, dropVersion, shownWithout, shownRights, changed, IsPlain, shownNotAfter}
 use Rattle.history.specs.Demand.{NeverFall, Days}
 use Rattle.history.proofs.Shown.{lastOf, newestOf, newest-day-is, day-is, views-days, newest-or-none, of-views}
 use Rattle.history.proofs.Numbered.{Numbered, backup-numbered}

@@ -22,8 +22,8 @@ use Rattle.laws.proofs.Unless.{unless-none, accepted-none}
 use Rattle.history.specs.Calls.{Buffers}
 use Rattle.history.specs.Users.{buffersAfterAll, stateAfterAll}
 use Rattle.history.specs.Keeper.{Kept, Keeper, freshKeeper, fedAll, keptFrom, keptTill}
-use Rattle.history.specs.Kinds.{kindOf}
-use Rattle.history.specs.View.{viewVersions, viewOf, viewAt}
+use Rattle.history.proofs.PointerKinds.{kindOf}
+use Rattle.history.proofs.View.{viewVersions, viewOf, viewAt}
 use Rattle.history.specs.Demand.{IsDirect, Shares, Cells, Holds, laidOutIn, Demand3, pointersHeld}
 use Rattle.history.proofs.Shown.{from-same, shown-numbers}
 use Rattle.history.proofs.Kept.{isDirectKind, Agree, agree-from, agree-numbers}

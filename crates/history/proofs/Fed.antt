@@ -18,7 +18,7 @@ use Rattle.laws.proofs.Fits.{Proper}
 use Rattle.history.specs.Calls.{Call, callLayout, callBackup, callRestore, callRetire, callListing, callVersionOn, callTally, callBill, callWriteStream, callOffer, callBackupSent, callBackupAll, callSetRights, Buffers, stateAfter, answerIn, refusalIn, isAccepted, tillNamed}
 use Rattle.history.specs.Users.{UserCall, buffersBy, stateBy, refusedLayouts, stateAfterAll}
 use Rattle.history.specs.Keeper.{KeptTill, Keeper, noTill, freshKeeper, keptTill, filed, struckOut, change, fed, CallMade, fedEach, comesTo, fedAll}
-use Rattle.history.specs.View.{TillView, viewVersions, viewOf, viewAt, changed, IsPlain}
+use Rattle.history.proofs.View.{TillView, viewVersions, viewOf, viewAt, changed, IsPlain}
 use Rattle.history.proofs.Kept.{AgreeTill, till-filed, till-struck, till-rights}
 use Rattle.history.proofs.Shown.{shown-numbers}
 use Rattle.history.proofs.Frame.{frame-own, frame-other}

@@ -19,7 +19,7 @@ use Rattle.laws.proofs.Backup.{Filed}
 use Rattle.laws.proofs.Takeover.{Between, between}
 use Rattle.laws.proofs.Retire.{Retired}
 use Rattle.laws.proofs.Keys.{RightsSet}
-use Rattle.history.specs.View.{VersionView, viewVersions, viewOf, viewAt, newKind, turnNewest, dayShown, shownWith, dropVersion, shownWithout, shownRights}
+use Rattle.history.proofs.View.{VersionView, viewVersions, viewOf, viewAt, newKind, turnNewest, dayShown, shownWith, dropVersion, shownWithout, shownRights}
 use Rattle.history.proofs.Views.{view-path, view-again, views-again, views-extended, views-closed, new-image, new-kinds}
 use Rattle.history.proofs.Traced.{cuts, till-ok}
 use Rattle.history.proofs.Shown.{day-is}

@@ -20,8 +20,8 @@ use Rattle.model.specs.State.{Block, Pointer, Rights}
 use Rattle.model.specs.Image.{Era, isBlank, imageBlocks}
 use Rattle.model.specs.Turn.{indirectAt, turnsTo}
 use Rattle.history.specs.Keeper.{Kept, KeptTill, keptFrom, oldestKept, newestKept, newestDayKept, dayKept, filed, struckOut, rightsKept}
-use Rattle.history.specs.Kinds.{Kind, zeroKind, blankKind, directKind, indirectKind, kindAt}
-use Rattle.history.specs.View.{VersionView, TillView, newKind, turnedKind, withKinds, turnNewest, newestDayShown, dayShown, shownWith, takeOverKind, dropVersion, shownWithout, shownRights, shownFrom, oldestShown, newestShown}
+use Rattle.history.proofs.PointerKinds.{Kind, zeroKind, blankKind, directKind, indirectKind, kindAt}
+use Rattle.history.proofs.View.{VersionView, TillView, newKind, turnedKind, withKinds, turnNewest, newestDayShown, dayShown, shownWith, takeOverKind, dropVersion, shownWithout, shownRights, shownFrom, oldestShown, newestShown}
 
 unfoldable pub isDirectKind : Kind → Bool
 isDirectKind zeroKind = false

@@ -21,7 +21,7 @@ use Rattle.laws.proofs.Unless.{unless-none, unless-some, accepted-none}
 use Rattle.history.specs.Calls.{Call, callLayout, callBackup, callRestore, callRetire, callListing, callVersionOn, callTally, callBill, callWriteStream, callOffer, callBackupSent, callBackupAll, callSetRights, Buffers, refusalIn, tillNamed}
 use Rattle.history.specs.Users.{rightFor, answerBy, refusalBy}
 use Rattle.history.specs.Keeper.{Keeper, keptTill}
-use Rattle.history.specs.View.{viewOf}
+use Rattle.history.proofs.View.{viewOf}
 use Rattle.history.specs.Demand.{Keys}
 use Rattle.history.proofs.Steps.{Left, left-store, rights-same}
 use Rattle.history.proofs.Users.{refusal-at, set-refusal}

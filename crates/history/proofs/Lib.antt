@@ -29,3 +29,5 @@ pub mod Apart
 pub mod Demand
 pub mod Together
 pub mod Differ
+pub mod View
+pub mod PointerKinds

@@ -9,7 +9,7 @@ use Rattle.model.specs.State.{State}
 use Rattle.model.specs.Sound.{isSound}
 use Rattle.laws.proofs.Fits.{Proper}
 use Rattle.history.specs.Calls.{Call, stateAfter, isAccepted, tillNamed}
-use Rattle.history.specs.View.{viewAt, changed, IsPlain}
+use Rattle.history.proofs.View.{viewAt, changed, IsPlain}
 use Rattle.history.proofs.Reach.{sound-after}
 use Rattle.history.proofs.Frame.{frame-own, frame-other}
 

@@ -12,7 +12,7 @@ use Rattle.stream.specs.Stream.{streamRefusal}
 use Rattle.stream.specs.Version.{writeVersion}
 use Rattle.history.specs.Calls.{Call, callLayout, callBackup, callRestore, callRetire, callListing, callVersionOn, callTally, callBill, callWriteStream, callOffer, callBackupSent, callBackupAll, callSetRights, backedUp, restored, retired, listed, foundOn, streamed, rightsSet, answerIn, tillNamed}
 use Rattle.history.specs.Users.{answerInBy}
-use Rattle.history.specs.View.{TillView, viewOf, viewAt, isOnTill, answerShown}
+use Rattle.history.proofs.View.{TillView, viewOf, viewAt, isOnTill, answerShown}
 use Rattle.history.proofs.Users.{set-refusal}
 use Rattle.history.proofs.Local.{Roomy, HasRoom, answer-in}
 

@@ -17,8 +17,8 @@ use Rattle.model.specs.Trace.{imageOf, hopsVia, hops, longestChain}
 use Rattle.model.specs.Sound.{isSound, isTill, isNumbered}
 use Rattle.model.specs.Calls.{emptyTill, tillOf, heldFrom, oldestNumber, newestNumber, newestDay, dayFor, VersionOnAnswer, notAfter, newestOrNone}
 use Rattle.laws.proofs.Serves.{sound-valid}
-use Rattle.history.specs.Kinds.{Kind, kindOf, hopsOfKind}
-use Rattle.history.specs.View.{VersionView, viewVersions, viewOf, viewAt, hopsShown, chainShown, shownFrom, oldestShown, newestShown, newestDayShown, dayShown, shownNotAfter, newestShownOrNone}
+use Rattle.history.proofs.PointerKinds.{Kind, kindOf, hopsOfKind}
+use Rattle.history.proofs.View.{VersionView, viewVersions, viewOf, viewAt, hopsShown, chainShown, shownFrom, oldestShown, newestShown, newestDayShown, dayShown, shownNotAfter, newestShownOrNone}
 
 -- the last of the numbers that are there, or 29
 unfoldable pub lastOf : List ℕ → ℕ

@@ -26,7 +26,7 @@ use Rattle.stream_laws.proofs.Ranges.{has-yes}
 use Rattle.stream_laws.proofs.Theorems.{claims}
 use Rattle.history.specs.Calls.{Buffers}
 use Rattle.history.specs.Keeper.{Kept, Keeper, keptTill, keptFrom}
-use Rattle.history.specs.View.{viewVersions, viewOf, viewAt, shownFrom}
+use Rattle.history.proofs.View.{viewVersions, viewOf, viewAt, shownFrom}
 use Rattle.history.specs.Demand.{Streams}
 use Rattle.history.proofs.Shown.{from-same}
 use Rattle.history.proofs.Chains.{from-traceable, all-traceable}

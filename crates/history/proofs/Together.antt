@@ -11,7 +11,7 @@ use Rattle.model.specs.Trace.{imageOf}
 use Rattle.model.specs.Calls.{emptyState, tillOf}
 use Rattle.history.specs.Calls.{Call, callLayout, callBackup, callRestore, callRetire, callListing, callVersionOn, callTally, callBill, callWriteStream, callOffer, callBackupSent, callBackupAll, callSetRights, Buffers, refusedLayout, refusalIn, stateAfter, isAccepted, tillNamed}
 use Rattle.history.specs.Users.{UserCall, buffersBy, answerBy, refusalBy, stateBy, answerInBy, buffersAfterAll, stateAfterAll}
-use Rattle.history.specs.View.{VersionView, TillView, viewVersions, viewOf, viewAt, chainShown, isOnTill, IsPlain}
+use Rattle.history.proofs.View.{VersionView, TillView, viewVersions, viewOf, viewAt, chainShown, isOnTill, IsPlain}
 use Rattle.history.specs.Demand.{laidOutIn}
 use Rattle.history.specs.Together.{IsBackupRestoreOrRetire, AcceptedInTurn, HeldVersion, heldVersions, heldBy, SameTills, OrderFree, EitherOrder}
 use Rattle.history.proofs.Shown.{chain-is}

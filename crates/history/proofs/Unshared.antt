@@ -21,7 +21,7 @@ use Rattle.sent.specs.Sent.{segmentBytes, contents, zeroSegment, assembled, sen
 use Rattle.sent.specs.Claims.{NoneShare, segmentsSent}
 use Rattle.sent_laws.proofs.Alike.{assembled-alike}
 use Rattle.history.specs.Calls.{callBackup, answerIn, tillNamed}
-use Rattle.history.specs.View.{TillView, viewOf, viewAt}
+use Rattle.history.proofs.View.{TillView, viewOf, viewAt}
 use Rattle.history.specs.Apart.{both, second, IsFromTill}
 use Rattle.history.proofs.Shown.{views-length}
 use Rattle.history.proofs.Local.{outcomeAnswer}

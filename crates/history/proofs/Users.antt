@@ -23,7 +23,7 @@ use Rattle.sent.specs.Sent.{OfferAnswer, offerIn, offerOf, offerAs, backupSent,
 use Rattle.laws.proofs.Unless.{unless-none, accepted-none}
 use Rattle.history.specs.Calls.{Call, callLayout, callBackup, callRestore, callRetire, callListing, callVersionOn, callTally, callBill, callWriteStream, callOffer, callBackupSent, callBackupAll, callSetRights, Buffers, laidOut, backedUp, retired, backedUpAll, rightsSet, refusalIn, refusedLayout, buffersAfter, stateAfter, answerIn, isAccepted}
 use Rattle.history.specs.Users.{UserCall, buffersBy, answerBy, forUser, stateBy, answerInBy, buffersAfterAll, answersOf, refusedLayouts, stateAfterAll, answersIn}
-use Rattle.history.specs.View.{IsPlain}
+use Rattle.history.proofs.View.{IsPlain}
 use Rattle.history.proofs.Reach.{sound-after, closing-sound, rights-good, unless-sound}
 use Rattle.history.proofs.Steps.{Left, left-store, left-one, closing-left, rights-left, closing-same, rights-same}
 

@@ -31,8 +31,8 @@ use Rattle.laws.proofs.Turn.{NewOk, extended, traced-same, turn-length, plain-e
 use Rattle.laws.proofs.Takeover.{close-traced}
 use Rattle.laws.proofs.Image.{blocks-joined}
 use Rattle.laws.proofs.Fits.{Proper}
-use Rattle.history.specs.Kinds.{Kind, zeroKind, blankKind, directKind, kindOf, kindAt}
-use Rattle.history.specs.View.{VersionView, viewVersions, viewOf, newKind, turnedKind, withKinds, turnNewest, takeOverKind, dropVersion}
+use Rattle.history.proofs.PointerKinds.{Kind, zeroKind, blankKind, directKind, kindOf, kindAt}
+use Rattle.history.proofs.View.{VersionView, viewVersions, viewOf, newKind, turnedKind, withKinds, turnNewest, takeOverKind, dropVersion}
 
 pub view-path : (n n′ l l′ d d′ : ℕ) (i i′ : List ℕ) (k k′ : List Kind) → n ≡ n′ → l ≡ l′ → d ≡ d′ → i ≡ i′ → k ≡ k′
     → _≡_ {A = VersionView} (record { number = n; length = l; day = d; image = i; kinds = k }) (record { number = n′; length = l′; day = d′; image = i′; kinds = k′ })

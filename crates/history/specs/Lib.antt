@@ -2,8 +2,6 @@
 pub mod Calls
 pub mod Users
 pub mod Keeper
-pub mod Kinds
-pub mod View
 pub mod Demand
 pub mod Together
 pub mod Apart

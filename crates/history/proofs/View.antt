@@ -17,7 +17,7 @@ use Rattle.stream.specs.Version.{longestOutput, writeRestored}
 use Rattle.bill.specs.Bill.{billRefused}
 use Rattle.closing.specs.Closing.{allRefused}
 use Rattle.history.specs.Calls.{Call, callLayout, callBackup, callRestore, callRetire, callListing, callVersionOn, callTally, callBill, callWriteStream, callOffer, callBackupSent, callBackupAll, callSetRights, Answer, laidOut, backedUp, restored, retired, listed, foundOn, tallied, billed, streamed, offered, backedUpAll, rightsSet}
-use Rattle.history.specs.Kinds.{Kind, zeroKind, blankKind, directKind, indirectKind, kindOf, kindAt, hopsOfKind}
+use Rattle.history.proofs.PointerKinds.{Kind, zeroKind, blankKind, directKind, indirectKind, kindOf, kindAt, hopsOfKind}
 
 -- A version as its till shows it: number, length, day, image, what each pointer is and where an indirect one leads.
 pub record VersionView : Type 0 where
