@@ -19,7 +19,8 @@ use Rattle.model.specs.Calls.{backup, After, stateOr, outcomeRefusal}
 use Rattle.model.specs.Rights.{toBackUp}
 use Rattle.laws.proofs.Fits.{Proper}
 use Rattle.closing.specs.Closing.{TillImage, backupOne, backupEach}
-use Rattle.history.specs.Calls.{Call, callLayout, callBackup, callRestore, callRetire, callListing, callVersionOn, callTally, callBill, callWriteStream, callOffer, callBackupSent, callBackupAll, callSetRights, Answer, refusalIn, stateAfter, isAccepted, tillNamed}
+use Rattle.history.specs.Calls.{Call, callLayout, callBackup, callRestore, callRetire, callListing, callVersionOn, callTally, callBill, callWriteStream, callOffer, callBackupSent, callBackupAll, callSetRights, Answer, refusalIn, tillNamed}
+use Rattle.history.proofs.Calls.{stateAfter, isAccepted}
 use Rattle.history.specs.Users.{forUser, answerInBy}
 use Rattle.history.specs.Keeper.{CallMade, backupFor, backupsMade}
 use Rattle.history.proofs.View.{TillView, viewAt, changed, IsPlain}

@@ -26,7 +26,8 @@ use Rattle.sent.specs.Claims.{NoneShare}
 use Rattle.laws.proofs.Fits.{Proper}
 use Rattle.closing.specs.Closing.{TillImage, imagesIn, closingFits, backupOne, backupEach, allAnswer, backupAll}
 use Rattle.laws.proofs.Unless.{unless-some}
-use Rattle.history.specs.Calls.{Call, callLayout, callBackup, callRestore, callRetire, callListing, callVersionOn, callTally, callBill, callWriteStream, callOffer, callBackupSent, callBackupAll, callSetRights, Buffers, Answer, restored, retired, listed, foundOn, tallied, billed, streamed, backedUpAll, refusalIn, answerIn, tillNamed}
+use Rattle.history.specs.Calls.{Call, callLayout, callBackup, callRestore, callRetire, callListing, callVersionOn, callTally, callBill, callWriteStream, callOffer, callBackupSent, callBackupAll, callSetRights, Buffers, Answer, restored, retired, listed, foundOn, tallied, billed, streamed, backedUpAll, refusalIn, tillNamed}
+use Rattle.history.proofs.Calls.{answerIn}
 use Rattle.history.specs.Users.{buffersBy, answerBy, forUser, stateBy, answerInBy}
 use Rattle.history.specs.Keeper.{itself, comesTo}
 use Rattle.history.proofs.View.{viewAt}

@@ -19,7 +19,8 @@ use Rattle.laws.proofs.Tills.{not-held-some}
 use Rattle.model.specs.Sound.{storeOf}
 use Rattle.model.specs.Calls.{tillOf, heldFrom, BackupAnswer, backupBy, restoreOf, restoreRefusal, retireOf, listingOf, listingRefusal, RestoreAnswer, ListingAnswer, retire, backup, notHeld}
 use Rattle.model.specs.Rights.{toBackUp, toRestore, userRefusal, backupRefusal, restoreAs}
-use Rattle.history.specs.Calls.{Call, callBackup, callBackupSent, callRestore, callRetire, callListing, Buffers, Answer, laidOut, backedUp, restored, retired, listed, foundOn, tallied, billed, streamed, offered, backedUpAll, rightsSet, answerOf, refusalIn, tillNamed}
+use Rattle.history.specs.Calls.{Call, callBackup, callBackupSent, callRestore, callRetire, callListing, Buffers, Answer, laidOut, backedUp, restored, retired, listed, foundOn, tallied, billed, streamed, offered, backedUpAll, rightsSet, refusalIn, tillNamed}
+use Rattle.history.proofs.Calls.{answerOf}
 use Rattle.history.specs.Users.{answerBy, refusalBy}
 use Rattle.history.specs.Keeper.{Kept, KeptTill, Keeper, noTill, keptTill, filed, imageSent, change, fed, fedEach, comesTo, keptFrom, oldestKept, newestKept}
 use Rattle.history.proofs.View.{VersionView, TillView, viewOf, viewAt, isOnTill, chainShown, newestDayShown, dayShown, shownFrom, oldestShown, newestShown, restoreShown, retireShown, answerShown}

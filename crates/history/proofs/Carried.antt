@@ -21,7 +21,8 @@ use Rattle.sha1.specs.Sha1.{sha1}
 use Rattle.sent.specs.Sent.{backupSent}
 use Rattle.laws.proofs.Fits.{Proper}
 use Rattle.closing.specs.Closing.{TillImage, imagesIn, closingFits, backupOne, backupEach, AllAnswer, allRefused, allAnswer, closedOr, backupAll}
-use Rattle.history.specs.Calls.{Call, callLayout, callBackup, callRestore, callRetire, callListing, callVersionOn, callTally, callBill, callWriteStream, callOffer, callBackupSent, callBackupAll, callSetRights, Buffers, Answer, stateAfter, answerIn, refusalIn, isAccepted, tillNamed}
+use Rattle.history.specs.Calls.{Call, callLayout, callBackup, callRestore, callRetire, callListing, callVersionOn, callTally, callBill, callWriteStream, callOffer, callBackupSent, callBackupAll, callSetRights, Buffers, Answer, refusalIn, tillNamed}
+use Rattle.history.proofs.Calls.{stateAfter, answerIn, isAccepted}
 use Rattle.history.specs.Users.{answerBy, refusalBy, forUser, stateBy, answerInBy}
 use Rattle.history.specs.Keeper.{imageSent, CallMade, backupFor, backupsMade, closingMade, itself, comesTo}
 use Rattle.history.proofs.View.{viewAt, IsPlain}

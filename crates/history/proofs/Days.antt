@@ -21,7 +21,8 @@ use Rattle.model.specs.Calls.{emptyTill, emptyState, tillOf, After, backup, ret
 use Rattle.model.specs.Rights.{toList, versionOnRefusal, versionOnAs, setRights}
 use Rattle.laws.proofs.Fits.{Proper}
 use Rattle.laws.proofs.Backup.{backup-day}
-use Rattle.history.specs.Calls.{Call, callLayout, callBackup, callRestore, callRetire, callListing, callVersionOn, callTally, callBill, callWriteStream, callOffer, callBackupSent, callBackupAll, callSetRights, Buffers, stateAfter, answerIn, refusalIn, isAccepted, tillNamed}
+use Rattle.history.specs.Calls.{Call, callLayout, callBackup, callRestore, callRetire, callListing, callVersionOn, callTally, callBill, callWriteStream, callOffer, callBackupSent, callBackupAll, callSetRights, Buffers, refusalIn, tillNamed}
+use Rattle.history.proofs.Calls.{stateAfter, answerIn, isAccepted}
 use Rattle.history.specs.Users.{UserCall, buffersBy, stateBy, refusedLayouts, stateAfterAll}
 use Rattle.history.specs.Keeper.{Kept, KeptTill, Keeper, noTill, keptTill, newestKept, keptNotAfter, CallMade, comesTo}
 use Rattle.history.proofs.View.{VersionView, TillView, viewVersions, viewOf, viewAt, withKinds, turnNewest, newestDayShown, dayShown, shownWith, takeOverKind, dropVersion, shownWithout, shownRights, changed, IsPlain, shownNotAfter}

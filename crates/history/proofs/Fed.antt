@@ -15,7 +15,8 @@ use Rattle.model.specs.Sound.{isSound}
 use Rattle.model.specs.Calls.{emptyTill, tillOf, emptyState, backup, retire, outcomeRefusal}
 use Rattle.model.specs.Rights.{setRights}
 use Rattle.laws.proofs.Fits.{Proper}
-use Rattle.history.specs.Calls.{Call, callLayout, callBackup, callRestore, callRetire, callListing, callVersionOn, callTally, callBill, callWriteStream, callOffer, callBackupSent, callBackupAll, callSetRights, Buffers, stateAfter, answerIn, refusalIn, isAccepted, tillNamed}
+use Rattle.history.specs.Calls.{Call, callLayout, callBackup, callRestore, callRetire, callListing, callVersionOn, callTally, callBill, callWriteStream, callOffer, callBackupSent, callBackupAll, callSetRights, Buffers, refusalIn, tillNamed}
+use Rattle.history.proofs.Calls.{stateAfter, answerIn, isAccepted}
 use Rattle.history.specs.Users.{UserCall, buffersBy, stateBy, refusedLayouts, stateAfterAll}
 use Rattle.history.specs.Keeper.{KeptTill, Keeper, noTill, freshKeeper, keptTill, filed, struckOut, change, fed, CallMade, fedEach, comesTo, fedAll}
 use Rattle.history.proofs.View.{TillView, viewVersions, viewOf, viewAt, changed, IsPlain}

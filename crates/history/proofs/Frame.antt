@@ -18,7 +18,8 @@ use Rattle.laws.proofs.Fits.{Proper}
 use Rattle.laws.proofs.Backup.{backup-filed}
 use Rattle.laws.proofs.Retire.{retire-done}
 use Rattle.laws.proofs.Keys.{rights-set}
-use Rattle.history.specs.Calls.{Call, callLayout, callBackup, callRestore, callRetire, callListing, callVersionOn, callTally, callBill, callWriteStream, callOffer, callBackupSent, callBackupAll, callSetRights, stateAfter, answerIn, refusalIn, isAccepted, tillNamed}
+use Rattle.history.specs.Calls.{Call, callLayout, callBackup, callRestore, callRetire, callListing, callVersionOn, callTally, callBill, callWriteStream, callOffer, callBackupSent, callBackupAll, callSetRights, refusalIn, tillNamed}
+use Rattle.history.proofs.Calls.{stateAfter, answerIn, isAccepted}
 use Rattle.history.proofs.View.{viewAt, changed, IsPlain}
 use Rattle.history.proofs.Filing.{filed-own, filed-other, retired-own, retired-other, rights-own, rights-other}
 use Rattle.history.proofs.Numbered.{Numbered, backup-numbered, retire-numbered, rights-numbered}

@@ -31,3 +31,4 @@ pub mod Together
 pub mod Differ
 pub mod View
 pub mod PointerKinds
+pub mod Calls

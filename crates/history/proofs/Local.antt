@@ -19,7 +19,8 @@ use Rattle.model.specs.Trace.{imageOf}
 use Rattle.model.specs.Calls.{tillOf, heldFrom, restoreFrom, restoreRefusal, restore, heldBefore, retireFrom, retire, newestDay, dayFor, VersionOnAnswer, notAfter, versionOnIn, fileIn, placeAndFile, backup, listTill, listingRefusal, listingIn, RestoreAnswer, After, firstOf, notHeld, lookUp, outcomeRefusal, outcomeNumber}
 use Rattle.model.specs.Rights.{setRights}
 use Rattle.stream.specs.Version.{longestOutput, writeRestored, writeVersion}
-use Rattle.history.specs.Calls.{Call, callLayout, callBackup, callRestore, callRetire, callListing, callVersionOn, callTally, callBill, callWriteStream, callOffer, callBackupSent, callBackupAll, callSetRights, Answer, backedUp, restored, retired, listed, foundOn, streamed, rightsSet, answerIn, tillNamed}
+use Rattle.history.specs.Calls.{Call, callLayout, callBackup, callRestore, callRetire, callListing, callVersionOn, callTally, callBill, callWriteStream, callOffer, callBackupSent, callBackupAll, callSetRights, Answer, backedUp, restored, retired, listed, foundOn, streamed, rightsSet, tillNamed}
+use Rattle.history.proofs.Calls.{answerIn}
 use Rattle.history.proofs.View.{VersionView, viewVersions, viewOf, viewAt, isOnTill, shownFrom, shownNotAfter, restoreShown, retireShown, answerShown}
 use Rattle.history.proofs.Users.{set-refusal}
 use Rattle.history.proofs.Shown.{views-length, newest-day-is, day-is, newest-or-none, oldest-is, newest-is, from-same, chain-is}

@@ -15,7 +15,8 @@ use Rattle.laws.proofs.Fits.{Proper}
 use Rattle.laws.proofs.Backup.{backup-sound}
 use Rattle.laws.proofs.Retire.{retire-sound}
 use Rattle.laws.proofs.Keys.{rights-set}
-use Rattle.history.specs.Calls.{Call, callLayout, callBackup, callRestore, callRetire, callListing, callVersionOn, callTally, callBill, callWriteStream, callOffer, callBackupSent, callBackupAll, callSetRights, stateAfter}
+use Rattle.history.specs.Calls.{Call, callLayout, callBackup, callRestore, callRetire, callListing, callVersionOn, callTally, callBill, callWriteStream, callOffer, callBackupSent, callBackupAll, callSetRights}
+use Rattle.history.proofs.Calls.{stateAfter}
 use Rattle.closing.specs.Closing.{TillImage, imagesIn, closingFits, backupOne, backupEach, closedOr, backupAll}
 use Rattle.history.specs.Keeper.{imageSent}
 use Rattle.history.proofs.Sent.{here, sent-alike}

@@ -20,7 +20,8 @@ use Rattle.sent.specs.Sent.{OfferAnswer, offer, offerAnswer, offerIn, offerOf, 
 use Rattle.stream.specs.Stream.{StreamAnswer, streamRefusal}
 use Rattle.stream.specs.Version.{writeStreamOf, writeStreamAs}
 use Rattle.stream_laws.proofs.Theorems.{claims}
-use Rattle.history.specs.Calls.{Call, callLayout, callBackup, callRestore, callRetire, callListing, callVersionOn, callTally, callBill, callWriteStream, callOffer, callBackupSent, callBackupAll, callSetRights, Buffers, refusalOf, buffersAfter, Answer, laidOut, backedUp, restored, retired, listed, foundOn, tallied, billed, streamed, offered, backedUpAll, rightsSet, refusalIn, answerOf}
+use Rattle.history.specs.Calls.{Call, callLayout, callBackup, callRestore, callRetire, callListing, callVersionOn, callTally, callBill, callWriteStream, callOffer, callBackupSent, callBackupAll, callSetRights, Buffers, Answer, laidOut, backedUp, restored, retired, listed, foundOn, tallied, billed, streamed, offered, backedUpAll, rightsSet, refusalIn}
+use Rattle.history.proofs.Calls.{refusalOf, buffersAfter, answerOf}
 use Rattle.history.specs.Users.{buffersBy, answerBy, refusalBy}
 
 same-buffers : (b : Buffers) (pool table : List ℕ) → pool ≡ b .pool → table ≡ b .table → record { pool = pool; table = table } ≡ b

@@ -10,7 +10,8 @@ use Rattle.model.specs.Calls.{backup, restore, restoreRefusal, retire, listingI
 use Rattle.model.specs.Rights.{Right, toList, toBackUp, toRestore, toRetire, userRefusal, refusalAt, unless, versionOnRefusal, setRights}
 use Rattle.stream.specs.Stream.{streamRefusal}
 use Rattle.stream.specs.Version.{writeVersion}
-use Rattle.history.specs.Calls.{Call, callLayout, callBackup, callRestore, callRetire, callListing, callVersionOn, callTally, callBill, callWriteStream, callOffer, callBackupSent, callBackupAll, callSetRights, backedUp, restored, retired, listed, foundOn, streamed, rightsSet, answerIn, tillNamed}
+use Rattle.history.specs.Calls.{Call, callLayout, callBackup, callRestore, callRetire, callListing, callVersionOn, callTally, callBill, callWriteStream, callOffer, callBackupSent, callBackupAll, callSetRights, backedUp, restored, retired, listed, foundOn, streamed, rightsSet, tillNamed}
+use Rattle.history.proofs.Calls.{answerIn}
 use Rattle.history.specs.Users.{answerInBy}
 use Rattle.history.proofs.View.{TillView, viewOf, viewAt, isOnTill, answerShown}
 use Rattle.history.proofs.Users.{set-refusal}

@@ -20,7 +20,8 @@ use Rattle.sha1.specs.Sha1.{sha1}
 use Rattle.sent.specs.Sent.{offerIn, offerOf, backupSent, backupSentIn, backupSentBy, backupSentOf}
 use Rattle.closing.specs.Closing.{Closed, allAnswer, closedOr, backupAll, backupAllAnswer, backupAllIn, backupAllAs}
 use Rattle.stream.specs.Version.{longestOutput, writeRestored, writeVersion, writeStreamOf}
-use Rattle.history.specs.Calls.{Call, callLayout, callBackup, callRestore, callRetire, callListing, callVersionOn, callTally, callBill, callWriteStream, callOffer, callBackupSent, callBackupAll, callSetRights, Buffers, refusalOf, buffersAfter, Answer, laidOut, backedUp, restored, retired, listed, foundOn, tallied, billed, streamed, offered, backedUpAll, rightsSet, answerOf, refusalIn, refusedLayout, stateAfter, answerIn, isAccepted}
+use Rattle.history.specs.Calls.{Call, callLayout, callBackup, callRestore, callRetire, callListing, callVersionOn, callTally, callBill, callWriteStream, callOffer, callBackupSent, callBackupAll, callSetRights, Buffers, Answer, laidOut, backedUp, restored, retired, listed, foundOn, tallied, billed, streamed, offered, backedUpAll, rightsSet, refusalIn, refusedLayout}
+use Rattle.history.proofs.Calls.{refusalOf, buffersAfter, answerOf, stateAfter, answerIn, isAccepted}
 use Rattle.history.specs.Demand.{laidOutIn}
 use Rattle.history.proofs.Reach.{sound-after}
 

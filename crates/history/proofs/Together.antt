@@ -9,7 +9,8 @@ use Rattle.model.specs.Measures.{Shape}
 use Rattle.model.specs.State.{Shelf, Version, State}
 use Rattle.model.specs.Trace.{imageOf}
 use Rattle.model.specs.Calls.{emptyState, tillOf}
-use Rattle.history.specs.Calls.{Call, callLayout, callBackup, callRestore, callRetire, callListing, callVersionOn, callTally, callBill, callWriteStream, callOffer, callBackupSent, callBackupAll, callSetRights, Buffers, refusedLayout, refusalIn, stateAfter, isAccepted, tillNamed}
+use Rattle.history.specs.Calls.{Call, callLayout, callBackup, callRestore, callRetire, callListing, callVersionOn, callTally, callBill, callWriteStream, callOffer, callBackupSent, callBackupAll, callSetRights, Buffers, refusedLayout, refusalIn, tillNamed}
+use Rattle.history.proofs.Calls.{stateAfter, isAccepted}
 use Rattle.history.specs.Users.{UserCall, buffersBy, answerBy, refusalBy, stateBy, answerInBy, buffersAfterAll, stateAfterAll}
 use Rattle.history.proofs.View.{VersionView, TillView, viewVersions, viewOf, viewAt, chainShown, isOnTill, IsPlain}
 use Rattle.history.specs.Demand.{laidOutIn}

@@ -20,7 +20,8 @@ use Rattle.model.specs.Rights.{has}
 use Rattle.sent.specs.Sent.{segmentBytes, contents, zeroSegment, assembled, sentFits, made, backupOn, backupSent}
 use Rattle.sent.specs.Claims.{NoneShare, segmentsSent}
 use Rattle.sent_laws.proofs.Alike.{assembled-alike}
-use Rattle.history.specs.Calls.{callBackup, answerIn, tillNamed}
+use Rattle.history.specs.Calls.{callBackup, tillNamed}
+use Rattle.history.proofs.Calls.{answerIn}
 use Rattle.history.proofs.View.{TillView, viewOf, viewAt}
 use Rattle.history.specs.Apart.{both, second, IsFromTill}
 use Rattle.history.proofs.Shown.{views-length}

@@ -21,7 +21,8 @@ use Rattle.stream.specs.Stream.{StreamAnswer, streamRefusal}
 use Rattle.stream.specs.Version.{writeVersion, writeStreamOf, writeStreamAs}
 use Rattle.sent.specs.Sent.{OfferAnswer, offerIn, offerOf, offerAs, backupSent, backupSentIn, backupSentBy, backupSentOf, backupSentAs}
 use Rattle.laws.proofs.Unless.{unless-none, accepted-none}
-use Rattle.history.specs.Calls.{Call, callLayout, callBackup, callRestore, callRetire, callListing, callVersionOn, callTally, callBill, callWriteStream, callOffer, callBackupSent, callBackupAll, callSetRights, Buffers, laidOut, backedUp, retired, backedUpAll, rightsSet, refusalIn, refusedLayout, buffersAfter, stateAfter, answerIn, isAccepted}
+use Rattle.history.specs.Calls.{Call, callLayout, callBackup, callRestore, callRetire, callListing, callVersionOn, callTally, callBill, callWriteStream, callOffer, callBackupSent, callBackupAll, callSetRights, Buffers, laidOut, backedUp, retired, backedUpAll, rightsSet, refusalIn, refusedLayout}
+use Rattle.history.proofs.Calls.{buffersAfter, stateAfter, answerIn, isAccepted}
 use Rattle.history.specs.Users.{UserCall, buffersBy, answerBy, forUser, stateBy, answerInBy, buffersAfterAll, answersOf, refusedLayouts, stateAfterAll, answersIn}
 use Rattle.history.proofs.View.{IsPlain}
 use Rattle.history.proofs.Reach.{sound-after, closing-sound, rights-good, unless-sound}
