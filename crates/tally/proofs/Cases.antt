@@ -29,7 +29,14 @@ use Rattle.laws.proofs.Stores.{header, found, fit, fits, long}
 use Rattle.shelf.specs.Stored.{RecordsTold}
 use Rattle.shelf.proofs.Read.{records-length, records-count, count-at, row-at, room-at}
 use Rattle.tally.specs.declared.Tally.{Tally}
-use Rattle.tally.specs.Answers.{sum, inUse, Row, Counts, Rows, tallied, Going}
+use Rattle.tally.specs.Answers.{sum, inUse, Row, Counts, Rows, tallied}
+
+-- the first k records are counted
+pub record Going (segs : List Segment) (k c r n : ℕ) : Type 0 where
+  pub inside : k ≤ length segs
+  pub cells : c + length (namedCells (drop k segs)) ≡ length (namedCells segs)
+  pub records : r + count (λ seg. not (isFree seg)) (drop k segs) ≡ count (λ seg. not (isFree seg)) segs
+  pub counts : n + total (total countOf) (drop k segs) ≡ total (total countOf) segs
 
 -- ---- one record
 

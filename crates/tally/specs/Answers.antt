@@ -3,7 +3,7 @@ use mathlib.Core.Path.{_≡_}
 use mathlib.Core.Bool.{cond, not}
 use mathlib.Core.List.{List}
 use Prim.Native.Nat.{ℕ, zero, suc, _+_, _*_, _≤_}
-use lib.ListN.{length, drop}
+use lib.ListN.{length}
 use Rattle.lists.specs.Lists.{count, total}
 use Rattle.model.specs.Measures.{recordWords}
 use Rattle.model.specs.State.{Segment}
@@ -48,10 +48,3 @@ pub record Rows (n : ℕ) (ws : List ℕ) : Type 0 where
 -- the tally of all records
 abbrev pub tallied : List Segment → calls.TallyAnswer
 tallied segs = record { refusal = 0; cells = length (namedCells segs); records = count (λ seg. not (isFree seg)) segs; counts = total (total countOf) segs }
-
--- the first k records are counted
-pub record Going (segs : List Segment) (k c r n : ℕ) : Type 0 where
-  pub inside : k ≤ length segs
-  pub cells : c + length (namedCells (drop k segs)) ≡ length (namedCells segs)
-  pub records : r + count (λ seg. not (isFree seg)) (drop k segs) ≡ count (λ seg. not (isFree seg)) segs
-  pub counts : n + total (total countOf) (drop k segs) ≡ total (total countOf) segs

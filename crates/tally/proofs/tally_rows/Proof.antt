@@ -5,8 +5,7 @@ use Prim.Native.Nat.{_+_, _*_, _-_, _/_, _≤_}
 use lib.ListN.{length}
 use Rattle.model.specs.Measures.{recordWords}
 use Rattle.model.specs.Table.{recordsIn}
-use Rattle.tally.specs.Answers.{Going}
-use Rattle.tally.proofs.Cases.{going-start, row-room, row-at-k, going-small, going-next, going-end}
+use Rattle.tally.proofs.Cases.{Going, going-start, row-room, row-at-k, going-small, going-next, going-end}
 use Rattle.tally.proofs.tally_rows.Statement.{statement}
 use Rattle.tally.proofs.tally_rows.Tie as tie
 use Rattle.tally.proofs.tally_rows.Reads as reads
