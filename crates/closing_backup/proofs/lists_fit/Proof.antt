@@ -12,7 +12,7 @@ returns-2 : tie.Need-returns-2
 returns-2 c = fits-unequal (now (c .before .before .before .before .before .args .tills)) (now (c .before .before .before .before .before .args .lengths)) (now (c .before .before .before .before .before .args .images)) (omega arith) (λ q. omega (arith, q, c .if2 .taken))
 
 sum-to-requires : tie.Need-sum-to-requires
-sum-to-requires c κs = (omega (arith, c .before .if2 .left), omega arith)
+sum-to-requires c κs = (omega (arith, c .if2 .left), omega arith)
 
 returns-3 : tie.Need-returns-3
 returns-3 c = fits-sum (now (c .before .before .before .before .before .before .args .tills)) (now (c .before .before .before .before .before .before .args .lengths)) (now (c .before .before .before .before .before .before .args .images)) (omega arith) (omega (arith, c .before .if2 .left)) _ (c .sum-to .ensures .0)
