@@ -11,10 +11,10 @@ use Rattle.model.specs.Table.{shapeOf}
 use Rattle.model.specs.Sound.{hasLengths}
 use Rattle.laws.specs.Ranges.{Measured, Ranges}
 use Rattle.laws.proofs.Ranges.{ranges}
-use Rattle.audit_header.specs.Header.{Header}
-use Rattle.audit.specs.Good.{Sized}
+use Rattle.audit_header.specs.Header.{HeaderSound}
+use Rattle.audit.specs.Sound.{Sized}
 
-module _ (pool ws : List ℕ) (h : Header pool ws) where
+module _ (pool ws : List ℕ) (h : HeaderSound pool ws) where
   in-ranges : Ranges (shapeOf ws)
   unfolding hasLengths
   in-ranges = ranges (shapeOf ws) (clause _ 0 (h .lengths))

@@ -63,8 +63,8 @@ module _ (bytes : ℕ) (some : 0 < bytes) (b : ℕ) (row : List ℕ) (l : length
     unfolding versionToWords versionIn
     filled = ap (drop 3) e
 
-    says : map pointerWord (map wordToPointer words) ≡ words
-    says =
+    canonical : map pointerWord (map wordToPointer words) ≡ words
+    canonical =
         let n : length (map pointerWord (map wordToPointer words)) ≡ blocks = length-map (map wordToPointer words) pointerWord ∙ length-map words wordToPointer ∙ words-long high in
         sym (fill-front b (map pointerWord (map wordToPointer words)) (drop 3 row) (omega (arith, n, blocks-fit high)) filled) ∙ ap (λ (m : ℕ). take m (drop 3 row)) n
 
@@ -72,6 +72,6 @@ module _ (bytes : ℕ) (some : 0 < bytes) (b : ℕ) (row : List ℕ) (l : length
     same-form low = record {
       some = low;
       most = high;
-      pointers = map-fixed pointerWord wordToPointer words says;
-      rest = ap allZero (sym (drop-drop blocks 3 row)) ∙ back-fill b blocks (drop 3 row) (ap (fill b) (sym says) ∙ filled);
+      pointers = map-fixed pointerWord wordToPointer words canonical;
+      rest = ap allZero (sym (drop-drop blocks 3 row)) ∙ back-fill b blocks (drop 3 row) (ap (fill b) (sym canonical) ∙ filled);
     }

@@ -17,15 +17,15 @@ use Rattle.lists.proofs.Rows.{length-rows, wide-all}
 use Rattle.lists.proofs.Cuts.{length-parts, each-part, rows-parts}
 use Rattle.lists.proofs.Slices.{drop-next}
 use Rattle.model.specs.Measures.{Shape, tillWords}
-use Rattle.model.specs.State.{Pointer, Shelf, Version, Rights, staff, Till}
+use Rattle.model.specs.State.{Pointer, Storage, Version, Rights, staff, Till}
 use Rattle.model.specs.Table.{kindUnit, versionIn, versionsIn, tillIn, versionToWords, rightsWord, rightsIn, tillToWords}
 use Rattle.model.specs.Sound.{leadsTo, isNumbered, areTraceable, isTill}
 use Rattle.laws.proofs.Rights.{length-rights, rights-lt, word-back}
 use Rattle.laws.proofs.RoundTrip.{length-version}
-use Rattle.audit_words.specs.Words.{PointerSays}
-use Rattle.audit_counts.specs.Counters.{pointersTo}
+use Rattle.audit_words.specs.Words.{IsPointerWord}
+use Rattle.audit_counts.specs.Counters.{countTo}
 use Rattle.audit_counts.proofs.Pointers.{words-count, rows-count}
-use Rattle.audit_tills.specs.Says.{numbersIn, pointerWords, tillPointers, SlotSays, TillSays}
+use Rattle.audit_tills.specs.Sound.{numbersIn, pointerWords, tillPointers, SlotSound, TillSound}
 use Rattle.lists.proofs.Filled.{fill-back, back-fill, fill-front, rows-fixed}
 use Rattle.audit.proofs.Slots.{form-same, form-length, length-at, same-form}
 
@@ -64,49 +64,49 @@ unfolding versionsIn versionIn numbersIn parts
 numbers-are bytes b zero xs = refl
 numbers-are bytes b (suc n) xs = ap (λ (ms : List ℕ). getD (take (3 + b) xs) 0 0 ∷ ms) (numbers-are bytes b n (drop (3 + b) xs))
 
-module _ (bytes : ℕ) (some : 0 < bytes) (shelf : Shelf) (b : ℕ) where
+module _ (bytes : ℕ) (some : 0 < bytes) (storage : Storage) (b : ℕ) where
   record Traced (n : ℕ) (xs : List ℕ) : Type 0 where
-    traceable : areTraceable bytes b shelf (versionsIn bytes b n xs) ≡ true
+    traceable : areTraceable bytes b storage (versionsIn bytes b n xs) ≡ true
     words : Each (λ r. versionToWords b (versionIn bytes r) ≡ r) (parts (3 + b) n xs)
 
   first-fits : (n : ℕ) (xs : List ℕ) → suc n * (3 + b) ≤ length xs → (length (take (3 + b) xs) ≡ 3 + b) × (n * (3 + b) ≤ length (drop (3 + b) xs))
   first-fits n xs h = (length-take-le (3 + b) xs (omega (arith, h, suc-mul n (3 + b))), omega (arith, h, suc-mul n (3 + b), length-drop (3 + b) xs))
 
-  traced : (n : ℕ) (xs : List ℕ) → n * (3 + b) ≤ length xs → All (3 + b) (SlotSays bytes shelf b) n xs → Traced n xs
+  traced : (n : ℕ) (xs : List ℕ) → n * (3 + b) ≤ length xs → All (3 + b) (SlotSound bytes storage b) n xs → Traced n xs
   unfolding areTraceable versionsIn parts
   traced zero xs h f = record { traceable = refl; words = tt }
   traced (suc n) xs h f =
-      let s : SlotSays bytes shelf b (suc n) xs = all-head (3 + b) (SlotSays bytes shelf b) n xs f in
+      let s : SlotSound bytes storage b (suc n) xs = all-head (3 + b) (SlotSound bytes storage b) n xs f in
       let fit = first-fits n xs h in
       let e : suc n - 1 ≡ n = omega arith in
-      let r = traced n (drop (3 + b) xs) (fit .1) (all-tail (3 + b) (SlotSays bytes shelf b) n xs f) in
+      let r = traced n (drop (3 + b) xs) (fit .1) (all-tail (3 + b) (SlotSound bytes storage b) n xs f) in
       record {
-        traceable = all-true _ (form-length bytes some b (take (3 + b) xs) (fit .0) (s .form), (rw e at (s .leading), (rw e at (s .ends), (r .traceable, tt))));
+        traceable = all-true _ (form-length bytes some b (take (3 + b) xs) (fit .0) (s .form), (rw e at (s .resolves), (rw e at (s .ends), (r .traceable, tt))));
         words = (form-same bytes some b (take (3 + b) xs) (fit .0) (s .form), r .words);
       }
 
-  untraced : (n : ℕ) (xs : List ℕ) → n * (3 + b) ≤ length xs → Traced n xs → All (3 + b) (SlotSays bytes shelf b) n xs
+  untraced : (n : ℕ) (xs : List ℕ) → n * (3 + b) ≤ length xs → Traced n xs → All (3 + b) (SlotSound bytes storage b) n xs
   unfolding areTraceable versionsIn parts
   untraced zero xs h t = λ i g. absurd (not-suc-le-zero g)
   untraced (suc n) xs h t =
       let fit = first-fits n xs h in
       let e : suc n - 1 ≡ n = omega arith in
       let l = length-at bytes some b (take (3 + b) xs) (fit .0) (clause _ 0 (t .traceable)) in
-      all-cons (3 + b) (SlotSays bytes shelf b) n xs
+      all-cons (3 + b) (SlotSound bytes storage b) n xs
       (record {
         form = same-form bytes some b (take (3 + b) xs) (fit .0) (t .words .0) (l .1) (l .0);
-        leading = rw e (clause _ 1 (t .traceable));
+        resolves = rw e (clause _ 1 (t .traceable));
         ends = rw e (clause _ 2 (t .traceable));
       })
       (untraced n (drop (3 + b) xs) (fit .1) (record { traceable = clause _ 3 (t .traceable); words = t .words .1 }))
 
 -- ---- a till's words
 
-pub record TillFine (s : Shape) (shelf : Shelf) (row : List ℕ) : Type 0 where
+pub record TillFine (s : Shape) (storage : Storage) (row : List ℕ) : Type 0 where
   pub words : tillToWords (s .capacities .versions) (s .capacities .blocks) (tillIn (s .measures .blockBytes) (s .capacities .versions) (s .capacities .blocks) row) ≡ row
-  pub sound : isTill s shelf (tillIn (s .measures .blockBytes) (s .capacities .versions) (s .capacities .blocks) row) ≡ true
+  pub sound : isTill s storage (tillIn (s .measures .blockBytes) (s .capacities .versions) (s .capacities .blocks) row) ≡ true
 
-module _ (s : Shape) (some : 0 < s .measures .blockBytes) (shelf : Shelf) (row : List ℕ) (l : length row ≡ tillWords (s .capacities .versions) (s .capacities .blocks)) where
+module _ (s : Shape) (some : 0 < s .measures .blockBytes) (storage : Storage) (row : List ℕ) (l : length row ≡ tillWords (s .capacities .versions) (s .capacities .blocks)) where
   abbrev bytes : ℕ
   bytes = s .measures .blockBytes
 
@@ -145,9 +145,9 @@ module _ (s : Shape) (some : 0 < s .measures .blockBytes) (shelf : Shelf) (row :
       ∙ ap (λ (r : List ℕ). held ∷ r) (drop-next row 2 0 (omega (arith, l)) ∙ ap (λ (r : List ℕ). getD row 2 0 ∷ r) (drop-next row 3 0 (omega (arith, l)))))
 
   -- the slots in use, and the others
-  module _ (t : TillSays bytes shelf v b row) where
-    trace : Traced bytes some shelf b held (drop 4 row)
-    trace = traced bytes some shelf b held (drop 4 row) (slots-fit (t .few)) (t .slots)
+  module _ (t : TillSound bytes storage v b row) where
+    trace : Traced bytes some storage b held (drop 4 row)
+    trace = traced bytes some storage b held (drop 4 row) (slots-fit (t .few)) (t .slots)
 
     rest-zero : allZero (drop (held * (3 + b)) (drop 4 row)) ≡ true
     rest-zero = ap allZero (drop-drop (held * (3 + b)) 4 row) ∙ t .rest
@@ -167,11 +167,11 @@ module _ (s : Shape) (some : 0 < s .measures .blockBytes) (shelf : Shelf) (row :
         ∙ ap₂ (λ (w z : ℕ). last ∷ held ∷ w ∷ z ∷ drop 4 row) (word-back staff (getD row 2 0) (t .rights)) (sym (t .zero))
         ∙ sym apart
 
-    fine : isTill s shelf (tillIn bytes v b row) ≡ true
+    fine : isTill s storage (tillIn bytes v b row) ≡ true
     unfolding isTill isNumbered
     fine =
         let n : length vs ≡ held = versions-long bytes b held (drop 4 row) in
-        ap (isTill s shelf) (till-is (t .few))
+        ap (isTill s storage) (till-is (t .few))
         ∙ all-true _ (
           all-true _ (
             le-leb (length vs) v (rw n (t .few)),
@@ -180,11 +180,11 @@ module _ (s : Shape) (some : 0 < s .measures .blockBytes) (shelf : Shelf) (row :
           (trace .traceable, (eq-eqb (length rights) staff (length-rights staff (getD row 2 0)), tt)),
         )
 
-  pub till-fine : TillSays bytes shelf v b row → TillFine s shelf row
+  pub till-fine : TillSound bytes storage v b row → TillFine s storage row
   till-fine t = record { words = same t; sound = fine t }
 
   -- back
-  module _ (f : TillFine s shelf row) where
+  module _ (f : TillFine s storage row) where
     count-is : min held v ≡ held
     unfolding tillToWords tillIn
     count-is = sym (versions-long bytes b (min held v) (drop 4 row)) ∙ ap (λ (r : List ℕ). getD r 1 0) (f .words)
@@ -218,14 +218,14 @@ module _ (s : Shape) (some : 0 < s .measures .blockBytes) (shelf : Shelf) (row :
         sym (fill-front (v * (3 + b)) (rows (versionToWords b) vs) (drop 4 row) (omega (arith, rows-long, slots-fit few, slots-long)) filled-at)
         ∙ ap (λ (m : ℕ). take m (drop 4 row)) rows-long
 
-    sound-is : isTill s shelf (record { last = last; rights = rights; versions = vs }) ≡ true
-    sound-is = ap (isTill s shelf) (sym (till-is few)) ∙ f .sound
+    sound-is : isTill s storage (record { last = last; rights = rights; versions = vs }) ≡ true
+    sound-is = ap (isTill s storage) (sym (till-is few)) ∙ f .sound
 
     numbered : isNumbered v (record { last = last; rights = rights; versions = vs }) ≡ true
     unfolding isTill
     numbered = clause _ 0 sound-is
 
-    trace-at : Traced bytes some shelf b held (drop 4 row)
+    trace-at : Traced bytes some storage b held (drop 4 row)
     unfolding isTill versionsIn
     trace-at = record {
       traceable = clause _ 1 sound-is;
@@ -240,14 +240,14 @@ module _ (s : Shape) (some : 0 < s .measures .blockBytes) (shelf : Shelf) (row :
     unfolding isNumbered
     rising = ap (rises 0 last) (sym (numbers-are bytes b held (drop 4 row))) ∙ clause _ 2 numbered
 
-    pub fine-till : TillSays bytes shelf v b row
+    pub fine-till : TillSound bytes storage v b row
     fine-till = record {
       few = few;
       most = most;
       rising = rising;
       rights = rights-at;
       zero = zero-at;
-      slots = untraced bytes some shelf b held (drop 4 row) (slots-fit few) trace-at;
+      slots = untraced bytes some storage b held (drop 4 row) (slots-fit few) trace-at;
       rest =
           ap allZero (sym (drop-drop (held * (3 + b)) 4 row))
           ∙ back-fill (v * (3 + b)) (held * (3 + b)) (drop 4 row) (ap (fill (v * (3 + b))) (sym front) ∙ filled-at);
@@ -255,15 +255,15 @@ module _ (s : Shape) (some : 0 < s .measures .blockBytes) (shelf : Shelf) (row :
 
   -- the direct pointers among its pointer words are those of its versions
   module _ (k i : ℕ) (hi : i < 16) (hq : k * 16 + i < kindUnit) where
-    slot-count : (x : List ℕ) → Each PointerSays (pointerWords bytes x) → pointersTo (k * 16 + i) (pointerWords bytes x) ≡ count (leadsTo k i) (versionIn bytes x .pointers)
+    slot-count : (x : List ℕ) → Each IsPointerWord (pointerWords bytes x) → countTo (k * 16 + i) (pointerWords bytes x) ≡ count (leadsTo k i) (versionIn bytes x .pointers)
     unfolding versionIn
-    slot-count x says = words-count k i hi hq (pointerWords bytes x) says
+    slot-count x canonical = words-count k i hi hq (pointerWords bytes x) canonical
 
-    pub till-count : TillSays bytes shelf v b row → pointersTo (k * 16 + i) (tillPointers bytes b row) ≡ count (leadsTo k i) (rows (λ (u : Version). u .pointers) (tillIn bytes v b row .versions))
+    pub till-count : TillSound bytes storage v b row → countTo (k * 16 + i) (tillPointers bytes b row) ≡ count (leadsTo k i) (rows (λ (u : Version). u .pointers) (tillIn bytes v b row .versions))
     unfolding versionsIn
     till-count t =
         let slots : List (List ℕ) = parts (3 + b) held (drop 4 row) in
-        let says : Each (λ (x : List ℕ). Each PointerSays (pointerWords bytes x)) slots = each-part (λ x. Each PointerSays (pointerWords bytes x)) (3 + b) held (drop 4 row) (λ j g. t .slots j g .form .pointers) in
-        rows-count k i hi hq (λ (x : List ℕ). Each PointerSays (pointerWords bytes x)) (pointerWords bytes) (λ x. versionIn bytes x .pointers) slot-count slots says
+        let canonical : Each (λ (x : List ℕ). Each IsPointerWord (pointerWords bytes x)) slots = each-part (λ x. Each IsPointerWord (pointerWords bytes x)) (3 + b) held (drop 4 row) (λ j g. t .slots j g .form .pointers) in
+        rows-count k i hi hq (λ (x : List ℕ). Each IsPointerWord (pointerWords bytes x)) (pointerWords bytes) (λ x. versionIn bytes x .pointers) slot-count slots canonical
         ∙ ap (λ (ps : List (List Pointer)). count (leadsTo k i) (joined ps)) (sym (map-map (λ (u : Version). u .pointers) (versionIn bytes) slots))
         ∙ ap (λ (u : Till). count (leadsTo k i) (rows (λ (u : Version). u .pointers) (u .versions))) (sym (till-is (t .few)))

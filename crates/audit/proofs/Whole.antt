@@ -20,22 +20,22 @@ use Rattle.lists.proofs.Rows.{length-rows, wide-all}
 use Rattle.lists.proofs.Cuts.{length-parts, each-part, part-each, chunks-parts, rows-chunks}
 use Rattle.lists.proofs.Places.{rows-few}
 use Rattle.model.specs.Measures.{Shape, isWithin, inRange, tillWords, recordWords, recordsAt, tableWords, poolBytes}
-use Rattle.model.specs.State.{Block, Pointer, Shelf, Version, Till, State, Segment}
-use Rattle.model.specs.Table.{headerToWords, recordToWords, tillToWords, stateToWords, segmentIn, recordsIn, cellsIn, shelfIn, tillIn, tillsIn, tillsPart, recordsPart, stateIn}
-use Rattle.model.specs.Sound.{isShaped, isUsed, isTill, leadsTo, allPointers, allCounted, isSound, ifSound, hasLengths, storeAs}
+use Rattle.model.specs.State.{Block, Pointer, Storage, Version, Till, State, Segment}
+use Rattle.model.specs.Table.{headerToWords, recordToWords, tillToWords, stateToWords, segmentIn, recordsIn, cellsIn, storageIn, tillIn, tillsIn, tillsPart, recordsPart, stateIn}
+use Rattle.model.specs.Sound.{isShaped, isFreeOrHolds, isTill, leadsTo, allPointers, allCounted, isSound, ifSound, hasLengths, storeAs}
 use Rattle.laws.specs.Ranges.{Measured}
 use Rattle.laws.proofs.RoundTrip.{length-till, length-record}
 use Rattle.laws.proofs.Ranges.{ranges}
 use Rattle.audit_words.specs.Words.{RecordForm}
 use Rattle.lists.proofs.Answers.{every-map}
 use Rattle.audit_words.proofs.Positions.{segment-long}
-use Rattle.audit_words.proofs.Records.{RecordSays, record-says, says-record}
-use Rattle.audit_cells.specs.Cells.{CellsSay}
-use Rattle.audit_counts.specs.Counters.{pointersTo}
+use Rattle.audit_words.proofs.Records.{IsRecordRow, record-says, says-record}
+use Rattle.audit_cells.specs.Cells.{CellsSound}
+use Rattle.audit_counts.specs.Counters.{countTo}
 use Rattle.audit_counts.proofs.Pointers.{rows-count}
 use Rattle.audit_counts.proofs.Counts.{counts-sound, sound-counts}
-use Rattle.audit_tills.specs.Says.{tillPointers, tillsPointers, TillSays}
-use Rattle.audit.specs.Good.{Body}
+use Rattle.audit_tills.specs.Sound.{tillPointers, tillsPointers, TillSound}
+use Rattle.audit.specs.Sound.{Body}
 use Rattle.lists.proofs.Filled.{rows-fixed, parts-wide, with-long}
 use Rattle.audit.proofs.Tills.{TillFine, till-fine, fine-till, till-count}
 
@@ -92,8 +92,8 @@ module _ (s : Shape) (ok : Measured (s .measures)) (pool ws : List ℕ) (h : has
   abbrev records : List ℕ
   records = recordsPart (s .capacities) ws
 
-  abbrev shelf : Shelf
-  shelf = shelfIn (s .measures) pool records
+  abbrev storage : Storage
+  storage = storageIn (s .measures) pool records
 
   abbrev state : State
   state = stateIn s pool ws
@@ -137,7 +137,7 @@ module _ (s : Shape) (ok : Measured (s .measures)) (pool ws : List ℕ) (h : has
   Recorded row = recordToWords (segmentIn n row) ≡ row
 
   words-of : headerToWords s ≡ take 8 ws → Each Tilled (chunks tw tills) → Each Recorded (chunks sw records) → stateToWords s state ≡ ws
-  unfolding Tilled Recorded stateToWords stateIn shelfIn tillsIn recordsIn
+  unfolding Tilled Recorded stateToWords stateIn storageIn tillsIn recordsIn
   words-of z t s =
       ap₂ _++_ z
       (ap₂ _++_ (rows-chunks (tillToWords nv nb) (tillIn bytes nv nb) tw nt tills tills-long (omega arith) t)
@@ -153,7 +153,7 @@ module _ (s : Shape) (ok : Measured (s .measures)) (pool ws : List ℕ) (h : has
     recordRows = rows recordToWords (map (segmentIn n) (chunks sw records))
 
     behind : drop 8 ws ≡ tillRows ++ recordRows
-    unfolding stateToWords headerToWords stateIn shelfIn tillsIn recordsIn
+    unfolding stateToWords headerToWords stateIn storageIn tillsIn recordsIn
     behind = ap (drop 8) (sym e)
 
     header-at : headerToWords s ≡ take 8 ws
@@ -211,7 +211,7 @@ module _ (s : Shape) (ok : Measured (s .measures)) (pool ws : List ℕ) (h : has
   long-cells = rw (chunks-parts bytes nc pool pool-long some-bytes) (parts-wide bytes nc pool (omega (arith, pool-long)))
 
   shaped : isShaped s state ≡ true
-  unfolding isShaped stateIn shelfIn tillsIn recordsIn cellsIn
+  unfolding isShaped stateIn storageIn tillsIn recordsIn cellsIn
   shaped =
       all-true _ (
         eq-eqb _ _ (length-map (chunks tw tills) (tillIn bytes nv nb) ∙ ap length (chunks-parts tw nt tills tills-long (omega arith)) ∙ length-parts tw nt tills),
@@ -229,11 +229,11 @@ module _ (s : Shape) (ok : Measured (s .measures)) (pool ws : List ℕ) (h : has
       )
 
   -- what is asked of every till and every record, as a list
-  tills-each : ((t : ℕ) → t < nt → TillSays bytes shelf nv nb (take tw (drop (t * tw) tills))) → Each (TillSays bytes shelf nv nb) (chunks tw tills)
-  tills-each f = rw (chunks-parts tw nt tills tills-long (omega arith)) (each-part (TillSays bytes shelf nv nb) tw nt tills f)
+  tills-each : ((t : ℕ) → t < nt → TillSound bytes storage nv nb (take tw (drop (t * tw) tills))) → Each (TillSound bytes storage nv nb) (chunks tw tills)
+  tills-each f = rw (chunks-parts tw nt tills tills-long (omega arith)) (each-part (TillSound bytes storage nv nb) tw nt tills f)
 
-  each-tills : Each (TillSays bytes shelf nv nb) (chunks tw tills) → (t : ℕ) → t < nt → TillSays bytes shelf nv nb (take tw (drop (t * tw) tills))
-  each-tills e = part-each (TillSays bytes shelf nv nb) tw nt tills (rw (chunks-parts tw nt tills tills-long (omega arith)) at e)
+  each-tills : Each (TillSound bytes storage nv nb) (chunks tw tills) → (t : ℕ) → t < nt → TillSound bytes storage nv nb (take tw (drop (t * tw) tills))
+  each-tills e = part-each (TillSound bytes storage nv nb) tw nt tills (rw (chunks-parts tw nt tills tills-long (omega arith)) at e)
 
   -- a till's pointers
   abbrev held : Till → List Pointer
@@ -241,37 +241,37 @@ module _ (s : Shape) (ok : Measured (s .measures)) (pool ws : List ℕ) (h : has
 
   -- the direct pointers among a till's pointer words are those of its versions
   abbrev Counted : ℕ → ℕ → List ℕ → Type 0
-  Counted k i x = pointersTo (k * 16 + i) (tillPointers bytes nb x) ≡ count (leadsTo k i) (held (tillIn bytes nv nb x))
+  Counted k i x = countTo (k * 16 + i) (tillPointers bytes nb x) ≡ count (leadsTo k i) (held (tillIn bytes nv nb x))
 
-  counted : Each (TillSays bytes shelf nv nb) (chunks tw tills) → (k i : ℕ) → k < length records / sw → i < n
-      → pointersTo (k * 16 + i) (tillsPointers bytes nv nb nt tills) ≡ count (leadsTo k i) (allPointers (map (tillIn bytes nv nb) (chunks tw tills)))
+  counted : Each (TillSound bytes storage nv nb) (chunks tw tills) → (k i : ℕ) → k < length records / sw → i < n
+      → countTo (k * 16 + i) (tillsPointers bytes nv nb nt tills) ≡ count (leadsTo k i) (allPointers (map (tillIn bytes nv nb) (chunks tw tills)))
   unfolding allPointers
   counted e k i hk hi =
       let few : k < 4096 = omega (arith, hk, rows-few (length records) sw (omega arith) nr (omega (arith, records-long)), few-records) in
       let low : i < 16 = omega (arith, hi, ok .mostBlocks) in
       let here : k * 16 + i < 16777216 = omega (arith, few, low) in
-      ap (λ (rs : List (List ℕ)). pointersTo (k * 16 + i) (rows (tillPointers bytes nb) rs)) (sym (chunks-parts tw nt tills tills-long (omega arith)))
+      ap (λ (rs : List (List ℕ)). countTo (k * 16 + i) (rows (tillPointers bytes nb) rs)) (sym (chunks-parts tw nt tills tills-long (omega arith)))
       ∙ rows-count k i low here (Counted k i) (tillPointers bytes nb) (λ x. held (tillIn bytes nv nb x)) (λ x c. c) (chunks tw tills)
-      (with-long (TillSays bytes shelf nv nb) (Counted k i) tw (λ x l t. till-count s some-bytes shelf x l k i low here t) (chunks tw tills) long-tills e)
+      (with-long (TillSound bytes storage nv nb) (Counted k i) tw (λ x l t. till-count s some-bytes storage x l k i low here t) (chunks tw tills) long-tills e)
       ∙ ap (λ (ps : List (List Pointer)). count (leadsTo k i) (joined ps)) (sym (map-map held (tillIn bytes nv nb) (chunks tw tills)))
 
   module _ (b : Body (s .measures) pool tills records nt nv nb) where
-    says : Each (TillSays bytes shelf nv nb) (chunks tw tills)
-    says = tills-each (b .tillsSay)
+    canonical : Each (TillSound bytes storage nv nb) (chunks tw tills)
+    canonical = tills-each (b .tillsSound)
 
-    fines : Each (TillFine s shelf) (chunks tw tills)
-    fines = with-long (TillSays bytes shelf nv nb) (TillFine s shelf) tw (λ x e t. till-fine s some-bytes shelf x e t) (chunks tw tills) long-tills says
+    fines : Each (TillFine s storage) (chunks tw tills)
+    fines = with-long (TillSound bytes storage nv nb) (TillFine s storage) tw (λ x e t. till-fine s some-bytes storage x e t) (chunks tw tills) long-tills canonical
 
-    record-fines : Each (RecordSays n) (chunks sw records)
-    record-fines = with-long (RecordForm n) (RecordSays n) sw (record-says n) (chunks sw records) long-records (b .forms)
+    record-fines : Each (IsRecordRow n) (chunks sw records)
+    record-fines = with-long (RecordForm n) (IsRecordRow n) sw (record-says n) (chunks sw records) long-records (b .forms)
 
     tilled : Each Tilled (chunks tw tills)
     unfolding Tilled
-    tilled = each-weaken (TillFine s shelf) (λ x. tillToWords nv nb (tillIn bytes nv nb x) ≡ x) (λ x f. f .words) (chunks tw tills) fines
+    tilled = each-weaken (TillFine s storage) (λ x. tillToWords nv nb (tillIn bytes nv nb x) ≡ x) (λ x f. f .words) (chunks tw tills) fines
 
     recorded : Each Recorded (chunks sw records)
     unfolding Recorded
-    recorded = each-weaken (RecordSays n) (λ x. recordToWords (segmentIn n x) ≡ x) (λ x f. f .words) (chunks sw records) record-fines
+    recorded = each-weaken (IsRecordRow n) (λ x. recordToWords (segmentIn n x) ≡ x) (λ x f. f .words) (chunks sw records) record-fines
 
     body-sound : isSound s state ≡ true
     unfolding isSound stateIn tillsIn
@@ -296,55 +296,55 @@ module _ (s : Shape) (ok : Measured (s .measures)) (pool ws : List ℕ) (h : has
           ),
         )
       where
-        right : allCounted (allPointers (map (tillIn bytes nv nb) (chunks tw tills))) 0 (shelf .records) ≡ true
-        right = unfold shelfIn in counts-sound n (allPointers (map (tillIn bytes nv nb) (chunks tw tills))) (tillsPointers bytes nv nb nt tills) records (counted says) (b .counts)
+        right : allCounted (allPointers (map (tillIn bytes nv nb) (chunks tw tills))) 0 (storage .records) ≡ true
+        right = unfold storageIn in counts-sound n (allPointers (map (tillIn bytes nv nb) (chunks tw tills))) (tillsPointers bytes nv nb nt tills) records (counted canonical) (b .counts)
 
-        used : every isUsed (shelf .records) ≡ true
-        used = unfold shelfIn recordsIn in each-every (λ g. isUsed g ≡ true) isUsed (λ g e. e) (map (segmentIn n) (chunks sw records)) (each-map (λ g. isUsed g ≡ true) (segmentIn n) (chunks sw records) (each-weaken (RecordSays n) (λ x. isUsed (segmentIn n x) ≡ true) (λ x f. f .used) (chunks sw records) record-fines))
+        used : every isFreeOrHolds (storage .records) ≡ true
+        used = unfold storageIn recordsIn in each-every (λ g. isFreeOrHolds g ≡ true) isFreeOrHolds (λ g e. e) (map (segmentIn n) (chunks sw records)) (each-map (λ g. isFreeOrHolds g ≡ true) (segmentIn n) (chunks sw records) (each-weaken (IsRecordRow n) (λ x. isFreeOrHolds (segmentIn n x) ≡ true) (λ x f. f .used) (chunks sw records) record-fines))
 
-        every-till : every (isTill s shelf) (map (tillIn bytes nv nb) (chunks tw tills)) ≡ true
-        every-till = each-every (λ t. isTill s shelf t ≡ true) (isTill s shelf) (λ t e. e) (map (tillIn bytes nv nb) (chunks tw tills)) (each-map (λ t. isTill s shelf t ≡ true) (tillIn bytes nv nb) (chunks tw tills) (each-weaken (TillFine s shelf) (λ x. isTill s shelf (tillIn bytes nv nb x) ≡ true) (λ x f. f .sound) (chunks tw tills) fines))
+        every-till : every (isTill s storage) (map (tillIn bytes nv nb) (chunks tw tills)) ≡ true
+        every-till = each-every (λ t. isTill s storage t ≡ true) (isTill s storage) (λ t e. e) (map (tillIn bytes nv nb) (chunks tw tills)) (each-map (λ t. isTill s storage t ≡ true) (tillIn bytes nv nb) (chunks tw tills) (each-weaken (TillFine s storage) (λ x. isTill s storage (tillIn bytes nv nb x) ≡ true) (λ x f. f .sound) (chunks tw tills) fines))
 
   -- back
   module _ (tilled : Each Tilled (chunks tw tills)) (recorded : Each Recorded (chunks sw records)) (sound : isSound s state ≡ true) where
-    used-at : every isUsed (map (segmentIn n) (chunks sw records)) ≡ true
-    unfolding isSound stateIn shelfIn recordsIn
+    used-at : every isFreeOrHolds (map (segmentIn n) (chunks sw records)) ≡ true
+    unfolding isSound stateIn storageIn recordsIn
     used-at = clause _ 2 sound
 
-    every-till : every (isTill s shelf) (map (tillIn bytes nv nb) (chunks tw tills)) ≡ true
+    every-till : every (isTill s storage) (map (tillIn bytes nv nb) (chunks tw tills)) ≡ true
     unfolding isSound stateIn tillsIn
     every-till = clause _ 4 sound
 
     right-at : allCounted (allPointers (map (tillIn bytes nv nb) (chunks tw tills))) 0 (recordsIn n records) ≡ true
-    unfolding isSound stateIn tillsIn shelfIn
+    unfolding isSound stateIn tillsIn storageIn
     right-at = clause _ 5 sound
 
-    cells-at : CellsSay shelf
+    cells-at : CellsSound storage
     unfolding isSound stateIn
     cells-at = record { named = clause _ 3 sound; filled = clause _ 6 sound }
 
-    says-at : Each (TillSays bytes shelf nv nb) (chunks tw tills)
+    says-at : Each (TillSound bytes storage nv nb) (chunks tw tills)
     unfolding Tilled
     says-at =
-        with-long (TillFine s shelf) (TillSays bytes shelf nv nb) tw (λ x e f. fine-till s some-bytes shelf x e f) (chunks tw tills) long-tills
-        (each-weaken (λ x. (tillToWords nv nb (tillIn bytes nv nb x) ≡ x) × (isTill s shelf (tillIn bytes nv nb x) ≡ true)) (TillFine s shelf) (λ x p. record { words = p .0; sound = p .1 }) (chunks tw tills)
-        (each-both (λ x. tillToWords nv nb (tillIn bytes nv nb x) ≡ x) (λ x. isTill s shelf (tillIn bytes nv nb x) ≡ true) (chunks tw tills) tilled
-        (every-each (λ x. isTill s shelf (tillIn bytes nv nb x)) (λ x. isTill s shelf (tillIn bytes nv nb x) ≡ true) (λ x e. e) (chunks tw tills)
-        (sym (every-map (isTill s shelf) (tillIn bytes nv nb) (chunks tw tills)) ∙ every-till))))
+        with-long (TillFine s storage) (TillSound bytes storage nv nb) tw (λ x e f. fine-till s some-bytes storage x e f) (chunks tw tills) long-tills
+        (each-weaken (λ x. (tillToWords nv nb (tillIn bytes nv nb x) ≡ x) × (isTill s storage (tillIn bytes nv nb x) ≡ true)) (TillFine s storage) (λ x p. record { words = p .0; sound = p .1 }) (chunks tw tills)
+        (each-both (λ x. tillToWords nv nb (tillIn bytes nv nb x) ≡ x) (λ x. isTill s storage (tillIn bytes nv nb x) ≡ true) (chunks tw tills) tilled
+        (every-each (λ x. isTill s storage (tillIn bytes nv nb x)) (λ x. isTill s storage (tillIn bytes nv nb x) ≡ true) (λ x e. e) (chunks tw tills)
+        (sym (every-map (isTill s storage) (tillIn bytes nv nb) (chunks tw tills)) ∙ every-till))))
 
     forms-at : Each (RecordForm n) (chunks sw records)
     unfolding Recorded
     forms-at =
-        with-long (RecordSays n) (RecordForm n) sw (says-record n) (chunks sw records) long-records
-        (each-weaken (λ x. (recordToWords (segmentIn n x) ≡ x) × (isUsed (segmentIn n x) ≡ true)) (RecordSays n) (λ x p. record { words = p .0; used = p .1 }) (chunks sw records)
-        (each-both (λ x. recordToWords (segmentIn n x) ≡ x) (λ x. isUsed (segmentIn n x) ≡ true) (chunks sw records) recorded
-        (every-each (λ x. isUsed (segmentIn n x)) (λ x. isUsed (segmentIn n x) ≡ true) (λ x e. e) (chunks sw records) (sym (every-map isUsed (segmentIn n) (chunks sw records)) ∙ used-at))))
+        with-long (IsRecordRow n) (RecordForm n) sw (says-record n) (chunks sw records) long-records
+        (each-weaken (λ x. (recordToWords (segmentIn n x) ≡ x) × (isFreeOrHolds (segmentIn n x) ≡ true)) (IsRecordRow n) (λ x p. record { words = p .0; used = p .1 }) (chunks sw records)
+        (each-both (λ x. recordToWords (segmentIn n x) ≡ x) (λ x. isFreeOrHolds (segmentIn n x) ≡ true) (chunks sw records) recorded
+        (every-each (λ x. isFreeOrHolds (segmentIn n x)) (λ x. isFreeOrHolds (segmentIn n x) ≡ true) (λ x e. e) (chunks sw records) (sym (every-map isFreeOrHolds (segmentIn n) (chunks sw records)) ∙ used-at))))
 
     sound-body : Body (s .measures) pool tills records nt nv nb
     sound-body = record {
       forms = forms-at;
       cells = cells-at;
-      tillsSay = each-tills says-at;
+      tillsSound = each-tills says-at;
       counts = sound-counts n (allPointers (map (tillIn bytes nv nb) (chunks tw tills))) (tillsPointers bytes nv nb nt tills) records (counted says-at) right-at;
     }
 

@@ -4,19 +4,19 @@ ghost use mathlib.Core.Path.{_≡_};
 ghost use Prim.Native.Nat.{ℕ, _+_, _*_, _≤_, _<_};
 ghost use lib.ListN.{length, take, drop};
 ghost use Rattle.lists.specs.Lists.{isSome};
-ghost use Rattle.lists.specs.Tells.{Tells};
+ghost use Rattle.lists.specs.Decides.{Decides};
 ghost use Rattle.model.specs.Measures.{tillWords, recordWords, recordsAt};
-ghost use Rattle.model.specs.Table.{shelfIn};
+ghost use Rattle.model.specs.Table.{storageIn};
 ghost use Rattle.model.specs.Sound.{storeOf};
 ghost use Rattle.laws.specs.Ranges.{Measured};
 ghost use Rattle.numbers.specs.Measures.{measuresOf};
-ghost use Rattle.audit_counts.specs.Counters.{CountsSay};
-ghost use Rattle.audit_tills.specs.Says.{tillsPointers, TillSays};
-ghost use Rattle.audit.specs.Good.{Sized, Body, TableBody};
+ghost use Rattle.audit_counts.specs.Counters.{CountsExact};
+ghost use Rattle.audit_tills.specs.Sound.{tillsPointers, TillSound};
+ghost use Rattle.audit.specs.Sound.{Sized, Body, TableBody};
 use numbers::Measures;
 
 // Whether the tills' words are in order, and the records' counts those of their direct pointers.
-fn counted_good(
+fn counted_sound(
     pool: &[u8],
     tills: &[u32],
     records: &[u32],
@@ -26,10 +26,10 @@ fn counted_good(
     m: Measures,
 ) -> bool
     requires { ⌜ Measured (measuresOf m) × (count ≤ 16) × (versions ≤ 64) × (blocks ≤ 1024) × (length (now tills) ≡ count * tillWords versions blocks) × (length (now tills) ≤ 2000000) × (length (now records) ≤ 4096 * recordWords (m .blocks)) ⌝ }
-    ensures { λ r. ⌜ Tells r (((t : ℕ) → t < count → TillSays (m .bytes) (shelfIn (measuresOf m) (now (pool .entry)) (now (records .entry))) versions blocks (take (tillWords versions blocks) (drop (t * tillWords versions blocks) (now (tills .entry))))) × CountsSay (m .blocks) (tillsPointers (m .bytes) versions blocks count (now (tills .entry))) (now (records .entry))) ⌝ }
+    ensures { λ r. ⌜ Decides r (((t : ℕ) → t < count → TillSound (m .bytes) (storageIn (measuresOf m) (now (pool .entry)) (now (records .entry))) versions blocks (take (tillWords versions blocks) (drop (t * tillWords versions blocks) (now (tills .entry))))) × CountsExact (m .blocks) (tillsPointers (m .bytes) versions blocks count (now (tills .entry))) (now (records .entry))) ⌝ }
 {
     let mut counts = [0u32; 65536];
-    if !audit_tills::tills_say(
+    if !audit_tills::tills_sound(
         pool,
         records,
         tills,
@@ -45,7 +45,7 @@ fn counted_good(
 }
 
 // Whether the tills' and the records' words and the pool's bytes are those of a sound store.
-fn parts_good(
+fn parts_sound(
     pool: &[u8],
     tills: &[u32],
     records: &[u32],
@@ -55,15 +55,15 @@ fn parts_good(
     m: Measures,
 ) -> bool
     requires { ⌜ Measured (measuresOf m) × (count ≤ 16) × (versions ≤ 64) × (blocks ≤ 1024) × (length (now tills) ≡ count * tillWords versions blocks) × (length (now tills) ≤ 2000000) × (length (now records) ≤ 4096 * recordWords (m .blocks)) × (length (now pool) ≤ 32768 * m .bytes) ⌝ }
-    ensures { λ r. ⌜ Tells r (Body (measuresOf m) (now (pool .entry)) (now (tills .entry)) (now (records .entry)) count versions blocks) ⌝ }
+    ensures { λ r. ⌜ Decides r (Body (measuresOf m) (now (pool .entry)) (now (tills .entry)) (now (records .entry)) count versions blocks) ⌝ }
 {
     if !audit_words::records_form(records, m.blocks) {
         return false;
     }
-    if !audit_cells::cells_say(pool, records, m) {
+    if !audit_cells::cells_sound(pool, records, m) {
         return false;
     }
-    counted_good(pool, tills, records, count, versions, blocks, m)
+    counted_sound(pool, tills, records, count, versions, blocks, m)
 }
 
 // Where the records begin.
@@ -76,15 +76,15 @@ fn records_at(tills: usize, versions: usize, blocks: usize) -> usize
 }
 
 // The same, of a table whose capacities are in range, and of buffers of their lengths.
-fn body_good(pool: &[u8], table: &[u32], m: Measures) -> bool
+fn body_sound(pool: &[u8], table: &[u32], m: Measures) -> bool
     requires { ⌜ Measured (measuresOf m) × Sized (measuresOf m) (now pool) (now table) ⌝ }
-    ensures { λ r. ⌜ Tells r (TableBody (measuresOf m) (now (pool .entry)) (now (table .entry))) ⌝ }
+    ensures { λ r. ⌜ Decides r (TableBody (measuresOf m) (now (pool .entry)) (now (table .entry))) ⌝ }
 {
     let tills = table[0] as usize;
     let versions = table[1] as usize;
     let blocks = table[2] as usize;
     let base = records_at(tills, versions, blocks);
-    parts_good(
+    parts_sound(
         pool,
         &table[layout::HEADER_WORDS..base],
         &table[base..],
@@ -103,5 +103,5 @@ pub fn sound(pool: &[u8], table: &[u32]) -> bool
         return false;
     }
     let m = layout::measures_in(table);
-    body_good(pool, table, m)
+    body_sound(pool, table, m)
 }

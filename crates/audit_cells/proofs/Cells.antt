@@ -15,9 +15,9 @@ use Rattle.lists.proofs.Cuts.{length-chunks, chunk-at, length-read}
 use Rattle.model.specs.State.{Block}
 use Rattle.model.specs.Measures.{Measures, recordWords}
 use Rattle.model.specs.Records.{cellsOf, namedCells}
-use Rattle.model.specs.Table.{segmentIn, recordsIn, cellsIn, shelfIn}
+use Rattle.model.specs.Table.{segmentIn, recordsIn, cellsIn, storageIn}
 use Rattle.model.specs.Sound.{hasCells, areFilled}
-use Rattle.audit_cells.specs.Cells.{CellsSay}
+use Rattle.audit_cells.specs.Cells.{CellsSound}
 use Rattle.lists.proofs.Apart.{collect-at, Apart, fits-apart, apart-fits, none-marked, marked-all}
 
 -- ---- the cells named, in the code's order
@@ -66,7 +66,7 @@ filled-at named i (b ∷ bs) h zero g = ap (λ (n : ℕ). isIn n named) (add-zer
 filled-at named i (b ∷ bs) h (suc k) g =
     ap (λ (n : ℕ). isIn n named) (let e : i + suc k ≡ suc i + k = omega arith in e) ∙ filled-at named (suc i) bs (clause _ 1 h) k (le-of-suc-le-suc g)
 
--- ---- CellsSay
+-- ---- CellsSound
 
 -- by the marks that are made from none, and by the bytes
 pub record Marked (sz : Measures) (m : ℕ) (pool ws : List ℕ) : Type 0 where
@@ -86,8 +86,8 @@ module _ (sz : Measures) (m : ℕ) (pool ws : List ℕ) (most : length pool / sz
   unfolding cellsIn
   cell-is k h = chunk-at (sz .blockBytes) pool k h
 
-  pub marked-say : Marked sz m pool ws → CellsSay (shelfIn sz pool ws)
-  unfolding shelfIn hasCells
+  pub marked-say : Marked sz m pool ws → CellsSound (storageIn sz pool ws)
+  unfolding storageIn hasCells
   marked-say s =
       let p : Apart (length pool / sz .blockBytes) named (replicate m false) = fits-apart (length pool / sz .blockBytes) named (replicate m false) (rw (length-replicate m false) most) (s .named) in
       record {
@@ -98,8 +98,8 @@ module _ (sz : Measures) (m : ℕ) (pool ws : List ℕ) (most : length pool / sz
             ∙ ap (λ (l : List ℕ). not (allZero l)) (sym (cell-is k g)));
       }
 
-  pub say-marked : CellsSay (shelfIn sz pool ws) → Marked sz m pool ws
-  unfolding shelfIn hasCells
+  pub say-marked : CellsSound (storageIn sz pool ws) → Marked sz m pool ws
+  unfolding storageIn hasCells
   say-marked s =
       record {
         named = apart-fits (length pool / sz .blockBytes) named (replicate m false)

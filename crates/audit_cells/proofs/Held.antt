@@ -7,7 +7,7 @@ use native.Mathlib.Nat.{pow-suc, suc-inj}
 use native.Mathlib.Omega.{arith}
 use lib.ListN.{length, getD, take, drop}
 use lib.Seq.{getD-take, getD-drop}
-use Rattle.lists.specs.Marks.{fits, marked, Marks}
+use Rattle.lists.specs.Marks.{fits, marked, MarkResult}
 use Rattle.lists.proofs.Checkers.{clash}
 use Rattle.lists.proofs.Marks.{fits-append, fits-stop, marked-append}
 use Rattle.lists.proofs.Masks.{First, here, later, first-le}
@@ -85,21 +85,21 @@ module _ (n top : ℕ) (row : List ℕ) (l : length row ≡ recordWords n) where
   left-all occ = let e = record-by n row l in record { kept = refl; ok = rw e; done = rw e }
 
   -- all are marked where none is left
-  left-none : (m : ℕ) (occ₀ occ : List Bool) → Left n top m row occ₀ occ → cells-by m cs ≡ [] → Marks true top (cellsOf (segmentIn n row)) occ₀ occ
+  left-none : (m : ℕ) (occ₀ occ : List Bool) → Left n top m row occ₀ occ → cells-by m cs ≡ [] → MarkResult true top (cellsOf (segmentIn n row)) occ₀ occ
   unfolding fits marked
   left-none m occ₀ occ w e = record { ok = rw e at (w .ok); done = λ t. rw e at (w .done) }
 
-  pub left-done : (m : ℕ) (occ₀ occ : List Bool) → Left n top m row occ₀ occ → m ≡ 0 → Marks true top (cellsOf (segmentIn n row)) occ₀ occ
+  pub left-done : (m : ℕ) (occ₀ occ : List Bool) → Left n top m row occ₀ occ → m ≡ 0 → MarkResult true top (cellsOf (segmentIn n row)) occ₀ occ
   left-done m occ₀ occ w e = left-none m occ₀ occ w (ap (λ (k : ℕ). cells-by k cs) e ∙ by-none cs)
 
   module _ (m t : ℕ) (f : First m t) (occ₀ occ : List Bool) (w : Left n top m row occ₀ occ) where
-    pub left-past : n ≤ t → Marks true top (cellsOf (segmentIn n row)) occ₀ occ
+    pub left-past : n ≤ t → MarkResult true top (cellsOf (segmentIn n row)) occ₀ occ
     left-past h = left-none m occ₀ occ w (by-past f cs (omega (arith, cells-long n row l)))
 
     next : t < n → cells-by m cs ≡ getD row (3 + t) 0 ∷ cells-by (m - 2 ^ t) cs
     next h = by-first f cs (omega (arith, cells-long n row l)) ∙ ap (λ (c : ℕ). c ∷ cells-by (m - 2 ^ t) cs) (getD-take n (drop 3 row) t 0 h ∙ getD-drop 3 row t 0)
 
-    pub left-less : (occ′ : List Bool) (r : Bool) → t < n → length occ′ ≡ length occ → Marks r top (getD row (3 + t) 0 ∷ []) occ occ′ → r ≡ true → Left n top (m - 2 ^ t) row occ₀ occ′
+    pub left-less : (occ′ : List Bool) (r : Bool) → t < n → length occ′ ≡ length occ → MarkResult r top (getD row (3 + t) 0 ∷ []) occ occ′ → r ≡ true → Left n top (m - 2 ^ t) row occ₀ occ′
     left-less occ′ r h k s e =
         let g : fits top (getD row (3 + t) 0 ∷ []) occ ≡ true = sym (s .ok) ∙ e in
         record {
@@ -108,7 +108,7 @@ module _ (n top : ℕ) (row : List ℕ) (l : length row ≡ recordWords n) where
           done = rw (s .done e) (sym (marked-append (getD row (3 + t) 0 ∷ []) (cells-by (m - 2 ^ t) cs) occ) ∙ ap (λ (x : List ℕ). marked x occ) (sym (next h)) ∙ w .done);
         }
 
-    pub left-fails : (occ′ : List Bool) (r : Bool) → t < n → Marks r top (getD row (3 + t) 0 ∷ []) occ occ′ → r ≡ false → Marks false top (cellsOf (segmentIn n row)) occ₀ occ′
+    pub left-fails : (occ′ : List Bool) (r : Bool) → t < n → MarkResult r top (getD row (3 + t) 0 ∷ []) occ occ′ → r ≡ false → MarkResult false top (cellsOf (segmentIn n row)) occ₀ occ′
     left-fails occ′ r h s e =
         record {
           ok = sym (fits-stop top (getD row (3 + t) 0 ∷ []) (cells-by (m - 2 ^ t) cs) occ (sym (s .ok) ∙ e)) ∙ ap (λ (x : List ℕ). fits top x occ) (sym (next h)) ∙ w .ok;

@@ -12,7 +12,7 @@ use lib.Seq.{getD-set-same, getD-set-other}
 use Rattle.lists.specs.Lists.{count}
 use Rattle.lists.proofs.Slices.{drop-next, drop-end}
 use Rattle.model.specs.Table.{kindUnit}
-use Rattle.audit_counts.specs.Counters.{bumped, tallied, pointersTo}
+use Rattle.audit_counts.specs.Counters.{bumped, countsAfter, countTo}
 
 -- ---- bumped
 
@@ -68,34 +68,34 @@ bumped-other w cs h = rw (ne-eqb (w / kindUnit) 1 h)
 
 -- ---- tallied
 
-pub tallied-turn : (ws : List ℕ) (i : ℕ) (cs : List ℕ) → i < length ws → tallied (drop i ws) cs ≡ tallied (drop (i + 1) ws) (bumped (getD ws i 0) cs)
-unfolding tallied
+pub tallied-turn : (ws : List ℕ) (i : ℕ) (cs : List ℕ) → i < length ws → countsAfter (drop i ws) cs ≡ countsAfter (drop (i + 1) ws) (bumped (getD ws i 0) cs)
+unfolding countsAfter
 tallied-turn ws i cs h = rw (drop-next ws i 0 h)
 
-pub tally-done : (ws : List ℕ) (i : ℕ) (cs ts : List ℕ) → length ws ≤ i → tallied (drop i ws) cs ≡ ts → cs ≡ ts
-unfolding tallied
+pub tally-done : (ws : List ℕ) (i : ℕ) (cs ts : List ℕ) → length ws ≤ i → countsAfter (drop i ws) cs ≡ ts → cs ≡ ts
+unfolding countsAfter
 tally-done ws i cs ts h e = rw (drop-end ws i h) at e
 
 -- each counter grows by the number of direct pointers to its position
-tallied-at : (ws cs : List ℕ) (k : ℕ) → k < length cs → k < kindUnit → getD (tallied ws cs) k 0 ≡ getD cs k 0 + pointersTo k ws
-unfolding tallied pointersTo count
+tallied-at : (ws cs : List ℕ) (k : ℕ) → k < length cs → k < kindUnit → getD (countsAfter ws cs) k 0 ≡ getD cs k 0 + countTo k ws
+unfolding countsAfter countTo count
 tallied-at [] cs k l s = omega arith
 tallied-at (w ∷ ws) cs k l s =
     omega (arith, tallied-at ws (bumped w cs) k (omega (arith, bumped-length w cs)) s, bumped-at w cs k l s)
 
-pub tallied-length : (ws cs : List ℕ) → length (tallied ws cs) ≡ length cs
-unfolding tallied
+pub tallied-length : (ws cs : List ℕ) → length (countsAfter ws cs) ≡ length cs
+unfolding countsAfter
 tallied-length [] cs = refl
 tallied-length (w ∷ ws) cs = tallied-length ws (bumped w cs) ∙ bumped-length w cs
 
 -- a counter grows by no more than there are words
-pub tallied-le : (ws cs : List ℕ) (k : ℕ) → getD (tallied ws cs) k 0 ≤ getD cs k 0 + length ws
-unfolding tallied
+pub tallied-le : (ws cs : List ℕ) (k : ℕ) → getD (countsAfter ws cs) k 0 ≤ getD cs k 0 + length ws
+unfolding countsAfter
 tallied-le [] cs k = omega arith
 tallied-le (w ∷ ws) cs k = omega (arith, tallied-le ws (bumped w cs) k, bumped-le w cs k)
 
-pub tallied-append : (xs ys cs : List ℕ) → tallied (xs ++ ys) cs ≡ tallied ys (tallied xs cs)
-unfolding tallied
+pub tallied-append : (xs ys cs : List ℕ) → countsAfter (xs ++ ys) cs ≡ countsAfter ys (countsAfter xs cs)
+unfolding countsAfter
 tallied-append [] ys cs = refl
 tallied-append (x ∷ xs) ys cs = tallied-append xs ys (bumped x cs)
 
@@ -109,6 +109,6 @@ zeros-at (suc n) (suc k) = zeros-at n k
 pub zeros-fit : (n k m : ℕ) → m ≤ 2000000 → getD (replicate {A = ℕ} n 0) k 0 + m < 2 ^ 32
 zeros-fit n k m h = omega (arith, zeros-at n k)
 
-pub tallied-zeros : (n : ℕ) (ws : List ℕ) (k : ℕ) → k < n → n ≤ 65536 → getD (tallied ws (replicate n 0)) k 0 ≡ pointersTo k ws
+pub tallied-zeros : (n : ℕ) (ws : List ℕ) (k : ℕ) → k < n → n ≤ 65536 → getD (countsAfter ws (replicate n 0)) k 0 ≡ countTo k ws
 tallied-zeros n ws k h g =
-    tallied-at ws (replicate n 0) k (rw (length-replicate {A = ℕ} n 0) h) (omega arith) ∙ ap (λ (x : ℕ). x + pointersTo k ws) (zeros-at n k) ∙ zero-add (pointersTo k ws)
+    tallied-at ws (replicate n 0) k (rw (length-replicate {A = ℕ} n 0) h) (omega arith) ∙ ap (λ (x : ℕ). x + countTo k ws) (zeros-at n k) ∙ zero-add (countTo k ws)

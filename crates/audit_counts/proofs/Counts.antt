@@ -10,7 +10,7 @@ use lib.ListN.{length, getD, take, drop, replicate, length-drop}
 use lib.Seq.{length-take-le}
 use Rattle.lists.specs.Lists.{count}
 use Rattle.lists.specs.Rows.{chunks}
-use Rattle.lists.specs.Tells.{Tells}
+use Rattle.lists.specs.Decides.{Decides}
 use Rattle.lists.proofs.Checkers.{same-as}
 use Rattle.lists.proofs.Tests.{clause, all-true}
 use Rattle.lists.proofs.Cuts.{length-read, read-at}
@@ -21,7 +21,7 @@ use Rattle.model.specs.Table.{positionOf, segmentIn, recordsIn}
 use Rattle.model.specs.Sound.{leadsTo, isCounted, areCounted, allCounted}
 use Rattle.audit_words.specs.Words.{bitOf}
 use Rattle.audit_words.proofs.Positions.{segment-at, segment-long}
-use Rattle.audit_counts.specs.Counters.{tallied, pointersTo, CountSays, RecordCounts, CountsSay}
+use Rattle.audit_counts.specs.Counters.{countsAfter, countTo, CountExact, RecordCounts, CountsExact}
 use Rattle.audit_counts.proofs.Counters.{tallied-zeros}
 
 -- ---- areCounted and allCounted, by place
@@ -80,25 +80,25 @@ module _ (ps : List Pointer) (k i c n : ℕ) where
 -- ---- a record's words
 
 module _ (n : ℕ) (ps : List Pointer) (k : ℕ) (row : List ℕ) (l : length row ≡ recordWords n) where
-  record-says : ((i : ℕ) → i < n → CountSays n row i (count (leadsTo k i) ps)) → areCounted ps k 0 (segmentIn n row) ≡ true
+  record-says : ((i : ℕ) → i < n → CountExact n row i (count (leadsTo k i) ps)) → areCounted ps k 0 (segmentIn n row) ≡ true
   record-says h =
       counted-of ps k 0 (segmentIn n row) (λ j b.
       let g : j < n = rw (segment-long n row l) at b in
       rw (zero-add j, segment-at n row l j g) (position-says ps k j _ _ (bitOf (getD row 0 0) j) (bitOf (getD row 1 0) j) (bitOf (getD row 2 0) j) (omega arith) (h j g)))
 
-  says-record : areCounted ps k 0 (segmentIn n row) ≡ true → (i : ℕ) → i < n → CountSays n row i (count (leadsTo k i) ps)
+  says-record : areCounted ps k 0 (segmentIn n row) ≡ true → (i : ℕ) → i < n → CountExact n row i (count (leadsTo k i) ps)
   says-record h i b =
       says-position ps k i _ _ (bitOf (getD row 0 0) i) (bitOf (getD row 1 0) i) (bitOf (getD row 2 0) i)
       (rw (zero-add i, segment-at n row l i b) at (counted-at ps k 0 (segmentIn n row) h i (rw (segment-long n row l) b)))
 
 -- ---- counters that were made from zeros
 
-pub counts-are : {r : Bool} (n : ℕ) (tills ws : List ℕ) (m : ℕ) (cs : List ℕ) → n ≤ 16 → length ws ≤ 4096 * recordWords n → m ≡ 65536 → cs ≡ tallied tills (replicate m 0)
-    → Tells r (RecordCounts n (λ p. getD cs p 0) ws) → Tells r (CountsSay n tills ws)
+pub counts-are : {r : Bool} (n : ℕ) (tills ws : List ℕ) (m : ℕ) (cs : List ℕ) → n ≤ 16 → length ws ≤ 4096 * recordWords n → m ≡ 65536 → cs ≡ countsAfter tills (replicate m 0)
+    → Decides r (RecordCounts n (λ p. getD cs p 0) ws) → Decides r (CountsExact n tills ws)
 counts-are n tills ws m cs few l e h t =
     same-as (λ f k a i b. rw (is k i a b) at (f k a i b)) (λ f k a i b. rw (is k i a b) (f k a i b)) t
   where
-    is : (k i : ℕ) → k < length ws / recordWords n → i < n → getD cs (k * 16 + i) 0 ≡ pointersTo (k * 16 + i) tills
+    is : (k i : ℕ) → k < length ws / recordWords n → i < n → getD cs (k * 16 + i) 0 ≡ countTo (k * 16 + i) tills
     is k i a b =
         ap (λ (x : List ℕ). getD x (k * 16 + i) 0) h
         ∙ tallied-zeros m tills (k * 16 + i) (omega (arith, few, e, a, b, rows-few (length ws) (recordWords n) (omega arith) 4096 l)) (omega (arith, e))
@@ -106,13 +106,13 @@ counts-are n tills ws m cs few l e h t =
 -- ---- all records
 
 module _ (n : ℕ) (ps : List Pointer) (tills ws : List ℕ)
-    (same : (k i : ℕ) → k < length ws / recordWords n → i < n → pointersTo (k * 16 + i) tills ≡ count (leadsTo k i) ps) where
+    (same : (k i : ℕ) → k < length ws / recordWords n → i < n → countTo (k * 16 + i) tills ≡ count (leadsTo k i) ps) where
   row-long : (k : ℕ) → k < length ws / recordWords n → length (take (recordWords n) (drop (k * recordWords n) ws)) ≡ recordWords n
   row-long k h =
       length-take-le (recordWords n) (drop (k * recordWords n) ws)
       (omega (arith, length-drop (k * recordWords n) ws, row-in (length ws) (recordWords n) (omega arith) k h))
 
-  pub counts-sound : CountsSay n tills ws → allCounted ps 0 (recordsIn n ws) ≡ true
+  pub counts-sound : CountsExact n tills ws → allCounted ps 0 (recordsIn n ws) ≡ true
   unfolding recordsIn
   counts-sound s =
       all-of ps 0 (map (segmentIn n) (chunks (recordWords n) ws)) (segmentIn n []) (λ k b.
@@ -120,7 +120,7 @@ module _ (n : ℕ) (ps : List Pointer) (tills ws : List ℕ)
       rw (zero-add k, read-at (segmentIn n) (recordWords n) ws k h)
       (record-says n ps k (take (recordWords n) (drop (k * recordWords n) ws)) (row-long k h) (λ i g. rw (same k i h g) at (s k h i g))))
 
-  pub sound-counts : allCounted ps 0 (recordsIn n ws) ≡ true → CountsSay n tills ws
+  pub sound-counts : allCounted ps 0 (recordsIn n ws) ≡ true → CountsExact n tills ws
   unfolding recordsIn
   sound-counts e k h i g =
       rw (same k i h g) (says-record n ps k (take (recordWords n) (drop (k * recordWords n) ws)) (row-long k h)

@@ -11,27 +11,27 @@ use lib.Pow.{pow-pos}
 use Rattle.lists.proofs.Bits.{first-clear}
 use Rattle.lists.proofs.Masks.{First, first-bit, bit-le, clear-at, clear-other}
 use Rattle.audit_words.specs.Words.{bitOf}
-use Rattle.audit_counts.specs.Counters.{CountSays}
+use Rattle.audit_counts.specs.Counters.{CountExact}
 
 -- the positions of the mask m are left: all of them are held, and the counts of the others are as they are to be
 pub record Left (n m : ℕ) (row counts : List ℕ) : Type 0 where
   pub held : (k : ℕ) → bitOf m k ≡ 1 → bitOf (getD row 0 0) k ≡ 1
-  pub says : (k : ℕ) → k < n → bitOf m k ≡ 0 → CountSays n row k (getD counts k 0)
+  pub canonical : (k : ℕ) → k < n → bitOf m k ≡ 0 → CountExact n row k (getD counts k 0)
 
 module _ (n : ℕ) (row counts : List ℕ) where
   pub left-all : Left n (getD row 0 0) row counts
-  left-all = record { held = λ k e. e; says = λ k h z o. absurd (omega (arith, z, o)) }
+  left-all = record { held = λ k e. e; canonical = λ k h z o. absurd (omega (arith, z, o)) }
 
-  pub left-done : (m : ℕ) → Left n m row counts → m ≡ 0 → (k : ℕ) → k < n → CountSays n row k (getD counts k 0)
-  left-done m w e k h = w .says k h (go (eqb (bitOf m k) 1) refl)
+  pub left-done : (m : ℕ) → Left n m row counts → m ≡ 0 → (k : ℕ) → k < n → CountExact n row k (getD counts k 0)
+  left-done m w e k h = w .canonical k h (go (eqb (bitOf m k) 1) refl)
     where
       go : (t : Bool) → eqb (bitOf m k) 1 ≡ t → bitOf m k ≡ 0
       go true q = absurd (omega (arith, e, bit-le m k (eqb-true (bitOf m k) 1 q), pow-pos k))
       go false q = omega (arith, eqb-false (bitOf m k) 1 q)
 
   module _ (m t : ℕ) (f : First m t) (w : Left n m row counts) where
-    pub left-past : n ≤ t → (k : ℕ) → k < n → CountSays n row k (getD counts k 0)
-    left-past h k l = w .says k l (first-clear f k (omega (arith, h, l)))
+    pub left-past : n ≤ t → (k : ℕ) → k < n → CountExact n row k (getD counts k 0)
+    left-past h k l = w .canonical k l (first-clear f k (omega (arith, h, l)))
 
     pub left-held : bitOf (getD row 0 0) t ≡ 1
     left-held = w .held t (first-bit f)
@@ -40,13 +40,13 @@ module _ (n : ℕ) (row counts : List ℕ) where
     left-less s =
         record {
           held = λ k e. keeps k e (eqb k t) refl;
-          says = λ k h z. tells k h z (eqb k t) refl;
+          canonical = λ k h z. tells k h z (eqb k t) refl;
         }
       where
         keeps : (k : ℕ) → bitOf (m - 2 ^ t) k ≡ 1 → (b : Bool) → eqb k t ≡ b → bitOf (getD row 0 0) k ≡ 1
         keeps k e true q = absurd (omega (arith, subst (λ (j : ℕ). bitOf (m - 2 ^ t) j ≡ 1) (eqb-true k t q) e, clear-at m t (first-bit f)))
         keeps k e false q = w .held k (sym (clear-other m t k (first-bit f) (eqb-false k t q)) ∙ e)
 
-        tells : (k : ℕ) → k < n → bitOf (m - 2 ^ t) k ≡ 0 → (b : Bool) → eqb k t ≡ b → CountSays n row k (getD counts k 0)
-        tells k h z true q = subst (λ (j : ℕ). CountSays n row j (getD counts j 0)) (sym (eqb-true k t q)) (λ o. s)
-        tells k h z false q = w .says k h (sym (clear-other m t k (first-bit f) (eqb-false k t q)) ∙ z)
+        tells : (k : ℕ) → k < n → bitOf (m - 2 ^ t) k ≡ 0 → (b : Bool) → eqb k t ≡ b → CountExact n row k (getD counts k 0)
+        tells k h z true q = subst (λ (j : ℕ). CountExact n row j (getD counts j 0)) (sym (eqb-true k t q)) (λ o. s)
+        tells k h z false q = w .canonical k h (sym (clear-other m t k (first-bit f) (eqb-false k t q)) ∙ z)

@@ -16,9 +16,9 @@ use Rattle.model.specs.State.{Pointer, nullPointer, blankPointer, direct, indir
 use Rattle.model.specs.Table.{kindUnit, pointerWord, wordToPointer}
 use Rattle.model.specs.Sound.{leadsTo}
 use Rattle.laws.proofs.Fits.{PointerFits}
-use Rattle.audit_words.specs.Words.{PointerSays}
+use Rattle.audit_words.specs.Words.{IsPointerWord}
 use Rattle.audit_words.proofs.Pointers.{read-direct, read-indirect, read-blank, read-other}
-use Rattle.audit_counts.specs.Counters.{pointersTo}
+use Rattle.audit_counts.specs.Counters.{countTo}
 
 -- a pointer that was read from a word fits one
 fits-word : (w : ℕ) → PointerFits (wordToPointer w)
@@ -53,25 +53,25 @@ module _ (k i : ℕ) (hi : i < 16) (hq : k * 16 + i < kindUnit) where
           high k i k′ i′ a b z = omega arith
   one (indirect n) h = rw (ne-eqb (2 * kindUnit + n) (kindUnit + q) (λ e. absurd (omega arith)))
 
-  pointers : (ps : List Pointer) → Each PointerFits ps → pointersTo q (map pointerWord ps) ≡ count (leadsTo k i) ps
-  unfolding pointersTo count
+  pointers : (ps : List Pointer) → Each PointerFits ps → countTo q (map pointerWord ps) ≡ count (leadsTo k i) ps
+  unfolding countTo count
   pointers [] h = refl
   pointers (p ∷ ps) h = ap₂ _+_ (one p (h .0)) (pointers ps (h .1))
 
   -- of words that say pointers
-  pub words-count : (ws : List ℕ) → Each PointerSays ws → pointersTo q ws ≡ count (leadsTo k i) (map wordToPointer ws)
-  words-count ws says =
-      ap (pointersTo q) (sym (map-back wordToPointer pointerWord ws says))
+  pub words-count : (ws : List ℕ) → Each IsPointerWord ws → countTo q ws ≡ count (leadsTo k i) (map wordToPointer ws)
+  words-count ws canonical =
+      ap (countTo q) (sym (map-back wordToPointer pointerWord ws canonical))
       ∙ pointers (map wordToPointer ws) (each-map PointerFits wordToPointer ws (each-all (λ w. PointerFits (wordToPointer w)) fits-word ws))
 
-  append : (xs ys : List ℕ) → pointersTo q (xs ++ ys) ≡ pointersTo q xs + pointersTo q ys
-  unfolding pointersTo
+  append : (xs ys : List ℕ) → countTo q (xs ++ ys) ≡ countTo q xs + countTo q ys
+  unfolding countTo
   append xs ys = count-append (λ w. eqb w (kindUnit + q)) xs ys
 
   -- rows whose words say as many as their things
-  pub rows-count : {A : Type 0} (P : A → Type 0) (enc : A → List ℕ) (ps : A → List Pointer) → ((x : A) → P x → pointersTo q (enc x) ≡ count (leadsTo k i) (ps x))
-      → (xs : List A) → Each P xs → pointersTo q (rows enc xs) ≡ count (leadsTo k i) (rows ps xs)
+  pub rows-count : {A : Type 0} (P : A → Type 0) (enc : A → List ℕ) (ps : A → List Pointer) → ((x : A) → P x → countTo q (enc x) ≡ count (leadsTo k i) (ps x))
+      → (xs : List A) → Each P xs → countTo q (rows enc xs) ≡ count (leadsTo k i) (rows ps xs)
   unfolding joined
-  rows-count P enc ps f [] h = unfold pointersTo count in refl
+  rows-count P enc ps f [] h = unfold countTo count in refl
   rows-count P enc ps f (x ∷ xs) h =
       append (enc x) (rows enc xs) ∙ ap₂ _+_ (f x (h .0)) (rows-count P enc ps f xs (h .1)) ∙ sym (count-append (leadsTo k i) (ps x) (rows ps xs))

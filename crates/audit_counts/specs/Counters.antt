@@ -14,23 +14,23 @@ use Rattle.audit_words.specs.Words.{bitOf}
 unfoldable pub bumped : ℕ → List ℕ → List ℕ
 bumped w cs = cond (eqb (w / kindUnit) 1) (set cs (w % kindUnit) (getD cs (w % kindUnit) 0 + 1)) cs
 
-unfoldable pub tallied : List ℕ → List ℕ → List ℕ
-tallied [] cs = cs
-tallied (w ∷ ws) cs = tallied ws (bumped w cs)
+unfoldable pub countsAfter : List ℕ → List ℕ → List ℕ
+countsAfter [] cs = cs
+countsAfter (w ∷ ws) cs = countsAfter ws (bumped w cs)
 
 -- how many words are direct pointers to the position `p`, 16 * record + place
-unfoldable pub pointersTo : ℕ → List ℕ → ℕ
-pointersTo p ws = count (λ w. eqb w (kindUnit + p)) ws
+unfoldable pub countTo : ℕ → List ℕ → ℕ
+countTo p ws = count (λ w. eqb w (kindUnit + p)) ws
 
 -- the count word of position `i` in the words of a record of `n` positions, if it is held, is `c` and at least 1
-abbrev pub CountSays : ℕ → List ℕ → ℕ → ℕ → Type 0
-CountSays n row i c = bitOf (getD row 0 0) i ≡ 1 → (1 ≤ getD row (3 + n + i) 0) × (getD row (3 + n + i) 0 ≡ c)
+abbrev pub CountExact : ℕ → List ℕ → ℕ → ℕ → Type 0
+CountExact n row i c = bitOf (getD row 0 0) i ≡ 1 → (1 ≤ getD row (3 + n + i) 0) × (getD row (3 + n + i) 0 ≡ c)
 
 -- of all records, by the count of each position
 abbrev pub RecordCounts : ℕ → (ℕ → ℕ) → List ℕ → Type 0
 RecordCounts n counts ws =
-    (k : ℕ) → k < length ws / recordWords n → (i : ℕ) → i < n → CountSays n (take (recordWords n) (drop (k * recordWords n) ws)) i (counts (k * 16 + i))
+    (k : ℕ) → k < length ws / recordWords n → (i : ℕ) → i < n → CountExact n (take (recordWords n) (drop (k * recordWords n) ws)) i (counts (k * 16 + i))
 
 -- the counts in the records' words are the numbers of direct pointers among the pointer words
-abbrev pub CountsSay : ℕ → List ℕ → List ℕ → Type 0
-CountsSay n pointers ws = RecordCounts n (λ p. pointersTo p pointers) ws
+abbrev pub CountsExact : ℕ → List ℕ → List ℕ → Type 0
+CountsExact n pointers ws = RecordCounts n (λ p. countTo p pointers) ws

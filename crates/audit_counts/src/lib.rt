@@ -3,9 +3,9 @@ ghost use mathlib.Core.Bool.{true, false};
 ghost use mathlib.Core.Path.{_≡_};
 ghost use Prim.Native.Nat.{ℕ, _+_, _*_, _/_, _^_, _≤_, _<_};
 ghost use lib.ListN.{length, getD};
-ghost use Rattle.lists.specs.Tells.{Tells};
+ghost use Rattle.lists.specs.Decides.{Decides};
 ghost use Rattle.model.specs.Measures.{recordWords};
-ghost use Rattle.audit_counts.specs.Counters.{bumped, tallied, CountSays, RecordCounts, CountsSay};
+ghost use Rattle.audit_counts.specs.Counters.{bumped, countsAfter, CountExact, RecordCounts, CountsExact};
 use numbers::Segment;
 
 // One word is counted: a direct pointer adds 1 to its position's counter.
@@ -24,8 +24,8 @@ pub fn bump(counts: &mut [u32], w: u32)
 }
 
 // Whether a held position's count word is the count and at least 1.
-fn count_says(word: u32, count: u32) -> bool
-    ensures { λ r. ⌜ Tells r ((1 ≤ word) × (word ≡ count)) ⌝ }
+fn count_exact(word: u32, count: u32) -> bool
+    ensures { λ r. ⌜ Decides r ((1 ≤ word) × (word ≡ count)) ⌝ }
 {
     if word < 1 {
         return false;
@@ -33,10 +33,10 @@ fn count_says(word: u32, count: u32) -> bool
     word == count
 }
 
-// Whether those of a record are, by its counters, from one held position to the next.
+// Whether that holds of every held position of a record, by its counters.
 fn record_counts(row: &[u32], counts: &[u32], n: usize) -> bool
     requires { ⌜ (n ≤ 16) × (length (now row) ≡ recordWords n) × (n ≤ length (now counts)) ⌝ }
-    ensures { λ r. ⌜ Tells r ((i : ℕ) → i < n → CountSays n (now (row .entry)) i (getD (now (counts .entry)) i 0)) ⌝ }
+    ensures { λ r. ⌜ Decides r ((i : ℕ) → i < n → CountExact n (now (row .entry)) i (getD (now (counts .entry)) i 0)) ⌝ }
 {
     let mut m = row[0];
     while m != 0 {
@@ -45,7 +45,7 @@ fn record_counts(row: &[u32], counts: &[u32], n: usize) -> bool
         if n <= i {
             return true;
         }
-        if !count_says(row[3 + n + i], counts[i]) {
+        if !count_exact(row[3 + n + i], counts[i]) {
             return false;
         }
         m = m - (1u32 << p);
@@ -53,10 +53,10 @@ fn record_counts(row: &[u32], counts: &[u32], n: usize) -> bool
     true
 }
 
-// Whether those of all records are. A record has as many counters as the most positions that one can have.
+// Whether it holds of all records. A record has as many counters as the most positions that one can have.
 pub fn records_counts(records: &[u32], counts: &[u32], n: usize) -> bool
     requires { ⌜ (n ≤ 16) × (length (now records) ≤ 4096 * recordWords n) × (length (now counts) ≡ 65536) ⌝ }
-    ensures { λ r. ⌜ Tells r (RecordCounts n (λ p. getD (now (counts .entry)) p 0) (now (records .entry))) ⌝ }
+    ensures { λ r. ⌜ Decides r (RecordCounts n (λ p. getD (now (counts .entry)) p 0) (now (records .entry))) ⌝ }
 {
     let width = numbers::row_words(n);
     let count = numbers::parts(records.len(), width);

@@ -10,7 +10,7 @@ use Rattle.lists.specs.Lists.{allOf, allZero}
 use Rattle.lists.proofs.Slices.{drop-next}
 use Rattle.model.specs.Measures.{Measures, baseMeasures, isBase}
 use Rattle.model.specs.Table.{measureWord, measuresIn, shapeOf, headerToWords}
-use Rattle.audit_header.specs.Header.{Written}
+use Rattle.audit_header.specs.Header.{MeasuresCanonical}
 
 module _ (a b c : ℕ) where
   chosen : Measures
@@ -59,7 +59,7 @@ module _ (ws : List ℕ) (h : 8 ≤ length ws) where
       step : (i : ℕ) → i < length ws → drop i ws ≡ getD ws i 0 ∷ drop (i + 1) ws
       step i h = drop-next ws i 0 h
 
-  pub header-written : Written ws (shapeOf ws .measures) → headerToWords (shapeOf ws) ≡ take 8 ws
+  pub header-written : MeasuresCanonical ws (shapeOf ws .measures) → headerToWords (shapeOf ws) ≡ take 8 ws
   unfolding shapeOf headerToWords chosen
   header-written w =
       rw (
@@ -69,7 +69,7 @@ module _ (ws : List ℕ) (h : 8 ≤ length ws) where
       )
       (sym first-eight)
 
-  pub written-header : headerToWords (shapeOf ws) ≡ take 8 ws → Written ws (shapeOf ws .measures)
+  pub written-header : headerToWords (shapeOf ws) ≡ take 8 ws → MeasuresCanonical ws (shapeOf ws .measures)
   unfolding shapeOf headerToWords chosen
   written-header e =
       let same = e ∙ first-eight in

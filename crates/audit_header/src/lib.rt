@@ -3,15 +3,15 @@ ghost use mathlib.Core.Bool.{true, false};
 ghost use mathlib.Core.Path.{_≡_};
 ghost use Prim.Native.Nat.{ℕ, _≤_};
 ghost use lib.ListN.{length};
-ghost use Rattle.lists.specs.Tells.{Tells};
+ghost use Rattle.lists.specs.Decides.{Decides};
 ghost use Rattle.numbers.specs.Measures.{measuresOf};
-ghost use Rattle.audit_header.specs.Header.{Written, Header};
+ghost use Rattle.audit_header.specs.Header.{MeasuresCanonical, HeaderSound};
 use numbers::Measures;
 
 // Whether the words of the measures are those that a lay out writes: 64, 8 and 20 are not written out.
 fn measures_written(table: &[u32], m: Measures) -> bool
     requires { ⌜ 8 ≤ length (now table) ⌝ }
-    ensures { λ r. ⌜ Tells r (Written (now (table .entry)) (measuresOf m)) ⌝ }
+    ensures { λ r. ⌜ Decides r (MeasuresCanonical (now (table .entry)) (measuresOf m)) ⌝ }
 {
     if table[5] != m.word(table[5]) {
         return false;
@@ -24,7 +24,7 @@ fn measures_written(table: &[u32], m: Measures) -> bool
 
 // Whether header and lengths are those of a store.
 pub fn header(pool: &[u8], table: &[u32]) -> bool
-    ensures { λ r. ⌜ Tells r (Header (now (pool .entry)) (now (table .entry))) ⌝ }
+    ensures { λ r. ⌜ Decides r (HeaderSound (now (pool .entry)) (now (table .entry))) ⌝ }
 {
     if table.len() < layout::HEADER_WORDS {
         return false;

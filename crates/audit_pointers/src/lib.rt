@@ -4,14 +4,14 @@ ghost use mathlib.Core.Path.{_≡_};
 ghost use mathlib.Core.List.{[], map};
 ghost use Prim.Native.Nat.{ℕ, _+_, _*_, _^_, _≤_, _<_};
 ghost use lib.ListN.{length, getD};
-ghost use Rattle.lists.specs.Tells.{Tells};
-ghost use Rattle.model.specs.State.{nullPointer, nullPosition, Shelf};
+ghost use Rattle.lists.specs.Decides.{Decides};
+ghost use Rattle.model.specs.State.{nullPointer, nullPosition, Storage};
 ghost use Rattle.model.specs.Records.{isHeld, cellOf};
 ghost use Rattle.model.specs.Table.{wordToPointer, recordsIn, versionIn, versionsIn};
 ghost use Rattle.model.specs.Trace.{endOf};
 ghost use Rattle.model.specs.Sound.{isNull};
-ghost use Rattle.audit_counts.specs.Counters.{bumped, tallied};
-ghost use Rattle.audit_pointers.specs.Good.{PointerGood, PointersGood};
+ghost use Rattle.audit_counts.specs.Counters.{bumped, countsAfter};
+ghost use Rattle.audit_pointers.specs.Sound.{PointerSound, PointersSound};
 use numbers::Block;
 use numbers::Cell;
 use numbers::Pointer;
@@ -67,11 +67,11 @@ fn not_null(words: &[u32], b: Block) -> bool
     kind <= 3
 }
 
-// Whether a word says a pointer that leads to a held position, or to a block of the next newer version that is not null; whatever the cells.
+// Whether a word is that of a pointer that leads to a held position, or to a block of the next newer version that is not null; whatever the cells.
 // It is counted. The kinds that stand in most versions are tested first.
-fn pointer_good(records: &[u32], newer: &[u32], w: u32, counts: &mut [u32], n: usize) -> bool
+fn pointer_sound(records: &[u32], newer: &[u32], w: u32, counts: &mut [u32], n: usize) -> bool
     requires { ⌜ (n ≤ 16) × ((k : ℕ) → getD (now counts) k 0 + 1 < 2 ^ 32) ⌝ }
-    ensures { λ r. ⌜ ((shelf : Shelf) → shelf .records ≡ recordsIn n (now (records .entry)) → Tells r (PointerGood shelf (now (newer .entry)) w)) × (r ≡ true → now (counts .exit) ≡ bumped w (now (counts .entry))) ⌝ }
+    ensures { λ r. ⌜ ((storage : Storage) → storage .records ≡ recordsIn n (now (records .entry)) → Decides r (PointerSound storage (now (newer .entry)) w)) × (r ≡ true → now (counts .exit) ≡ bumped w (now (counts .entry))) ⌝ }
 {
     let kind = w / 0x100_0000;
     let low = w % 0x100_0000;
@@ -88,8 +88,8 @@ fn pointer_good(records: &[u32], newer: &[u32], w: u32, counts: &mut [u32], n: u
     w == Pointer::blank().0
 }
 
-// Whether each of some words says a pointer, which does. They are counted on the way, so that one pass serves for all.
-pub fn pointers_good(
+// Whether each of some words is that of such a pointer. They are counted on the way, so that one pass serves for all.
+pub fn pointers_sound(
     records: &[u32],
     newer: &[u32],
     words: &[u32],
@@ -97,11 +97,11 @@ pub fn pointers_good(
     n: usize,
 ) -> bool
     requires { ⌜ (n ≤ 16) × ((k : ℕ) → getD (now counts) k 0 + length (now words) < 2 ^ 32) ⌝ }
-    ensures { λ r. ⌜ ((shelf : Shelf) → shelf .records ≡ recordsIn n (now (records .entry)) → Tells r (PointersGood shelf (now (newer .entry)) (now (words .entry)))) × (r ≡ true → now (counts .exit) ≡ tallied (now (words .entry)) (now (counts .entry))) ⌝ }
+    ensures { λ r. ⌜ ((storage : Storage) → storage .records ≡ recordsIn n (now (records .entry)) → Decides r (PointersSound storage (now (newer .entry)) (now (words .entry)))) × (r ≡ true → now (counts .exit) ≡ countsAfter (now (words .entry)) (now (counts .entry))) ⌝ }
 {
     let mut i: usize = 0;
     while i < words.len() {
-        if !pointer_good(records, newer, words[i], counts, n) {
+        if !pointer_sound(records, newer, words[i], counts, n) {
             return false;
         }
         i += 1;

@@ -11,7 +11,7 @@ use lib.Seq.{getD-take, getD-drop}
 use Rattle.lists.specs.Lists.{rises}
 use Rattle.lists.specs.Rows.{parts}
 use Rattle.audit_pointers.proofs.Slots.{slots-next}
-use Rattle.audit_tills.specs.Says.{numbersIn}
+use Rattle.audit_tills.specs.Sound.{numbersIn}
 
 -- ---- the first of some numbers
 
@@ -39,15 +39,15 @@ numbers-cons b zero ws h = absurd (omega arith)
 numbers-cons b (suc n) ws h = let e : suc n - 1 ≡ n = omega arith in rw (e, getD-take (3 + b) ws 0 0 (omega arith))
 
 -- what is left to see from slot i of n on, whose number is to be `least` or more
-pub record Left (b last n least i : ℕ) (ws : List ℕ) : Type 0 where
+pub record StillRises (b last n least i : ℕ) (ws : List ℕ) : Type 0 where
   pub some : 1 ≤ least
   pub rest : rises (least - 1) last (numbersIn b (n - i) (drop (i * (3 + b)) ws)) ≡ rises 0 last (numbersIn b n ws)
 
 module _ (b last n : ℕ) (ws : List ℕ) where
-  pub left-all : Left b last n 1 0 ws
+  pub left-all : StillRises b last n 1 0 ws
   left-all = record { some = omega arith; rest = rw (zero-mul (3 + b), sub-zero n) }
 
-  module _ {least i : ℕ} (l : Left b last n least i ws) where
+  module _ {least i : ℕ} (l : StillRises b last n least i ws) where
     pub left-none : n ≤ i → true ≡ rises 0 last (numbersIn b n ws)
     unfolding rises
     left-none h = sym (ap (rises (least - 1) last) (numbers-none b (n - i) (drop (i * (3 + b)) ws) (omega arith))) ∙ l .rest
@@ -74,7 +74,7 @@ module _ (b last n : ℕ) (ws : List ℕ) where
       pub left-high : least ≤ number → last < number → false ≡ rises 0 last (numbersIn b n ws)
       left-high g k = sym (first-high (least - 1) last number newer (omega (arith, l .some)) k) ∙ here
 
-      pub left-next : (next : ℕ) → least ≤ number → number ≤ last → next ≡ number + 1 → Left b last n next (i + 1) ws
+      pub left-next : (next : ℕ) → least ≤ number → number ≤ last → next ≡ number + 1 → StillRises b last n next (i + 1) ws
       left-next next g k e =
           let f : next - 1 ≡ number = omega arith in
           record { some = omega arith; rest = ap (λ (m : ℕ). rises m last newer) f ∙ sym (first-good (least - 1) last number newer (omega (arith, l .some)) k) ∙ here }

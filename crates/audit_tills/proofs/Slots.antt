@@ -9,23 +9,23 @@ use lib.Arith.{digits-lt}
 use lib.ListN.{length, getD, take, drop, length-drop, length-take}
 use lib.Seq.{take-take, drop-drop}
 use Rattle.lists.specs.Rows.{joined, rows, parts}
-use Rattle.lists.specs.Tells.{Tells}
+use Rattle.lists.specs.Decides.{Decides}
 use Rattle.lists.proofs.Answers.{part-is}
 use Rattle.lists.proofs.Checkers.{same-as}
 use Rattle.lists.proofs.Cuts.{cut-next, cut-most, cut-short}
 use Rattle.lists.proofs.Slices.{tail-all, drop-take, drop-next}
 use Rattle.model.specs.Measures.{Measures, partsFor}
-use Rattle.model.specs.State.{Shelf}
-use Rattle.model.specs.Table.{wordToPointer, recordsIn, shelfIn, versionIn, versionsIn}
+use Rattle.model.specs.State.{Storage}
+use Rattle.model.specs.Table.{wordToPointer, recordsIn, storageIn, versionIn, versionsIn}
 use Rattle.model.specs.Sound.{nextPointers}
 use Rattle.lists.specs.Each.{Each}
-use Rattle.audit_words.specs.Words.{PointerSays, SlotForm, SlotFrame}
-use Rattle.audit_counts.specs.Counters.{tallied}
+use Rattle.audit_words.specs.Words.{IsPointerWord, SlotForm, SlotFrame}
+use Rattle.audit_counts.specs.Counters.{countsAfter}
 use Rattle.audit_counts.proofs.Counters.{tallied-le, tallied-append}
-use Rattle.audit_pointers.specs.Good.{PointersGood}
+use Rattle.audit_pointers.specs.Sound.{PointersSound}
 use Rattle.audit_pointers.proofs.Slots.{words-are, pointers-of, versions-cons, versions-end}
-use Rattle.audit_tills.specs.Says.{pointerWords, tillPointers, SlotPoints}
-use Rattle.audit_tails.proofs.Blocks.{first-slot}
+use Rattle.audit_tills.specs.Sound.{pointerWords, tillPointers, SlotPointersSound}
+use Rattle.audit_padding.proofs.Blocks.{first-slot}
 
 -- ---- room
 
@@ -42,9 +42,9 @@ till-fits t n w h = omega (arith, digits-lt {r = 3 + w} {c = 4 + w} h (omega ari
 
 -- ---- pointers
 
-pub shelf-records : (m : Measures) (pool ws : List ℕ) → shelfIn m pool ws .records ≡ recordsIn (m .segmentBlocks) ws
-unfolding shelfIn
-shelf-records m pool ws = refl
+pub storage-records : (m : Measures) (pool ws : List ℕ) → storageIn m pool ws .records ≡ recordsIn (m .segmentBlocks) ws
+unfolding storageIn
+storage-records m pool ws = refl
 
 take-drop : (b : ℕ) (ws : List ℕ) → drop 3 (take (3 + b) ws) ≡ take b (drop 3 ws)
 take-drop b ws = drop-take 3 (3 + b) ws ∙ ap (λ (m : ℕ). take m (drop 3 ws)) (let e : 3 + b - 3 ≡ b = omega arith in e)
@@ -79,12 +79,12 @@ module _ (bytes b count : ℕ) (ws : List ℕ) where
       (part-is ws (3 + b + 3) m ∙ ap (take m) (sym (drop-drop 3 (3 + b) ws)) ∙ slot-words bytes b (drop (3 + b) ws) m (rw (part-is ws (3 + b) (3 + b)) at f) l)
       ∙ sym (pointers-of bytes (take (3 + b) (drop (3 + b) ws))) ∙ sym (next-some bytes b count (drop (3 + b) ws) g)
 
-  pub points-of : {r : Bool} (shelf : Shelf) (newer words : List ℕ) → map wordToPointer newer ≡ nextPointers (versionsIn bytes b (count - 1) (drop (3 + b) ws))
-      → words ≡ pointerWords bytes (take (3 + b) ws) → Tells r (PointersGood shelf newer words) → Tells r (SlotPoints bytes shelf b count ws)
-  points-of shelf newer words e f t =
+  pub points-of : {r : Bool} (storage : Storage) (newer words : List ℕ) → map wordToPointer newer ≡ nextPointers (versionsIn bytes b (count - 1) (drop (3 + b) ws))
+      → words ≡ pointerWords bytes (take (3 + b) ws) → Decides r (PointersSound storage newer words) → Decides r (SlotPointersSound bytes storage b count ws)
+  points-of storage newer words e f t =
       same-as
-      (λ g. record { say = rw f at (g .say); lead = rw (pointers-of bytes (take (3 + b) ws)) (rw (e, f) at (g .lead)) })
-      (λ g. record { say = rw f (g .say); lead = rw (e, f) (rw (pointers-of bytes (take (3 + b) ws)) at (g .lead)) })
+      (λ g. record { canonical = rw f at (g .canonical); resolves = rw (pointers-of bytes (take (3 + b) ws)) (rw (e, f) at (g .resolves)) })
+      (λ g. record { canonical = rw f (g .canonical); resolves = rw (e, f) (rw (pointers-of bytes (take (3 + b) ws)) at (g .resolves)) })
       t
 
 -- the slots in use lie within the till
@@ -102,7 +102,7 @@ few-words ws n b h = omega (arith, ap length (part-is ws 3 n), length-take n (dr
 pub form-frame : {bytes b : ℕ} {row : List ℕ} → SlotForm bytes b row → SlotFrame bytes b row
 form-frame f = record { some = f .some; most = f .most; rest = f .rest }
 
-pub frame-form : {bytes b : ℕ} {row : List ℕ} → SlotFrame bytes b row → Each PointerSays (pointerWords bytes row) → SlotForm bytes b row
+pub frame-form : {bytes b : ℕ} {row : List ℕ} → SlotFrame bytes b row → Each IsPointerWord (pointerWords bytes row) → SlotForm bytes b row
 frame-form f p = record { some = f .some; most = f .most; pointers = p; rest = f .rest }
 
 -- ---- what is counted
@@ -121,17 +121,17 @@ till-short bytes b row = omega (arith, cut-short (pointerWords bytes) (3 + b) (s
 
 -- the words that are counted of each of some rows of w words
 module _ (f : List ℕ → List ℕ) (w : ℕ) where
-  pub none-tallied : (ws cs : List ℕ) → cs ≡ tallied (rows f (parts w 0 ws)) cs
-  unfolding tallied parts joined
+  pub none-tallied : (ws cs : List ℕ) → cs ≡ countsAfter (rows f (parts w 0 ws)) cs
+  unfolding countsAfter parts joined
   none-tallied ws cs = refl
 
   -- row i, after those before it
-  pub next-tallied : (i : ℕ) (ws cs cs₀ cs₁ : List ℕ) → cs ≡ tallied (rows f (parts w i ws)) cs₀ → cs₁ ≡ tallied (f (take w (drop (i * w) ws))) cs → cs₁ ≡ tallied (rows f (parts w (i + 1) ws)) cs₀
+  pub next-tallied : (i : ℕ) (ws cs cs₀ cs₁ : List ℕ) → cs ≡ countsAfter (rows f (parts w i ws)) cs₀ → cs₁ ≡ countsAfter (f (take w (drop (i * w) ws))) cs → cs₁ ≡ countsAfter (rows f (parts w (i + 1) ws)) cs₀
   next-tallied i ws cs cs₀ cs₁ e g =
-      g ∙ ap (tallied (f (take w (drop (i * w) ws)))) e ∙ sym (tallied-append (rows f (parts w i ws)) (f (take w (drop (i * w) ws))) cs₀)
-      ∙ ap (λ (xs : List ℕ). tallied xs cs₀) (sym (cut-next f w i ws))
+      g ∙ ap (countsAfter (f (take w (drop (i * w) ws)))) e ∙ sym (tallied-append (rows f (parts w i ws)) (f (take w (drop (i * w) ws))) cs₀)
+      ∙ ap (λ (xs : List ℕ). countsAfter xs cs₀) (sym (cut-next f w i ws))
 
   -- the counters have room for m more words
-  pub room-left : ((x : List ℕ) → length (f x) ≤ length x) → (i m : ℕ) (ws cs₀ cs : List ℕ) → cs ≡ tallied (rows f (parts w i ws)) cs₀ → ((k : ℕ) → getD cs₀ k 0 + (i * w + m) < 2 ^ 32)
+  pub room-left : ((x : List ℕ) → length (f x) ≤ length x) → (i m : ℕ) (ws cs₀ cs : List ℕ) → cs ≡ countsAfter (rows f (parts w i ws)) cs₀ → ((k : ℕ) → getD cs₀ k 0 + (i * w + m) < 2 ^ 32)
       → (k : ℕ) → getD cs k 0 + m < 2 ^ 32
   room-left short i m ws cs₀ cs e h k = rw e (omega (arith, tallied-le (rows f (parts w i ws)) cs₀ k, cut-most f w short i ws, h k))

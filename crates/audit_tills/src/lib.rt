@@ -4,14 +4,14 @@ ghost use mathlib.Core.Path.{_≡_};
 ghost use Prim.Native.Nat.{ℕ, _+_, _*_, _-_, _^_, _≤_, _<_};
 ghost use lib.ListN.{length, getD, take, drop};
 ghost use Rattle.lists.specs.Lists.{rises};
-ghost use Rattle.lists.specs.Tells.{Tells};
+ghost use Rattle.lists.specs.Decides.{Decides};
 ghost use Rattle.model.specs.Measures.{tillWords};
-ghost use Rattle.model.specs.State.{Shelf};
-ghost use Rattle.model.specs.Table.{recordsIn, shelfIn};
+ghost use Rattle.model.specs.State.{Storage};
+ghost use Rattle.model.specs.Table.{recordsIn, storageIn};
 ghost use Rattle.laws.specs.Ranges.{Measured};
 ghost use Rattle.numbers.specs.Measures.{measuresOf};
-ghost use Rattle.audit_counts.specs.Counters.{tallied};
-ghost use Rattle.audit_tills.specs.Says.{numbersIn, pointerWords, slotsPointers, tillPointers, tillsPointers, SlotPoints, SlotSays, TillSays};
+ghost use Rattle.audit_counts.specs.Counters.{countsAfter};
+ghost use Rattle.audit_tills.specs.Sound.{numbersIn, pointerWords, slotsPointers, tillPointers, tillsPointers, SlotPointersSound, SlotSound, TillSound};
 use numbers::Measures;
 
 // Whether the numbers of some slots rise: the first is at least 1, each other above the one before it, and none above the last given.
@@ -35,8 +35,8 @@ fn numbers_rise(slots: &[u32], blocks: usize, count: usize, last: u32) -> bool
     true
 }
 
-// Whether the pointer words of the first of some slots are good, of which the others are newer; whatever the cells. They are counted.
-fn slot_points(
+// Whether the pointer words of the first of some slots, of which the others are newer, are those of pointers that resolve; whatever the cells. They are counted.
+fn slot_pointers_sound(
     records: &[u32],
     slots: &[u32],
     blocks: usize,
@@ -45,12 +45,12 @@ fn slot_points(
     m: Measures,
 ) -> bool
     requires { ⌜ Measured (measuresOf m) × (0 < count) × (blocks ≤ 1024) × (count ≤ 64) × (count * (3 + blocks) ≤ length (now slots)) × ((k : ℕ) → getD (now counts) k 0 + blocks < 2 ^ 32) ⌝ }
-    ensures { λ r. ⌜ ((shelf : Shelf) → shelf .records ≡ recordsIn (m .blocks) (now (records .entry)) → Tells r (SlotPoints (m .bytes) shelf blocks count (now (slots .entry)))) × (r ≡ true → now (counts .exit) ≡ tallied (pointerWords (m .bytes) (take (3 + blocks) (now (slots .entry)))) (now (counts .entry))) ⌝ }
+    ensures { λ r. ⌜ ((storage : Storage) → storage .records ≡ recordsIn (m .blocks) (now (records .entry)) → Decides r (SlotPointersSound (m .bytes) storage blocks count (now (slots .entry)))) × (r ≡ true → now (counts .exit) ≡ countsAfter (pointerWords (m .bytes) (take (3 + blocks) (now (slots .entry)))) (now (counts .entry))) ⌝ }
 {
     let width = 3 + blocks;
     let mine = 3 + audit_pointers::pointer_count(&slots[0..width], blocks, m.bytes);
     if count < 2 {
-        return audit_pointers::pointers_good(
+        return audit_pointers::pointers_sound(
             records,
             &slots[0..0],
             &slots[3..mine],
@@ -61,7 +61,7 @@ fn slot_points(
     let twice = width + width;
     let start = width + 3;
     let end = start + audit_pointers::pointer_count(&slots[width..twice], blocks, m.bytes);
-    audit_pointers::pointers_good(
+    audit_pointers::pointers_sound(
         records,
         &slots[start..end],
         &slots[3..mine],
@@ -70,8 +70,8 @@ fn slot_points(
     )
 }
 
-// Whether the first of some slots, but for its number, says a version.
-fn slot_says(
+// Whether the first of some slots has the words of a sound version, but for its number.
+fn slot_sound(
     pool: &[u8],
     records: &[u32],
     slots: &[u32],
@@ -81,20 +81,20 @@ fn slot_says(
     m: Measures,
 ) -> bool
     requires { ⌜ Measured (measuresOf m) × (0 < count) × (blocks ≤ 1024) × (count ≤ 64) × (count * (3 + blocks) ≤ length (now slots)) × ((k : ℕ) → getD (now counts) k 0 + blocks < 2 ^ 32) ⌝ }
-    ensures { λ r. ⌜ Tells r (SlotSays (m .bytes) (shelfIn (measuresOf m) (now (pool .entry)) (now (records .entry))) blocks count (now (slots .entry))) × (r ≡ true → now (counts .exit) ≡ tallied (pointerWords (m .bytes) (take (3 + blocks) (now (slots .entry)))) (now (counts .entry))) ⌝ }
+    ensures { λ r. ⌜ Decides r (SlotSound (m .bytes) (storageIn (measuresOf m) (now (pool .entry)) (now (records .entry))) blocks count (now (slots .entry))) × (r ≡ true → now (counts .exit) ≡ countsAfter (pointerWords (m .bytes) (take (3 + blocks) (now (slots .entry)))) (now (counts .entry))) ⌝ }
 {
     let width = 3 + blocks;
     if !audit_words::slot_frame(&slots[0..width], blocks, m.bytes) {
         return false;
     }
-    if !slot_points(records, slots, blocks, count, counts, m) {
+    if !slot_pointers_sound(records, slots, blocks, count, counts, m) {
         return false;
     }
-    audit_tails::tail_zero(pool, records, slots, blocks, count, m)
+    audit_padding::padding_zero(pool, records, slots, blocks, count, m)
 }
 
-// Whether all slots do.
-fn slots_say(
+// Whether all slots have.
+fn slots_sound(
     pool: &[u8],
     records: &[u32],
     slots: &[u32],
@@ -104,12 +104,12 @@ fn slots_say(
     m: Measures,
 ) -> bool
     requires { ⌜ Measured (measuresOf m) × (blocks ≤ 1024) × (count ≤ 64) × (count * (3 + blocks) ≤ length (now slots)) × ((k : ℕ) → getD (now counts) k 0 + count * (3 + blocks) < 2 ^ 32) ⌝ }
-    ensures { λ r. ⌜ Tells r ((i : ℕ) → i < count → SlotSays (m .bytes) (shelfIn (measuresOf m) (now (pool .entry)) (now (records .entry))) blocks (count - i) (drop (i * (3 + blocks)) (now (slots .entry)))) × (r ≡ true → now (counts .exit) ≡ tallied (slotsPointers (m .bytes) blocks count (now (slots .entry))) (now (counts .entry))) ⌝ }
+    ensures { λ r. ⌜ Decides r ((i : ℕ) → i < count → SlotSound (m .bytes) (storageIn (measuresOf m) (now (pool .entry)) (now (records .entry))) blocks (count - i) (drop (i * (3 + blocks)) (now (slots .entry)))) × (r ≡ true → now (counts .exit) ≡ countsAfter (slotsPointers (m .bytes) blocks count (now (slots .entry))) (now (counts .entry))) ⌝ }
 {
     let mut i: usize = 0;
     while i < count {
         let at = i * (3 + blocks);
-        if !slot_says(pool, records, &slots[at..], blocks, count - i, counts, m) {
+        if !slot_sound(pool, records, &slots[at..], blocks, count - i, counts, m) {
             return false;
         }
         i += 1;
@@ -117,8 +117,8 @@ fn slots_say(
     true
 }
 
-// Whether a till's words say a till.
-fn till_says(
+// Whether a till's words are those of a sound till.
+fn till_sound(
     pool: &[u8],
     records: &[u32],
     till: &[u32],
@@ -128,7 +128,7 @@ fn till_says(
     m: Measures,
 ) -> bool
     requires { ⌜ Measured (measuresOf m) × (versions ≤ 64) × (blocks ≤ 1024) × (length (now till) ≡ tillWords versions blocks) × ((k : ℕ) → getD (now counts) k 0 + length (now till) < 2 ^ 32) ⌝ }
-    ensures { λ r. ⌜ Tells r (TillSays (m .bytes) (shelfIn (measuresOf m) (now (pool .entry)) (now (records .entry))) versions blocks (now (till .entry))) × (r ≡ true → now (counts .exit) ≡ tallied (tillPointers (m .bytes) blocks (now (till .entry))) (now (counts .entry))) ⌝ }
+    ensures { λ r. ⌜ Decides r (TillSound (m .bytes) (storageIn (measuresOf m) (now (pool .entry)) (now (records .entry))) versions blocks (now (till .entry))) × (r ≡ true → now (counts .exit) ≡ countsAfter (tillPointers (m .bytes) blocks (now (till .entry))) (now (counts .entry))) ⌝ }
 {
     let last = till[0];
     let count = till[1] as usize;
@@ -148,15 +148,15 @@ fn till_says(
     if !numbers_rise(&till[4..], blocks, count, last) {
         return false;
     }
-    if !slots_say(pool, records, &till[4..], blocks, count, counts, m) {
+    if !slots_sound(pool, records, &till[4..], blocks, count, counts, m) {
         return false;
     }
     let end = 4 + count * (3 + blocks);
     audit_words::zeros(&till[end..])
 }
 
-// Whether those of all tills do.
-pub fn tills_say(
+// Whether the words of all tills are.
+pub fn tills_sound(
     pool: &[u8],
     records: &[u32],
     tills: &[u32],
@@ -167,14 +167,14 @@ pub fn tills_say(
     m: Measures,
 ) -> bool
     requires { ⌜ Measured (measuresOf m) × (count ≤ 16) × (versions ≤ 64) × (blocks ≤ 1024) × (length (now tills) ≡ count * tillWords versions blocks) × ((k : ℕ) → getD (now counts) k 0 + length (now tills) < 2 ^ 32) ⌝ }
-    ensures { λ r. ⌜ Tells r ((t : ℕ) → t < count → TillSays (m .bytes) (shelfIn (measuresOf m) (now (pool .entry)) (now (records .entry))) versions blocks (take (tillWords versions blocks) (drop (t * tillWords versions blocks) (now (tills .entry))))) × (r ≡ true → now (counts .exit) ≡ tallied (tillsPointers (m .bytes) versions blocks count (now (tills .entry))) (now (counts .entry))) ⌝ }
+    ensures { λ r. ⌜ Decides r ((t : ℕ) → t < count → TillSound (m .bytes) (storageIn (measuresOf m) (now (pool .entry)) (now (records .entry))) versions blocks (take (tillWords versions blocks) (drop (t * tillWords versions blocks) (now (tills .entry))))) × (r ≡ true → now (counts .exit) ≡ countsAfter (tillsPointers (m .bytes) versions blocks count (now (tills .entry))) (now (counts .entry))) ⌝ }
 {
     let width = 4 + versions * (3 + blocks);
     let mut t: usize = 0;
     while t < count {
         let at = t * width;
         let end = at + width;
-        if !till_says(pool, records, &tills[at..end], versions, blocks, counts, m) {
+        if !till_sound(pool, records, &tills[at..end], versions, blocks, counts, m) {
             return false;
         }
         t += 1;

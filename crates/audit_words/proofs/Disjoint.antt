@@ -9,7 +9,7 @@ use lib.Bits.{bitAnd, bitOr, and-step, and-zero-l, and-le-l, and-le-r, or-add-an
 use lib.Dec.{eqb}
 use lib.ListN.{getD}
 use borrow.Author.Count.{below-more}
-use Rattle.lists.specs.Tells.{Tells}
+use Rattle.lists.specs.Decides.{Decides}
 use Rattle.lists.proofs.Bits.{bit-below}
 use Rattle.lists.proofs.Masks.{bit-zero, half-bit}
 use Rattle.audit_words.specs.Words.{bitOf, PositionForm}
@@ -30,8 +30,8 @@ bits-apart (suc n) a b l h =
     go true e r = omega (arith, r, and-step a b, bit-zero b, h 0 (bit-zero a ∙ eqb-true (a % 2) 1 e))
     go false e r = omega (arith, r, and-step a b, eqb-false (a % 2) 1 e)
 
-pub apart-tells : (a b : ℕ) → Tells (eqb (bitAnd a b) 0) ((i : ℕ) → bitOf a i ≡ 1 → bitOf b i ≡ 0)
-apart-tells a b =
+pub apart-decides : (a b : ℕ) → Decides (eqb (bitAnd a b) 0) ((i : ℕ) → bitOf a i ≡ 1 → bitOf b i ≡ 0)
+apart-decides a b =
     record {
       holds = λ e. apart-bits a b (eqb-true (bitAnd a b) 0 e);
       seen = λ h. eq-eqb (bitAnd a b) 0 (bits-apart a a b (omega arith) h);
@@ -56,7 +56,7 @@ Clear n row i = bitOf (getD row 0 0) i ≡ 0 → (getD row (3 + i) 0 ≡ 0) × (
 -- one more position
 pub clear-more : (n : ℕ) (row : List ℕ) (i all held words : ℕ) → held ≡ bitOf (getD row 0 0) i
     → (held ≡ 0 → words ≡ bitOr (getD row (3 + i) 0) (getD row (3 + n + i) 0)) × ((held ≡ 0 → ⊥) → words ≡ 0)
-    → Tells (eqb all 0) ((k : ℕ) → k < i → Clear n row k) → Tells (eqb (bitOr all words) 0) ((k : ℕ) → k < i + 1 → Clear n row k)
+    → Decides (eqb all 0) ((k : ℕ) → k < i → Clear n row k) → Decides (eqb (bitOr all words) 0) ((k : ℕ) → k < i + 1 → Clear n row k)
 clear-more n row i all held words e w t =
     record {
       holds = λ h. below-more _ _ (t .holds (eq-eqb all 0 (both h .0))) (here (both h .1));

@@ -10,7 +10,7 @@ use lib.Pow.{pow-pos}
 use lib.ListN.{length, getD, replicate}
 use borrow.Author.Tests.{leb-true, leb-false}
 use Rattle.lists.specs.Lists.{allZero}
-use Rattle.lists.specs.Tells.{Tells}
+use Rattle.lists.specs.Decides.{Decides}
 use Rattle.lists.proofs.Same.{zeros-are}
 use Rattle.lists.proofs.Rows.{zeros-of, zeros-fill}
 use Rattle.model.specs.Measures.{recordWords}
@@ -58,8 +58,8 @@ module _ (n : ℕ) (row : List ℕ) (l : length row ≡ recordWords n) where
       by-place true e = at-cell (leb-true (suc i) n e)
       by-place false e = at-count (le-of-suc-le-suc (leb-false (suc i) n e))
 
-  pub free-tells : getD row 0 0 ≡ 0 → (r : Bool) → r ≡ allZero row → Tells r (RecordForm n row)
-  free-tells z r e = record {
+  pub free-decides : getD row 0 0 ≡ 0 → (r : Bool) → r ≡ allZero row → Decides r (RecordForm n row)
+  free-decides z r e = record {
     holds = λ q. free-form (λ k. ap (λ (ws : List ℕ). getD ws k 0) (zeros-are row (sym e ∙ q)) ∙ all-zero (length row) k);
     seen = λ f. e ∙ ap allZero (zeros-of row (form-zeros z f)) ∙ zeros-fill (length row);
   }

@@ -7,7 +7,7 @@ use lib.Dec.{eqb}
 use native.Mathlib.Omega.{arith}
 use Rattle.model.specs.State.{nullPointer, blankPointer, direct, indirect}
 use Rattle.model.specs.Table.{kindUnit, pointerWord, pointerOf, wordToPointer}
-use Rattle.audit_words.specs.Words.{PointerSays}
+use Rattle.audit_words.specs.Words.{IsPointerWord}
 
 pub read-null : (w : ℕ) → w / kindUnit ≡ 0 → wordToPointer w ≡ nullPointer
 unfolding wordToPointer pointerOf
@@ -37,13 +37,13 @@ pub read-other : (w : ℕ) → (w / kindUnit ≡ 1 → ⊥) → (w / kindUnit �
 unfolding wordToPointer
 read-other w a b d = other (w / kindUnit) (w % kindUnit) a b d
 
--- ---- PointerSays
+-- ---- IsPointerWord
 
-pub direct-says : (w : ℕ) → w / kindUnit ≡ 1 → PointerSays w
+pub direct-says : (w : ℕ) → w / kindUnit ≡ 1 → IsPointerWord w
 unfolding pointerWord
 direct-says w e = rw (read-direct w e) (omega arith)
 
-pub indirect-says : (w : ℕ) → w / kindUnit ≡ 2 → PointerSays w
+pub indirect-says : (w : ℕ) → w / kindUnit ≡ 2 → IsPointerWord w
 unfolding pointerWord
 indirect-says w e = rw (read-indirect w e) (omega arith)
 
@@ -56,13 +56,13 @@ pub blank-reads : (w : ℕ) → w ≡ pointerWord blankPointer → wordToPointer
 unfolding pointerWord
 blank-reads w e = read-blank w (omega arith)
 
-pub null-says : (w : ℕ) → w ≡ pointerWord nullPointer → PointerSays w
+pub null-says : (w : ℕ) → w ≡ pointerWord nullPointer → IsPointerWord w
 null-says w e = ap pointerWord (null-reads w e) ∙ sym e
 
-pub blank-says : (w : ℕ) → w ≡ pointerWord blankPointer → PointerSays w
+pub blank-says : (w : ℕ) → w ≡ pointerWord blankPointer → IsPointerWord w
 blank-says w e = ap pointerWord (blank-reads w e) ∙ sym e
 
-pub other-says : (w : ℕ) → (w / kindUnit ≡ 1 → ⊥) → (w / kindUnit ≡ 2 → ⊥) → (w ≡ pointerWord nullPointer → ⊥) → PointerSays w → w ≡ pointerWord blankPointer
+pub other-says : (w : ℕ) → (w / kindUnit ≡ 1 → ⊥) → (w / kindUnit ≡ 2 → ⊥) → (w ≡ pointerWord nullPointer → ⊥) → IsPointerWord w → w ≡ pointerWord blankPointer
 other-says w a b z e = go (eqb (w / kindUnit) 3) refl
   where
     go : (t : Bool) → eqb (w / kindUnit) 3 ≡ t → w ≡ pointerWord blankPointer

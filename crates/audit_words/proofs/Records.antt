@@ -19,7 +19,7 @@ use Rattle.model.specs.Measures.{recordWords}
 use Rattle.model.specs.State.{Position, nullPosition, blankPosition, held, removed, Segment}
 use Rattle.model.specs.Records.{isHeld, isRemoved, isBlankPosition, isFree, cellOf, countOf}
 use Rattle.model.specs.Table.{positionOf, positionsIn, segmentIn, recordToWords}
-use Rattle.model.specs.Sound.{isUsed}
+use Rattle.model.specs.Sound.{isFreeOrHolds}
 use Rattle.audit_words.specs.Words.{bitOf, PositionForm, RecordForm}
 use Rattle.audit_words.proofs.Positions.{cells-long, counts-long, segment-long}
 
@@ -33,7 +33,7 @@ record Form (h r b c n i : ℕ) : Type 0 where
   cell : bitOf h i ≡ 0 → c ≡ 0
   count : bitOf h i ≡ 0 → n ≡ 0
 
-record Kept (h r b : ℕ) (cs ns : List ℕ) : Type 0 where
+record FormRead (h r b : ℕ) (cs ns : List ℕ) : Type 0 where
   helds : maskOf isHeld (positionsIn h r b cs ns) ≡ h
   removeds : maskOf isRemoved (positionsIn h r b cs ns) ≡ r
   blanks : maskOf isBlankPosition (positionsIn h r b cs ns) ≡ b
@@ -77,7 +77,7 @@ module _ (c n : ℕ) where
   count-of (suc h) r b z = refl
 
 keeps : (h r b : ℕ) (cs ns : List ℕ) → length cs ≡ length ns → h < 2 ^ length cs → r < 2 ^ length cs → b < 2 ^ length cs
-    → ((i : ℕ) → i < length cs → Form h r b (getD cs i 0) (getD ns i 0) i) → Kept h r b cs ns
+    → ((i : ℕ) → i < length cs → Form h r b (getD cs i 0) (getD ns i 0) i) → FormRead h r b cs ns
 unfolding positionsIn maskOf
 keeps h r b [] [] e hh hr hb f = record { helds = omega arith; removeds = omega arith; blanks = omega arith; cells = refl; counts = refl }
 keeps h r b [] (n ∷ ns) e hh hr hb f = absurd (omega arith)
@@ -147,8 +147,8 @@ or-first : (a b : Bool) → (a || b) ≡ true → b ≡ false → a ≡ true
 or-first true b e f = refl
 or-first false b e f = absurd (clash f e)
 
-pub used-of : (seg : Segment) → (maskOf isHeld seg ≡ 0 → Plain seg) → isUsed seg ≡ true
-unfolding isUsed
+pub used-of : (seg : Segment) → (maskOf isHeld seg ≡ 0 → Plain seg) → isFreeOrHolds seg ≡ true
+unfolding isFreeOrHolds
 used-of seg u = go (eqb (maskOf isHeld seg) 0) refl
   where
     positive : (n : ℕ) → (n ≡ 0 → ⊥) → 0 < n
@@ -158,19 +158,19 @@ used-of seg u = go (eqb (maskOf isHeld seg) 0) refl
     go true e = let z = eqb-true (maskOf isHeld seg) 0 e in or-left (isFree seg) _ (mask-free seg z (u z))
     go false e = rw (lt-ltb 0 (count isHeld seg) (positive (count isHeld seg) (λ z. eqb-false (maskOf isHeld seg) 0 e (mask-zero seg z)))) (or-true (isFree seg))
 
-pub used-at : (seg : Segment) → isUsed seg ≡ true → maskOf isHeld seg ≡ 0 → Plain seg
-unfolding isUsed
+pub used-at : (seg : Segment) → isFreeOrHolds seg ≡ true → maskOf isHeld seg ≡ 0 → Plain seg
+unfolding isFreeOrHolds
 used-at seg h z =
     free-mask seg (or-first (isFree seg) (ltb 0 (count isHeld seg)) h (le-ltb 0 (count isHeld seg) (let e = count-zero seg z in omega arith)))
 
 -- ---- a record's words
 
-pub record RecordSays (n : ℕ) (row : List ℕ) : Type 0 where
+pub record IsRecordRow (n : ℕ) (row : List ℕ) : Type 0 where
   pub words : recordToWords (segmentIn n row) ≡ row
-  pub used : isUsed (segmentIn n row) ≡ true
+  pub used : isFreeOrHolds (segmentIn n row) ≡ true
 
 module _ (n : ℕ) (row : List ℕ) (l : length row ≡ recordWords n) where
-  kept : RecordForm n row → Kept (getD row 0 0) (getD row 1 0) (getD row 2 0) (take n (drop 3 row)) (take n (drop (3 + n) row))
+  kept : RecordForm n row → FormRead (getD row 0 0) (getD row 1 0) (getD row 2 0) (take n (drop 3 row)) (take n (drop (3 + n) row))
   kept f =
       let e : length (take n (drop 3 row)) ≡ n = cells-long n row l in
       keeps _ _ _ _ _ (e ∙ sym (counts-long n row l)) (rw e (f .helds)) (rw e (f .removeds)) (rw e (f .blanks)) (λ i h. at i (rw e at h))
@@ -192,7 +192,7 @@ module _ (n : ℕ) (row : List ℕ) (l : length row ≡ recordWords n) where
       (sym (take-append-drop n (drop 3 row))
       ∙ ap (λ (r : List ℕ). take n (drop 3 row) ++ r) (drop-drop n 3 row ∙ sym (take-all n (drop (3 + n) row) (omega (arith, length-drop (3 + n) row)))))))
 
-  pub record-says : RecordForm n row → RecordSays n row
+  pub record-says : RecordForm n row → IsRecordRow n row
   unfolding recordToWords segmentIn
   record-says f =
       let k = kept f in
@@ -201,7 +201,7 @@ module _ (n : ℕ) (row : List ℕ) (l : length row ≡ recordWords n) where
         used = used-of _ (λ z. let u = f .used (sym (k .helds) ∙ z) in (k .removeds ∙ u .0, k .blanks ∙ u .1));
       }
 
-  module _ (s : RecordSays n row) where
+  module _ (s : IsRecordRow n row) where
     abbrev seg : Segment
     seg = segmentIn n row
 
@@ -291,5 +291,5 @@ module _ (n : ℕ) (row : List ℕ) (l : length row ≡ recordWords n) where
       used = λ z. let u = used-at seg (s .used) (helds ∙ z) in (sym removeds ∙ u .0, sym blanks ∙ u .1);
     }
 
-  pub says-record : RecordSays n row → RecordForm n row
+  pub says-record : IsRecordRow n row → RecordForm n row
   says-record s = says-form s

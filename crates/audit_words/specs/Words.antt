@@ -10,8 +10,8 @@ use Rattle.model.specs.Measures.{partsFor}
 use Rattle.model.specs.Table.{pointerWord, wordToPointer}
 
 -- the word is that of the pointer it is read as
-abbrev pub PointerSays : ℕ → Type 0
-PointerSays w = pointerWord (wordToPointer w) ≡ w
+abbrev pub IsPointerWord : ℕ → Type 0
+IsPointerWord w = pointerWord (wordToPointer w) ≡ w
 
 -- a slot of 3 + `b` words, for blocks of so many bytes, in use: a length in range, and zeros behind its pointers; its day is any number
 pub record SlotFrame (bytes b : ℕ) (row : List ℕ) : Type 0 where
@@ -23,7 +23,7 @@ pub record SlotFrame (bytes b : ℕ) (row : List ℕ) : Type 0 where
 pub record SlotForm (bytes b : ℕ) (row : List ℕ) : Type 0 where
   pub some : 1 ≤ getD row 1 0
   pub most : getD row 1 0 ≤ bytes * b
-  pub pointers : Each PointerSays (take (partsFor bytes (getD row 1 0)) (drop 3 row))
+  pub pointers : Each IsPointerWord (take (partsFor bytes (getD row 1 0)) (drop 3 row))
   pub rest : allZero (drop (3 + partsFor bytes (getD row 1 0)) row) ≡ true
 
 -- bit `i` of a mask

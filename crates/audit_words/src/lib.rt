@@ -3,7 +3,7 @@ ghost use mathlib.Core.Bool.{true, false};
 ghost use mathlib.Core.Path.{_≡_};
 ghost use Prim.Native.Nat.{ℕ, _+_, _*_, _/_, _%_, _^_, _≤_, _<_};
 ghost use lib.ListN.{length, getD};
-ghost use Rattle.lists.specs.Tells.{Tells};
+ghost use Rattle.lists.specs.Decides.{Decides};
 ghost use Rattle.lists.specs.Lists.{allZero};
 ghost use Rattle.lists.specs.Rows.{chunks};
 ghost use Rattle.lists.specs.Each.{Each};
@@ -28,7 +28,7 @@ pub fn zeros(words: &[u32]) -> bool
 // Whether a slot in use has a version's words, but for its pointers.
 pub fn slot_frame(row: &[u32], blocks: usize, bytes: usize) -> bool
     requires { ⌜ (blocks ≤ 1024) × (length (now row) ≡ 3 + blocks) × (0 < bytes) × (bytes ≤ 512) ⌝ }
-    ensures { λ r. ⌜ Tells r (SlotFrame bytes blocks (now (row .entry))) ⌝ }
+    ensures { λ r. ⌜ Decides r (SlotFrame bytes blocks (now (row .entry))) ⌝ }
 {
     let length = row[1] as usize;
     if length < 1 {
@@ -59,7 +59,7 @@ pub fn bit(m: u32, i: usize) -> u32
 
 // Whether no position is in both masks.
 fn apart(a: u32, b: u32) -> bool
-    ensures { λ r. ⌜ Tells r ((i : ℕ) → bitOf a i ≡ 1 → bitOf b i ≡ 0) ⌝ }
+    ensures { λ r. ⌜ Decides r ((i : ℕ) → bitOf a i ≡ 1 → bitOf b i ≡ 0) ⌝ }
 {
     a & b == 0
 }
@@ -77,7 +77,7 @@ fn unheld(words: u32, held: u32) -> u32
 // Whether each position that is not held has zeros for its cell and its count. No exit from the loop, so that the compiler takes many positions at a time.
 fn unheld_zero(row: &[u32], n: usize) -> bool
     requires { ⌜ (length (now row) ≡ recordWords n) × (n ≤ 16) ⌝ }
-    ensures { λ r. ⌜ Tells r ((i : ℕ) → i < n → bitOf (getD (now (row .entry)) 0 0) i ≡ 0 → (getD (now (row .entry)) (3 + i) 0 ≡ 0) × (getD (now (row .entry)) (3 + n + i) 0 ≡ 0)) ⌝ }
+    ensures { λ r. ⌜ Decides r ((i : ℕ) → i < n → bitOf (getD (now (row .entry)) 0 0) i ≡ 0 → (getD (now (row .entry)) (3 + i) 0 ≡ 0) × (getD (now (row .entry)) (3 + n + i) 0 ≡ 0)) ⌝ }
 {
     let helds = row[0];
     let mut all: u32 = 0;
@@ -92,7 +92,7 @@ fn unheld_zero(row: &[u32], n: usize) -> bool
 // Whether the words of all positions are in order.
 fn positions_form(row: &[u32], n: usize) -> bool
     requires { ⌜ (length (now row) ≡ recordWords n) × (n ≤ 16) × (getD (now row) 0 0 < 2 ^ n) × (getD (now row) 1 0 < 2 ^ n) ⌝ }
-    ensures { λ r. ⌜ Tells r ((i : ℕ) → i < n → PositionForm n (now (row .entry)) i) ⌝ }
+    ensures { λ r. ⌜ Decides r ((i : ℕ) → i < n → PositionForm n (now (row .entry)) i) ⌝ }
 {
     if !apart(row[0], row[1]) {
         return false;
@@ -109,7 +109,7 @@ fn positions_form(row: &[u32], n: usize) -> bool
 // Whether the words of a record that holds a position are in order.
 fn held_form(row: &[u32], n: usize) -> bool
     requires { ⌜ (length (now row) ≡ recordWords n) × (n ≤ 16) × (getD (now row) 0 0 ≡ 0 → ⊥) ⌝ }
-    ensures { λ r. ⌜ Tells r (RecordForm n (now (row .entry))) ⌝ }
+    ensures { λ r. ⌜ Decides r (RecordForm n (now (row .entry))) ⌝ }
 {
     let helds = row[0];
     let removeds = row[1];
@@ -130,7 +130,7 @@ fn held_form(row: &[u32], n: usize) -> bool
 // Whether a record's words are in order. One that holds no position is free: all its words are zero, which one pass tells.
 fn record_form(row: &[u32], n: usize) -> bool
     requires { ⌜ (length (now row) ≡ recordWords n) × (n ≤ 16) ⌝ }
-    ensures { λ r. ⌜ Tells r (RecordForm n (now (row .entry))) ⌝ }
+    ensures { λ r. ⌜ Decides r (RecordForm n (now (row .entry))) ⌝ }
 {
     if row[0] == 0 {
         return zeros(row);
@@ -138,10 +138,10 @@ fn record_form(row: &[u32], n: usize) -> bool
     held_form(row, n)
 }
 
-// Whether the words of all records are.
+// Whether the words of all records are in order.
 pub fn records_form(records: &[u32], n: usize) -> bool
     requires { ⌜ n ≤ 16 ⌝ }
-    ensures { λ r. ⌜ Tells r (Each (RecordForm n) (chunks (recordWords n) (now (records .entry)))) ⌝ }
+    ensures { λ r. ⌜ Decides r (Each (RecordForm n) (chunks (recordWords n) (now (records .entry)))) ⌝ }
 {
     let width = numbers::row_words(n);
     let count = numbers::parts(records.len(), width);

@@ -11,12 +11,12 @@ use Rattle.model.specs.State.{Pointer, Till, State}
 use Rattle.model.specs.Table.{tillToWords, stateToWords, pointerWord}
 use Rattle.laws.specs.Stores.{tillAt}
 use Rattle.laws.proofs.Stores.{till-is, till-put}
-use Rattle.backup.specs.Backup.{FileReady, FiledOn}
+use Rattle.backup.specs.Backup.{FilePre, FileResult}
 
 pub filed-on : (at end b : ℕ) (turned : List ℕ) (bytes day : ℕ) (pointers table out : List ℕ)
     → ((v : ℕ) (t : Till) (ps qs : List Pointer) → length (t .versions) < v → midOf at (end - at) table ≡ tillToWords v b t → turned ≡ map pointerWord ps
     → length ps ≡ length (newestPointers (t .versions)) → pointers ≡ map pointerWord qs → out ≡ tillToWords v b (tillWith t ps bytes day qs))
-    → FiledOn at end b turned bytes day pointers table (putMid at (end - at) table out)
+    → FileResult at end b turned bytes day pointers table (putMid at (end - at) table out)
 filed-on at end b turned bytes day pointers table out f s st t ps qs ht eb ea ee et room ep lo eq =
     let w : ℕ = tillWords (s .capacities .versions) (s .capacities .blocks) in
     let new : Till = tillWith (tillOf st t) ps bytes day qs in

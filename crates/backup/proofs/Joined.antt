@@ -15,19 +15,19 @@ use Rattle.model.specs.Turn.{turn}
 use Rattle.model.specs.Calls.{tillOf, newestPointers, backupDatedOf}
 use Rattle.laws.specs.Ranges.{Measured}
 use Rattle.laws.proofs.Image.{blocks-length}
-use Rattle.laws.proofs.Left.{newest-suffices}
-use Rattle.laws.specs.Shelves.{Suffices}
+use Rattle.laws.proofs.Remaining.{newest-suffices}
+use Rattle.laws.specs.Storage.{Suffices}
 use Rattle.laws.proofs.Measures.{sizes, parts-enough, parts-few, parts-least}
-use Rattle.laws.specs.Stores.{Sound, Header, tillAt, recordsFrom}
+use Rattle.laws.specs.Stores.{Sound, HeaderRanges, tillAt, recordsFrom}
 use Rattle.laws.proofs.Stores.{till-is, header, long, fit, fits, found}
 use Rattle.laws.proofs.Tills.{there, in-words, till-words}
 use Rattle.tills.specs.declared.Head.{Head}
 use Rattle.tills.specs.Answers.{tillSize, HeadOf}
-use Rattle.accept.specs.Accept.{Accepted}
+use Rattle.backup_accept.specs.Accept.{Accepted}
 use Rattle.place.specs.All.{segmentsIn}
 use Rattle.chain.specs.Limit.{within}
-use Rattle.backup.specs.Backup.{measuresOn, blocksOn, limitedOn, ShelfReady, sweptState, ShelvedOn, DidOn, FileReady, FiledOn}
-use Rattle.backup.specs.Call.{newestOf, Begun}
+use Rattle.backup.specs.Backup.{measuresOn, blocksOn, limitedOn, StoreInPre, sweptState, StoreInDone, StoreInResult, FilePre, FileResult}
+use Rattle.backup.specs.Call.{newestOf, BackupPre}
 use Rattle.backup.proofs.Answers.{refused-answer, filed-answer}
 use Rattle.backup.proofs.Tills.{till-room, till-left, prev-pointed}
 
@@ -80,12 +80,12 @@ parts-in-segments bytes n len some pos =
 
 -- ---- from the newest version's pointers on
 
-module _ {mc : Measures} {pool table : List ℕ} {t : ℕ} {r : Head} {day : ℕ} {image prev words : List ℕ} (p : Begun mc pool table t r day image prev words) where
+module _ {mc : Measures} {pool table : List ℕ} {t : ℕ} {r : Head} {day : ℕ} {image prev words : List ℕ} (p : BackupPre mc pool table t r day image prev words) where
   pub image-short : length image ≤ 65536
   image-short = image-most (p .sound) (p .accepted)
 
-  pub shelf-ready : (from : ℕ) → from ≡ recordsFrom (shapeOf table) → ShelfReady mc image pool table from words prev
-  shelf-ready from e = record {
+  pub storage-ready : (from : ℕ) → from ≡ recordsFrom (shapeOf table) → StoreInPre mc image pool table from words prev
+  storage-ready from e = record {
     sound = p .sound;
     measures = p .measures;
     begins = e;
@@ -93,7 +93,7 @@ module _ {mc : Measures} {pool table : List ℕ} {t : ℕ} {r : Head} {day : ℕ
     room = p .room;
     pointers = prev-pointed (p .sound) t (p .accepted .there) prev (p .newest) .0;
     suffices =
-        subst (Suffices (stateIn (shapeOf table) pool table .shelf .records)) (sym (prev-pointed (p .sound) t (p .accepted .there) prev (p .newest) .1))
+        subst (Suffices (stateIn (shapeOf table) pool table .storage .records)) (sym (prev-pointed (p .sound) t (p .accepted .there) prev (p .newest) .1))
         (newest-suffices (shapeOf table) (stateIn (shapeOf table) pool table) (found (p .sound) .sound) t);
   }
 
@@ -111,11 +111,11 @@ module _ {mc : Measures} {pool table : List ℕ} {t : ℕ} {r : Head} {day : ℕ
 
   -- after steps 1 to 3
   module _ (others most n : ℕ) (pool′ table′ words′ prev′ : List ℕ)
-      (d : DidOn image (map wordToPointer prev) pool table (limitedOn others most pool table image (map wordToPointer prev)) n pool′ table′ words′ prev′) where
+      (d : StoreInResult image (map wordToPointer prev) pool table (limitedOn others most pool table image (map wordToPointer prev)) n pool′ table′ words′ prev′) where
     -- the newest version's pointers, in place of the words read
-    did : DidOn image (newestOf pool table t) pool table (limitedOn others most pool table image (newestOf pool table t)) n pool′ table′ words′ prev′
+    did : StoreInResult image (newestOf pool table t) pool table (limitedOn others most pool table image (newestOf pool table t)) n pool′ table′ words′ prev′
     did =
-        subst (λ (ps : List Pointer). DidOn image ps pool table (limitedOn others most pool table image ps) n pool′ table′ words′ prev′)
+        subst (λ (ps : List Pointer). StoreInResult image ps pool table (limitedOn others most pool table image ps) n pool′ table′ words′ prev′)
         (prev-pointed (p .sound) t (p .accepted .there) prev (p .newest) .1) d
 
     pub refused-all : (n ≡ 0 → ⊥) → record { refusal = n; version = 0; pool = pool′; table = table′ } ≡ within others most pool table (backupDatedOf pool table t day image)
@@ -129,7 +129,7 @@ module _ {mc : Measures} {pool table : List ℕ} {t : ℕ} {r : Head} {day : ℕ
       part-kept : take (r .at + m - r .at) (drop (r .at) table′) ≡ tillToWords (getD table 1 0) (getD table 2 0) (tillOf (stateIn (shapeOf table) pool table) t)
       part-kept = go (limitedOn others most pool table image (newestOf pool table t)) did
         where
-          go : (o : Outcome Placed) → DidOn image (newestOf pool table t) pool table o n pool′ table′ words′ prev′
+          go : (o : Outcome Placed) → StoreInResult image (newestOf pool table t) pool table o n pool′ table′ words′ prev′
               → take (r .at + m - r .at) (drop (r .at) table′) ≡ tillToWords (getD table 1 0) (getD table 2 0) (tillOf (stateIn (shapeOf table) pool table) t)
           go (refused x) q = absurd (omega (arith, z, q .0, q .1))
           go (done x) q =
@@ -137,9 +137,9 @@ module _ {mc : Measures} {pool table : List ℕ} {t : ℕ} {r : Head} {day : ℕ
               ap (λ (j : ℕ). take j (drop (r .at) table′)) w
               ∙ ap (λ (j : ℕ). take (tillSize table) (drop j table′)) (p .head .at)
               ∙ ap (λ (ws : List ℕ). take (tillSize table) (drop (tillAt (shapeOf table) t) ws)) (q .1 .tables)
-              ∙ (unfold shapeOf tillOf in till-is (shapeOf table) (sweptState (measuresOn table) (stateIn (shapeOf table) pool table) (blocksOn table image) (newestOf pool table t) (x .shelf)) t (there (p .sound) t (p .accepted .there)))
+              ∙ (unfold shapeOf tillOf in till-is (shapeOf table) (sweptState (measuresOn table) (stateIn (shapeOf table) pool table) (blocksOn table image) (newestOf pool table t) (x .storage)) t (there (p .sound) t (p .accepted .there)))
 
-      pub file-ready : length table′ ≡ length table → length prev′ ≡ length prev → FileReady table′ (r .at) (r .at + m) (getD table 2 0) prev′ (take k words′)
+      pub file-ready : length table′ ≡ length table → length prev′ ≡ length prev → FilePre table′ (r .at) (r .at + m) (getD table 2 0) prev′ (take k words′)
       file-ready lt lp =
           let (x, y, w) = till-in (p .sound) t (p .accepted .there) (r .at) m (p .head .at) em in
           record {
@@ -152,7 +152,7 @@ module _ {mc : Measures} {pool table : List ℕ} {t : ℕ} {r : Head} {day : ℕ
             short = omega (arith, length-take k words′, blocks-are, blocks-most (p .sound) (p .accepted));
           }
 
-      pub filed-all : (out : List ℕ) → FiledOn (r .at) (r .at + m) (getD table 2 0) prev′ (length image) day (take k words′) table′ out
+      pub filed-all : (out : List ℕ) → FileResult (r .at) (r .at + m) (getD table 2 0) prev′ (length image) day (take k words′) table′ out
           → record { refusal = 0; version = r .last + 1; pool = pool′; table = out } ≡ within others most pool table (backupDatedOf pool table t day image)
       filed-all out f =
           filed-answer pool table (p .sound) t day image (p .accepted) others most n pool′ table′ words′ prev′ did z (r .at) (r .at + m) (getD table 2 0) k (r .last) out (p .head .last) refl (p .head .at)
@@ -172,7 +172,7 @@ module _ {mc : Measures} {pool table : List ℕ} {t day : ℕ} {image : List ℕ
   few-segments = rw em (segments-most (measuresOn table) (length image) (header h .measured) (image-most h a))
 
   pub begun : (r : Head) → HeadOf pool table t r → (n count : ℕ) (prev words : List ℕ) → n ≤ length prev → take n prev ≡ map pointerWord (newestOf pool table t) → n ≤ getD table 2 0 → length words ≡ 1040
-      → count ≡ segmentsIn mc image * mc .segmentBlocks → Begun mc pool table t r day image (take n prev) (take count words)
+      → count ≡ segmentsIn mc image * mc .segmentBlocks → BackupPre mc pool table t r day image (take n prev) (take count words)
   begun r o n count prev words l e b w ec = record {
     sound = h;
     measures = em;

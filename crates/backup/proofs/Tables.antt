@@ -11,20 +11,20 @@ use Rattle.model.specs.Image.{imageBlocks, imageSegments, withBlanks}
 use Rattle.lists.proofs.Rows.{length-rows}
 use Rattle.model.specs.Measures.{Measures, recordWords, tableWords}
 use Rattle.model.specs.Place.{Placed, placeAll}
-use Rattle.model.specs.State.{Block, Pointer, Segment, Shelf, State, Outcome, refused, done}
-use Rattle.model.specs.Table.{shapeOf, stateIn, shelfIn, stateToWords, stateToBytes, recordToWords, wordToPointer}
-use Rattle.laws.specs.Shelves.{ShelfFits, Suffices}
+use Rattle.model.specs.State.{Block, Pointer, Segment, Storage, State, Outcome, refused, done}
+use Rattle.model.specs.Table.{shapeOf, stateIn, storageIn, stateToWords, stateToBytes, recordToWords, wordToPointer}
+use Rattle.laws.specs.Storage.{StorageFits, Suffices}
 use Rattle.laws.specs.Stores.{recordsFrom, Sound}
 use Rattle.laws.proofs.Stores.{records-is, records-put, found, fits, valid, long, header}
 use Rattle.laws.proofs.Measures.{sizes}
-use Rattle.meets.proofs.Records.{shelf-is, stored-read}
+use Rattle.sound_laws.proofs.Records.{storage-is, stored-read}
 use Rattle.place.specs.All.{segmentsIn, placedIn}
-use Rattle.ready.proofs.Shelf.{sound-counts}
-use Rattle.shelf.specs.Stored.{Countable}
-use Rattle.shelf.proofs.Read.{wide-of}
-use Rattle.shelve.specs.Limit.{limited}
-use Rattle.shelve.specs.Shelve.{Pointed, Readied, DidShelve}
-use Rattle.backup.specs.Backup.{measuresOn, blocksOn, limitedOn, ShelfReady, sweptState, DidOn}
+use Rattle.backup_laws.proofs.Storage.{sound-counts}
+use Rattle.storage.specs.Stored.{Countable}
+use Rattle.storage.proofs.Read.{wide-of}
+use Rattle.backup_steps.specs.Limit.{limited}
+use Rattle.backup_steps.specs.Steps.{Pointed, StorePre, StoreResult}
+use Rattle.backup.specs.Backup.{measuresOn, blocksOn, limitedOn, StoreInPre, sweptState, StoreInResult}
 
 module _ {pool table : List ℕ} (h : Sound pool table) where
   abbrev st : State
@@ -36,32 +36,32 @@ module _ {pool table : List ℕ} (h : Sound pool table) where
   count : length (st .tills) ≡ shapeOf table .capacities .tills
   count = fits h .tillCount
 
-  part-is : part ≡ rows recordToWords (st .shelf .records)
+  part-is : part ≡ rows recordToWords (st .storage .records)
   part-is =
-      subst (λ (ws : List ℕ). take (length ws - recordsFrom (shapeOf table)) (drop (recordsFrom (shapeOf table)) ws) ≡ rows recordToWords (st .shelf .records))
+      subst (λ (ws : List ℕ). take (length ws - recordsFrom (shapeOf table)) (drop (recordsFrom (shapeOf table)) ws) ≡ rows recordToWords (st .storage .records))
       (found h .words) (records-is (shapeOf table) st count)
 
-  bytes-are : pool ≡ joined (st .shelf .cells)
+  bytes-are : pool ≡ joined (st .storage .cells)
   unfolding stateToBytes
   bytes-are = sym (found h .bytes)
 
-  part-put : (shelf : Shelf) (ws : List ℕ) → ws ≡ rows recordToWords (shelf .records)
-      → putMid (recordsFrom (shapeOf table)) (length table - recordsFrom (shapeOf table)) table ws ≡ stateToWords (shapeOf table) (record { tills = st .tills; shelf = shelf })
-  part-put shelf ws e =
+  part-put : (storage : Storage) (ws : List ℕ) → ws ≡ rows recordToWords (storage .records)
+      → putMid (recordsFrom (shapeOf table)) (length table - recordsFrom (shapeOf table)) table ws ≡ stateToWords (shapeOf table) (record { tills = st .tills; storage = storage })
+  part-put storage ws e =
       ap (λ (x : List ℕ). putMid (recordsFrom (shapeOf table)) (length table - recordsFrom (shapeOf table)) table x) e
-      ∙ subst (λ (l : List ℕ). take (recordsFrom (shapeOf table)) l ++ (rows recordToWords (shelf .records) ++ drop (length l - recordsFrom (shapeOf table)) (drop (recordsFrom (shapeOf table)) l)) ≡ stateToWords (shapeOf table) (record { tills = st .tills; shelf = shelf }))
-      (found h .words) (records-put (shapeOf table) st count (shelf .records) (shelf .cells))
+      ∙ subst (λ (l : List ℕ). take (recordsFrom (shapeOf table)) l ++ (rows recordToWords (storage .records) ++ drop (length l - recordsFrom (shapeOf table)) (drop (recordsFrom (shapeOf table)) l)) ≡ stateToWords (shapeOf table) (record { tills = st .tills; storage = storage }))
+      (found h .words) (records-put (shapeOf table) st count (storage .records) (storage .cells))
 
-  shelf-back : shelfIn (measuresOn table) pool part ≡ st .shelf
-  shelf-back = shelf-is h (recordsFrom (shapeOf table)) refl
+  storage-back : storageIn (measuresOn table) pool part ≡ st .storage
+  storage-back = storage-is h (recordsFrom (shapeOf table)) refl
 
   part-length : length part ≡ getD table 3 0 * recordWords (measuresOn table .segmentBlocks)
   unfolding shapeOf
   part-length =
-      ap length part-is ∙ length-rows recordToWords (recordWords (measuresOn table .segmentBlocks)) (st .shelf .records) (wide-of (measuresOn table .segmentBlocks) (st .shelf .records) (fits h .records))
+      ap length part-is ∙ length-rows recordToWords (recordWords (measuresOn table .segmentBlocks)) (st .storage .records) (wide-of (measuresOn table .segmentBlocks) (st .storage .records) (fits h .records))
       ∙ ap (λ (n : ℕ). n * recordWords (measuresOn table .segmentBlocks)) (fits h .recordCount)
 
-module _ (m : Measures) (image pool table : List ℕ) (from : ℕ) (words prev : List ℕ) (r : ShelfReady m image pool table from words prev) where
+module _ (m : Measures) (image pool table : List ℕ) (from : ℕ) (words prev : List ℕ) (r : StoreInPre m image pool table from words prev) where
   pub from-in : from ≤ length table
   from-in = go (long (r .sound)) (r .begins)
     where
@@ -69,45 +69,45 @@ module _ (m : Measures) (image pool table : List ℕ) (from : ℕ) (words prev :
       go l b = unfold tableWords in omega (arith, l, b)
 
   -- where the records begin, and with the table's measures
-  readied-on : Readied (measuresOn table) image pool (part (r .sound)) words prev
+  readied-on : StorePre (measuresOn table) image pool (part (r .sound)) words prev
   readied-on = record {
     ready = record {
       most = r .short;
       stored = stored-read (r .sound) (recordsFrom (shapeOf table)) refl (measuresOn table) refl;
       counts =
-          unfold shelfIn in subst (λ (x : Shelf). Countable 2147483648 (x .records)) (sym (shelf-back (r .sound))) (sound-counts (shapeOf table) (st (r .sound)) (found (r .sound) .sound));
+          unfold storageIn in subst (λ (x : Storage). Countable 2147483648 (x .records)) (sym (storage-back (r .sound))) (sound-counts (shapeOf table) (st (r .sound)) (found (r .sound) .sound));
       room = r .room ∙ ap (λ (n : Measures). segmentsIn n image * n .segmentBlocks) (r .measures);
     };
-    fits = subst (λ (x : Shelf). ShelfFits (measuresOn table) x) (sym (shelf-back (r .sound))) (valid (r .sound) .fits);
+    fits = subst (λ (x : Storage). StorageFits (measuresOn table) x) (sym (storage-back (r .sound))) (valid (r .sound) .fits);
     pointers = subst (λ (l : ℕ). Pointed (measuresOn table .segmentBlocks) l prev) (sym (part-length (r .sound))) (r .pointers);
-    suffices = unfold shelfIn in subst (λ (x : Shelf). Suffices (x .records) (map wordToPointer prev)) (sym (shelf-back (r .sound))) (r .suffices);
+    suffices = unfold storageIn in subst (λ (x : Storage). Suffices (x .records) (map wordToPointer prev)) (sym (storage-back (r .sound))) (r .suffices);
   }
 
-  pub readied : Readied m image pool (midOf from (length table - from) table) words prev
+  pub readied : StorePre m image pool (midOf from (length table - from) table) words prev
   readied =
-      subst (λ (n : Measures). Readied n image pool (midOf from (length table - from) table) words prev) (sym (r .measures))
-      (subst (λ (k : ℕ). Readied (measuresOn table) image pool (midOf k (length table - k) table) words prev) (sym (r .begins)) readied-on)
+      subst (λ (n : Measures). StorePre n image pool (midOf from (length table - from) table) words prev) (sym (r .measures))
+      (subst (λ (k : ℕ). StorePre (measuresOn table) image pool (midOf k (length table - k) table) words prev) (sym (r .begins)) readied-on)
 
   -- the steps' result, on the table
   pub done-on : (others most : ℕ) (ps : List Pointer) (n : ℕ) (pool′ ws′ words′ prev′ : List ℕ)
-      → DidShelve m image ps (limited others most m (imageBlocks (m .blockBytes) image) ps (placedIn m image pool (midOf from (length table - from) table))) n pool (midOf from (length table - from) table) pool′ ws′ words′ prev′
-      → DidOn image ps pool table (limitedOn others most pool table image ps) n pool′ (putMid from (length table - from) table ws′) words′ prev′
+      → StoreResult m image ps (limited others most m (imageBlocks (m .blockBytes) image) ps (placedIn m image pool (midOf from (length table - from) table))) n pool (midOf from (length table - from) table) pool′ ws′ words′ prev′
+      → StoreInResult image ps pool table (limitedOn others most pool table image ps) n pool′ (putMid from (length table - from) table ws′) words′ prev′
   done-on others most ps n pool′ ws′ words′ prev′ d =
-      subst (λ (k : ℕ). DidShelve (measuresOn table) image ps (limited others most (measuresOn table) (blocksOn table image) ps (placedIn (measuresOn table) image pool (midOf k (length table - k) table))) n pool (midOf k (length table - k) table) pool′ ws′ words′ prev′
-      → DidOn image ps pool table (limitedOn others most pool table image ps) n pool′ (putMid k (length table - k) table ws′) words′ prev′)
+      subst (λ (k : ℕ). StoreResult (measuresOn table) image ps (limited others most (measuresOn table) (blocksOn table image) ps (placedIn (measuresOn table) image pool (midOf k (length table - k) table))) n pool (midOf k (length table - k) table) pool′ ws′ words′ prev′
+      → StoreInResult image ps pool table (limitedOn others most pool table image ps) n pool′ (putMid k (length table - k) table ws′) words′ prev′)
       (sym (r .begins))
       (λ q. go (limitedOn others most pool table image ps)
-      (subst (λ (x : Shelf). DidShelve (measuresOn table) image ps (limited others most (measuresOn table) (blocksOn table image) ps (placeAll withBlanks (done (record { shelf = x; pointers = [] })) (imageSegments (measuresOn table .blockBytes) (measuresOn table .segmentBlocks) image))) n pool (part (r .sound)) pool′ ws′ words′ prev′) (shelf-back (r .sound)) q))
-      (subst (λ (x : Measures). DidShelve x image ps (limited others most x (imageBlocks (x .blockBytes) image) ps (placedIn x image pool (midOf from (length table - from) table))) n pool (midOf from (length table - from) table) pool′ ws′ words′ prev′) (r .measures) d)
+      (subst (λ (x : Storage). StoreResult (measuresOn table) image ps (limited others most (measuresOn table) (blocksOn table image) ps (placeAll withBlanks (done (record { storage = x; pointers = [] })) (imageSegments (measuresOn table .blockBytes) (measuresOn table .segmentBlocks) image))) n pool (part (r .sound)) pool′ ws′ words′ prev′) (storage-back (r .sound)) q))
+      (subst (λ (x : Measures). StoreResult x image ps (limited others most x (imageBlocks (x .blockBytes) image) ps (placedIn x image pool (midOf from (length table - from) table))) n pool (midOf from (length table - from) table) pool′ ws′ words′ prev′) (r .measures) d)
     where
-      go : (o : Outcome Placed) → DidShelve (measuresOn table) image ps o n pool (part (r .sound)) pool′ ws′ words′ prev′
-          → DidOn image ps pool table o n pool′ (putMid (recordsFrom (shapeOf table)) (length table - recordsFrom (shapeOf table)) table ws′) words′ prev′
-      go (refused k) q = (q .0, q .1, q .2, part-put (r .sound) (st (r .sound) .shelf) ws′ (q .3 ∙ part-is (r .sound)) ∙ found (r .sound) .words)
+      go : (o : Outcome Placed) → StoreResult (measuresOn table) image ps o n pool (part (r .sound)) pool′ ws′ words′ prev′
+          → StoreInResult image ps pool table o n pool′ (putMid (recordsFrom (shapeOf table)) (length table - recordsFrom (shapeOf table)) table ws′) words′ prev′
+      go (refused k) q = (q .0, q .1, q .2, part-put (r .sound) (st (r .sound) .storage) ws′ (q .3 ∙ part-is (r .sound)) ∙ found (r .sound) .words)
       go (done p) q = (
         q .0,
         record {
-          bytes = unfold stateToBytes in q .1 .told .cells .joins;
-          tables = part-put (r .sound) (sweptState (measuresOn table) (st (r .sound)) (blocksOn table image) ps (p .shelf) .shelf) ws′ (q .1 .told .records .words);
+          bytes = unfold stateToBytes in q .1 .encodes .cells .joins;
+          tables = part-put (r .sound) (sweptState (measuresOn table) (st (r .sound)) (blocksOn table image) ps (p .storage) .storage) ws′ (q .1 .encodes .records .words);
           turned = q .1 .words;
           placed = q .2;
         },

@@ -17,11 +17,11 @@ use Rattle.laws.proofs.RoundTrip.{length-till, held-word, last-word}
 use Rattle.laws.specs.Stores.{Sound}
 use Rattle.laws.proofs.Stores.{header, fits, found}
 use Rattle.laws.proofs.Tills.{there, few, last-most}
-use Rattle.accept.specs.Accept.{Free}
-use Rattle.filing.specs.Filing.{Room, SlotLeft, FewBlocks, Whole, Held}
-use Rattle.filing.proofs.Slots.{few-blocks}
-use Rattle.ready.proofs.Newest.{newest-good, newest-few, words-back}
-use Rattle.shelve.specs.Shelve.{Pointed}
+use Rattle.backup_accept.specs.Accept.{HasRoomLeft}
+use Rattle.backup_file.specs.Filing.{Room, HasFreeSlot, FewBlocks, HasPointers, Held}
+use Rattle.backup_file.proofs.Slots.{few-blocks}
+use Rattle.backup_laws.proofs.Newest.{newest-good, newest-few, words-back}
+use Rattle.backup_steps.specs.Steps.{Pointed}
 use Rattle.turn.specs.Turn.{Followable}
 
 module _ {pool table : List ℕ} (h : Sound pool table) (t : ℕ) (in-table : t < getD table 0 0) where
@@ -42,7 +42,7 @@ module _ {pool table : List ℕ} (h : Sound pool table) (t : ℕ) (in-table : t 
   unfolding shapeOf
   till-held = record {
     most = few h t in-table;
-    versions = each-weaken (VersionFits (shapeOf table)) (Whole (shapeOf table .measures .blockBytes) b) (λ u f. record { blocks = f .blocks; most = f .most }) (till .versions) (till-fit .versions);
+    versions = each-weaken (VersionFits (shapeOf table)) (HasPointers (shapeOf table .measures .blockBytes) b) (λ u f. record { blocks = f .blocks; most = f .most }) (till .versions) (till-fit .versions);
   }
 
   module _ (ws : List ℕ) (e : ws ≡ tillToWords v b till) where
@@ -65,7 +65,7 @@ module _ {pool table : List ℕ} (h : Sound pool table) (t : ℕ) (in-table : t 
           slots = rw (held, size) (omega (arith, m));
         }
 
-    pub till-left : Free pool table t → SlotLeft b ws
+    pub till-left : HasRoomLeft pool table t → HasFreeSlot b ws
     till-left f =
         let n : length (till .versions) + 1 ≤ v = omega (arith, f .room) in
         let m : (length (till .versions) + 1) * (3 + b) ≤ v * (3 + b) = mul-le-mul-right (3 + b) n in
@@ -88,14 +88,14 @@ module _ {pool table : List ℕ} (h : Sound pool table) (t : ℕ) (in-table : t 
   unfolding shapeOf tillOf emptyTill
   prev-pointed prev e =
       let n : ℕ = shapeOf table .measures .segmentBlocks in
-      let l : ℕ = length (stateIn (shapeOf table) pool table .shelf .records) * recordWords n in
+      let l : ℕ = length (stateIn (shapeOf table) pool table .storage .records) * recordWords n in
       let g : Each (Followable n l) (newestPointers (till .versions)) = newest-good (shapeOf table) (stateIn (shapeOf table) pool table) (found h .sound) t (there h t in-table) in
       let k : length (newestPointers (till .versions)) ≤ b = newest-few (shapeOf table) (stateIn (shapeOf table) pool table) (found h .sound) t (there h t in-table) in
       let back : map wordToPointer prev ≡ newestPointers (till .versions) = ap (map wordToPointer) e ∙ words-back n l (newestPointers (till .versions)) g in
       let c : l ≡ getD table 3 0 * recordWords n = ap (λ (x : ℕ). x * recordWords n) (fits h .recordCount) in (
         record {
           few = omega (arith, ap length e, length-map (newestPointers (till .versions)) pointerWord, k, header h .blocks);
-          says = e ∙ ap (map pointerWord) (sym back);
+          canonical = e ∙ ap (map pointerWord) (sym back);
           good = subst (λ (x : ℕ). Each (Followable n x) (map wordToPointer prev)) c (subst (Each (Followable n l)) (sym back) g);
         },
         back,

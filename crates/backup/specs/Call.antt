@@ -10,7 +10,7 @@ use Rattle.model.specs.Calls.{BackupAnswer, tillOf, newestPointers}
 use Rattle.laws.specs.Stores.{Sound}
 use Rattle.tills.specs.declared.Head.{Head}
 use Rattle.tills.specs.Answers.{HeadOf}
-use Rattle.accept.specs.Accept.{Accepted}
+use Rattle.backup_accept.specs.Accept.{Accepted}
 use Rattle.place.specs.All.{segmentsIn}
 use Rattle.backup.specs.declared.BackedUp.{BackedUp}
 
@@ -18,7 +18,7 @@ use Rattle.backup.specs.declared.BackedUp.{BackedUp}
 abbrev pub newestOf : List ℕ → List ℕ → ℕ → List Pointer
 newestOf pool table t = newestPointers (tillOf (stateIn (shapeOf table) pool table) t .versions)
 
-pub record Begun (m : Measures) (pool table : List ℕ) (t : ℕ) (r : Head) (day : ℕ) (image prev words : List ℕ) : Type 0 where
+pub record BackupPre (m : Measures) (pool table : List ℕ) (t : ℕ) (r : Head) (day : ℕ) (image prev words : List ℕ) : Type 0 where
   pub sound : Sound pool table
   pub measures : m ≡ shapeOf table .measures
   pub accepted : Accepted pool table t day image

@@ -7,16 +7,16 @@ ghost use Rattle.numbers.specs.Measures.{measuresOf};
 ghost use Rattle.model.specs.Table.{shapeOf, stateIn, pointerWord, wordToPointer};
 ghost use Rattle.model.specs.Calls.{backupOf, backupDatedOf};
 ghost use Rattle.laws.specs.Stores.{Sound, tillAt};
-ghost use Rattle.accept.specs.Accept.{Accepted};
+ghost use Rattle.backup_accept.specs.Accept.{Accepted};
 ghost use Rattle.chain.specs.Limit.{within};
-ghost use Rattle.backup.specs.Backup.{limitedOn, ShelfReady, DidOn, FileReady, FiledOn};
-ghost use Rattle.backup.specs.Call.{newestOf, Begun, backedUpAnswer};
+ghost use Rattle.backup.specs.Backup.{limitedOn, StoreInPre, StoreInResult, FilePre, FileResult};
+ghost use Rattle.backup.specs.Call.{newestOf, BackupPre, backedUpAnswer};
+use backup_steps::Limit;
 use numbers::Measures;
-use shelve::Limit;
 use tills::Head;
 
 // Steps 1 to 3 on the table's records, which begin at `from`. A refusal alters nothing.
-pub fn shelve_in(
+pub fn store_in(
     image: &[u8],
     pool: &mut [u8],
     table: &mut [u32],
@@ -26,10 +26,10 @@ pub fn shelve_in(
     m: Measures,
     limit: Limit,
 ) -> u32
-    requires { ⌜ ShelfReady (measuresOf m) (now image) (now pool) (now table) from (now words) (now prev) × (limit .others ≤ 524288) ⌝ }
-    ensures { λ r. ⌜ DidOn (now (image .entry)) (map wordToPointer (now (prev .entry))) (now (pool .entry)) (now (table .entry)) (limitedOn (limit .others) (limit .most) (now (pool .entry)) (now (table .entry)) (now (image .entry)) (map wordToPointer (now (prev .entry)))) r (now (pool .exit)) (now (table .exit)) (now (words .exit)) (now (prev .exit)) ⌝ }
+    requires { ⌜ StoreInPre (measuresOf m) (now image) (now pool) (now table) from (now words) (now prev) × (limit .others ≤ 524288) ⌝ }
+    ensures { λ r. ⌜ StoreInResult (now (image .entry)) (map wordToPointer (now (prev .entry))) (now (pool .entry)) (now (table .entry)) (limitedOn (limit .others) (limit .most) (now (pool .entry)) (now (table .entry)) (now (image .entry)) (map wordToPointer (now (prev .entry)))) r (now (pool .exit)) (now (table .exit)) (now (words .exit)) (now (prev .exit)) ⌝ }
 {
-    shelve::shelve(image, pool, &mut table[from..], words, prev, limit, m)
+    backup_steps::store_image(image, pool, &mut table[from..], words, prev, limit, m)
 }
 
 // The till's words, from `at` to `end`, get the turned pointers and the new version.
@@ -43,10 +43,10 @@ pub fn file_in(
     day: u32,
     pointers: &[u32],
 )
-    requires { ⌜ FileReady (now table) at end b (now turned) (now pointers) ⌝ }
-    ensures { λ _. ⌜ FiledOn at end b (now (turned .entry)) bytes day (now (pointers .entry)) (now (table .entry)) (now (table .exit)) ⌝ }
+    requires { ⌜ FilePre (now table) at end b (now turned) (now pointers) ⌝ }
+    ensures { λ _. ⌜ FileResult at end b (now (turned .entry)) bytes day (now (pointers .entry)) (now (table .entry)) (now (table .exit)) ⌝ }
 {
-    filing::file_version(&mut table[at..end], b, turned, bytes, day, pointers);
+    backup_file::file_version(&mut table[at..end], b, turned, bytes, day, pointers);
 }
 
 // Refusal 0 is an accepted call.
@@ -70,11 +70,11 @@ fn copy_newest(
 {
     let b = table[2] as usize;
     let end = at + tills::till_words(table);
-    filing::newest_pointers(&table[at..end], b, prev, m.bytes)
+    backup_file::newest_pointers(&table[at..end], b, prev, m.bytes)
 }
 
 // All steps, from the newest version's pointers on.
-fn shelve_and_file(
+fn store_and_file(
     pool: &mut [u8],
     table: &mut [u32],
     till: u32,
@@ -86,13 +86,13 @@ fn shelve_and_file(
     m: Measures,
     limit: Limit,
 ) -> BackedUp
-    requires { ⌜ Begun (measuresOf m) (now pool) (now table) till head day (now image) (now prev) (now words) × (limit .others ≤ 524288) ⌝ }
+    requires { ⌜ BackupPre (measuresOf m) (now pool) (now table) till head day (now image) (now prev) (now words) × (limit .others ≤ 524288) ⌝ }
     ensures { λ r. ⌜ backedUpAnswer r (now (pool .exit)) (now (table .exit)) ≡ within (limit .others) (limit .most) (now (pool .entry)) (now (table .entry)) (backupDatedOf (now (pool .entry)) (now (table .entry)) till day (now (image .entry))) ⌝ }
 {
     let from = tills::records_at(table);
     let b = table[2] as usize;
     let end = head.at + tills::till_words(table);
-    let r = shelve_in(image, pool, table, from, words, prev, m, limit);
+    let r = store_in(image, pool, table, from, words, prev, m, limit);
     if r != 0 {
         return BackedUp {
             refusal: r,
@@ -135,7 +135,7 @@ fn back_up_with(
     let head = tills::till_head(pool, table, till);
     let n = copy_newest(pool, table, till, head.at, prev, m);
     let count = m.segments(image.len()) * m.blocks;
-    shelve_and_file(
+    store_and_file(
         pool,
         table,
         till,
@@ -189,7 +189,7 @@ pub fn back_up_dated(
     requires { ⌜ Sound (now pool) (now table) × (limit .others ≤ 524288) ⌝ }
     ensures { λ r. ⌜ backedUpAnswer r (now (pool .exit)) (now (table .exit)) ≡ within (limit .others) (limit .most) (now (pool .entry)) (now (table .entry)) (backupDatedOf (now (pool .entry)) (now (table .entry)) till day (now (image .entry))) ⌝ }
 {
-    let r = accept::backup_refusal(pool, table, till, day, image);
+    let r = backup_accept::backup_refusal(pool, table, till, day, image);
     if r != 0 {
         return BackedUp {
             refusal: r,

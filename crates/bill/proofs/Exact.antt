@@ -16,7 +16,7 @@ use Rattle.lists.proofs.Tests.{clause, all-true}
 use Rattle.lists.proofs.Counts.{count-append}
 use Rattle.lists.proofs.Uses.{uses-append, in-uses, uses-in}
 use Rattle.model.specs.Measures.{Shape}
-use Rattle.model.specs.State.{Pointer, nullPointer, blankPointer, direct, indirect, Shelf, Version, Till, State}
+use Rattle.model.specs.State.{Pointer, nullPointer, blankPointer, direct, indirect, Storage, Version, Till, State}
 use Rattle.model.specs.Records.{isHeld, cellOf, positionAt, namedCells}
 use Rattle.model.specs.Sound.{isSound, leadsTo, allPointers, Store, storeOf}
 use Rattle.model.specs.Rights.{ownerRefusal}
@@ -55,38 +55,38 @@ zeros-total (suc n) = omega (arith, zeros-total n)
 
 -- ---- every occupied cell has a till that pays
 
-refers-most : (shelf : Shelf) (c k i : ℕ) → isHeld (positionAt shelf k i) ≡ true → cellOf (positionAt shelf k i) ≡ c → (ps : List Pointer)
-    → count (leadsTo k i) ps ≤ count (refersTo shelf c) ps
+refers-most : (storage : Storage) (c k i : ℕ) → isHeld (positionAt storage k i) ≡ true → cellOf (positionAt storage k i) ≡ c → (ps : List Pointer)
+    → count (leadsTo k i) ps ≤ count (refersTo storage c) ps
 unfolding count
-refers-most shelf c k i h e [] = le-refl 0
-refers-most shelf c k i h e (p ∷ ps) = omega (arith, one p, refers-most shelf c k i h e ps)
+refers-most storage c k i h e [] = le-refl 0
+refers-most storage c k i h e (p ∷ ps) = omega (arith, one p, refers-most storage c k i h e ps)
   where
-    one : (p : Pointer) → _≤_ (cond (leadsTo k i p) 1 0) (cond (refersTo shelf c p) 1 0)
+    one : (p : Pointer) → _≤_ (cond (leadsTo k i p) 1 0) (cond (refersTo storage c p) 1 0)
     one nullPointer = le-refl 0
     one blankPointer = le-refl 0
     one (direct k′ i′) = go (leadsTo k i (direct k′ i′)) refl
       where
-        go : (b : Bool) → leadsTo k i (direct k′ i′) ≡ b → _≤_ (cond b 1 0) (cond (refersTo shelf c (direct k′ i′)) 1 0)
+        go : (b : Bool) → leadsTo k i (direct k′ i′) ≡ b → _≤_ (cond b 1 0) (cond (refersTo storage c (direct k′ i′)) 1 0)
         go true q =
-            let here : refersTo shelf c (direct k′ i′) ≡ true =
+            let here : refersTo storage c (direct k′ i′) ≡ true =
             all-true _ (
-              ap₂ (λ (x y : ℕ). isHeld (positionAt shelf x y)) (sym (eqb-true k k′ (clause _ 0 q))) (sym (eqb-true i i′ (clause _ 1 q))) ∙ h,
-              (eq-eqb _ c (ap₂ (λ (x y : ℕ). cellOf (positionAt shelf x y)) (sym (eqb-true k k′ (clause _ 0 q))) (sym (eqb-true i i′ (clause _ 1 q))) ∙ e), tt),
+              ap₂ (λ (x y : ℕ). isHeld (positionAt storage x y)) (sym (eqb-true k k′ (clause _ 0 q))) (sym (eqb-true i i′ (clause _ 1 q))) ∙ h,
+              (eq-eqb _ c (ap₂ (λ (x y : ℕ). cellOf (positionAt storage x y)) (sym (eqb-true k k′ (clause _ 0 q))) (sym (eqb-true i i′ (clause _ 1 q))) ∙ e), tt),
             ) in
             rw here (le-refl 1)
         go false q = zero-le
     one (indirect n) = le-refl 0
 
-some-pays : (shelf : Shelf) (c k i : ℕ) → isHeld (positionAt shelf k i) ≡ true → cellOf (positionAt shelf k i) ≡ c → (ts : List Till)
-    → 0 < count (leadsTo k i) (allPointers ts) → 0 < count (λ (b : Bool). b) (map (pays shelf c) ts)
+some-pays : (storage : Storage) (c k i : ℕ) → isHeld (positionAt storage k i) ≡ true → cellOf (positionAt storage k i) ≡ c → (ts : List Till)
+    → 0 < count (leadsTo k i) (allPointers ts) → 0 < count (λ (b : Bool). b) (map (pays storage c) ts)
 unfolding allPointers joined count
-some-pays shelf c k i h e [] l = absurd (not-suc-le-zero l)
-some-pays shelf c k i h e (t ∷ ts) l = go (ltb 0 (count (leadsTo k i) (pointersOf (t .versions)))) refl (some-pays shelf c k i h e ts)
+some-pays storage c k i h e [] l = absurd (not-suc-le-zero l)
+some-pays storage c k i h e (t ∷ ts) l = go (ltb 0 (count (leadsTo k i) (pointersOf (t .versions)))) refl (some-pays storage c k i h e ts)
   where
-    go : (b : Bool) → ltb 0 (count (leadsTo k i) (pointersOf (t .versions))) ≡ b → (0 < count (leadsTo k i) (allPointers ts) → 0 < count (λ (b : Bool). b) (map (pays shelf c) ts))
-        → _<_ 0 (cond (pays shelf c t) 1 0 + count (λ (b : Bool). b) (map (pays shelf c) ts))
+    go : (b : Bool) → ltb 0 (count (leadsTo k i) (pointersOf (t .versions))) ≡ b → (0 < count (leadsTo k i) (allPointers ts) → 0 < count (λ (b : Bool). b) (map (pays storage c) ts))
+        → _<_ 0 (cond (pays storage c t) 1 0 + count (λ (b : Bool). b) (map (pays storage c) ts))
     go true q r =
-        let mine : pays shelf c t ≡ true = unfold pays in lt-ltb 0 (count (refersTo shelf c) (pointersOf (t .versions))) (omega (arith, ltb-true 0 (count (leadsTo k i) (pointersOf (t .versions))) q, refers-most shelf c k i h e (pointersOf (t .versions)))) in
+        let mine : pays storage c t ≡ true = unfold pays in lt-ltb 0 (count (refersTo storage c) (pointersOf (t .versions))) (omega (arith, ltb-true 0 (count (leadsTo k i) (pointersOf (t .versions))) q, refers-most storage c k i h e (pointersOf (t .versions)))) in
         rw mine (omega arith)
     go false q r =
         omega (
@@ -100,20 +100,20 @@ some-pays shelf c k i h e (t ∷ ts) l = go (ltb 0 (count (leadsTo k i) (pointer
         )
 
 module _ (s : Shape) (st : State) (h : isSound s st ≡ true) where
-  cell-paid : (c : ℕ) → isIn c (namedCells (st .shelf .records)) ≡ true → 0 < count (λ (b : Bool). b) (map (pays (st .shelf) c) (st .tills))
+  cell-paid : (c : ℕ) → isIn c (namedCells (st .storage .records)) ≡ true → 0 < count (λ (b : Bool). b) (map (pays (st .storage) c) (st .tills))
   unfolding isSound positionAt
   cell-paid c e =
-      let r = record-of c (st .shelf .records) (in-uses c (namedCells (st .shelf .records)) e) in
-      let p = position-of c (getD (st .shelf .records) (r .0) []) (r .1) in
-      let positive : 0 < countIn (st .shelf) (r .0) (p .0) = held-positive (allPointers (st .tills)) 0 (st .shelf .records) (clause _ 5 h) (r .0) (p .0) (p .1) in
-      some-pays (st .shelf) c (r .0) (p .0) (p .1) (p .2) (st .tills) (subst (λ (n : ℕ). 0 < n) (sound-valid s st h .counts (r .0) (p .0)) positive)
+      let r = record-of c (st .storage .records) (in-uses c (namedCells (st .storage .records)) e) in
+      let p = position-of c (getD (st .storage .records) (r .0) []) (r .1) in
+      let positive : 0 < countIn (st .storage) (r .0) (p .0) = held-positive (allPointers (st .tills)) 0 (st .storage .records) (clause _ 5 h) (r .0) (p .0) (p .1) in
+      some-pays (st .storage) c (r .0) (p .0) (p .1) (p .2) (st .tills) (subst (λ (n : ℕ). 0 < n) (sound-valid s st h .counts (r .0) (p .0)) positive)
 
-  bill-total : (p : ℕ) (cells : List ℕ) → Each (λ (c : ℕ). isIn c (namedCells (st .shelf .records)) ≡ true) cells → total (λ (n : ℕ). n) (billFor p st cells) ≡ p * length cells
+  bill-total : (p : ℕ) (cells : List ℕ) → Each (λ (c : ℕ). isIn c (namedCells (st .storage .records)) ≡ true) cells → total (λ (n : ℕ). n) (billFor p st cells) ≡ p * length cells
   unfolding billFor
   bill-total p [] e = omega (arith, zeros-total (length (st .tills)))
   bill-total p (c ∷ cells) e =
-      added-total (divided p (map (pays (st .shelf) c) (st .tills))) (billFor p st cells)
-      ∙ omega (arith, divided-total p (map (pays (st .shelf) c) (st .tills)) (cell-paid c (e .0)), bill-total p cells (e .1))
+      added-total (divided p (map (pays (st .storage) c) (st .tills))) (billFor p st cells)
+      ∙ omega (arith, divided-total p (map (pays (st .storage) c) (st .tills)) (cell-paid c (e .0)), bill-total p cells (e .1))
 
 -- ---- on the buffers
 
@@ -143,7 +143,7 @@ length-bill : (p : ℕ) (st : State) (cells : List ℕ) → length (billFor p st
 unfolding billFor divided
 length-bill p st [] = length-replicate (length (st .tills)) 0
 length-bill p st (c ∷ cells) =
-    length-added (length (st .tills)) _ (billFor p st cells) (length-shares _ _ (map (pays (st .shelf) c) (st .tills)) ∙ length-map (st .tills) (pays (st .shelf) c)) (length-bill p st cells)
+    length-added (length (st .tills)) _ (billFor p st cells) (length-shares _ _ (map (pays (st .storage) c) (st .tills)) ∙ length-map (st .tills) (pays (st .storage) c)) (length-bill p st cells)
 
 -- every element of a list is in it
 all-in : (xs ys : List ℕ) → Each (λ (c : ℕ). isIn c (ys ++ xs) ≡ true) xs
@@ -156,19 +156,19 @@ all-in (x ∷ xs) ys = (
     mine : 0 < uses x (x ∷ xs)
     mine = unfold uses count in rw (eq-eqb x x refl) (omega arith)
 
-exact-in : (s : Shape) (st : State) → isSound s st ≡ true → (p : ℕ) → total (λ (n : ℕ). n) (fill 16 (bill p st)) ≡ p * length (namedCells (st .shelf .records))
+exact-in : (s : Shape) (st : State) → isSound s st ≡ true → (p : ℕ) → total (λ (n : ℕ). n) (fill 16 (bill p st)) ≡ p * length (namedCells (st .storage .records))
 unfolding bill
 exact-in s st h p =
     let v = sound-valid s st h in
-    fill-total 16 (billFor p st (namedCells (st .shelf .records))) (omega (arith, length-bill p st (namedCells (st .shelf .records)), v .tillCount, ranges s (v .range) .tills))
-    ∙ bill-total s st h p (namedCells (st .shelf .records)) (all-in (namedCells (st .shelf .records)) [])
+    fill-total 16 (billFor p st (namedCells (st .storage .records))) (omega (arith, length-bill p st (namedCells (st .storage .records)), v .tillCount, ranges s (v .range) .tills))
+    ∙ bill-total s st h p (namedCells (st .storage .records)) (all-in (namedCells (st .storage .records)) [])
 
 exact-of : (pool table : List ℕ) (store : Store) (p : ℕ) → storeOf pool table ≡ some store → billOf pool table p .refusal ≡ 0
-    → total (λ (n : ℕ). n) (billOf pool table p .sums) ≡ p * length (namedCells (store .state .shelf .records))
+    → total (λ (n : ℕ). n) (billOf pool table p .sums) ≡ p * length (namedCells (store .state .storage .records))
 unfolding billOf
-exact-of pool table store p e = subst (λ (o : Option Store). billIn o p .refusal ≡ 0 → total (λ (n : ℕ). n) (billIn o p .sums) ≡ p * length (namedCells (store .state .shelf .records))) (sym e) (go (ltb 10000 p) refl)
+exact-of pool table store p e = subst (λ (o : Option Store). billIn o p .refusal ≡ 0 → total (λ (n : ℕ). n) (billIn o p .sums) ≡ p * length (namedCells (store .state .storage .records))) (sym e) (go (ltb 10000 p) refl)
   where
-    go : (b : Bool) → ltb 10000 p ≡ b → billIn (some store) p .refusal ≡ 0 → total (λ (n : ℕ). n) (billIn (some store) p .sums) ≡ p * length (namedCells (store .state .shelf .records))
+    go : (b : Bool) → ltb 10000 p ≡ b → billIn (some store) p .refusal ≡ 0 → total (λ (n : ℕ). n) (billIn (some store) p .sums) ≡ p * length (namedCells (store .state .storage .records))
     go true q = unfold billIn billRefused in rw q (λ z. absurd (suc-ne-zero 29 z))
     go false q = unfold billIn in rw q (λ z. exact-in (store .shape) (store .state) (store-found pool table store e .sound) p)
 
@@ -177,6 +177,6 @@ unfolding billAs
 bill-is-exact pool table store user p e = go (ownerRefusal (storeOf pool table) user) (eqb (ownerRefusal (storeOf pool table) user) 0) refl
   where
     go : (n : ℕ) (q : Bool) → eqb n 0 ≡ q → cond q (billOf pool table p) (billRefused n) .refusal ≡ 0
-        → total (λ (n : ℕ). n) (cond q (billOf pool table p) (billRefused n) .sums) ≡ p * length (namedCells (store .state .shelf .records))
+        → total (λ (n : ℕ). n) (cond q (billOf pool table p) (billRefused n) .sums) ≡ p * length (namedCells (store .state .storage .records))
     go n true q z = exact-of pool table store p e z
     go n false q z = absurd (eqb-false n 0 q (unfold billRefused in z))

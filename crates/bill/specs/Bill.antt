@@ -9,21 +9,21 @@ use lib.ListN.{length, replicate}
 use lib.Dec.{eqb, ltb}
 use Rattle.lists.specs.Lists.{count, total, allOf}
 use Rattle.lists.specs.Rows.{rows, fill}
-use Rattle.model.specs.State.{Pointer, nullPointer, blankPointer, direct, indirect, Shelf, Version, Till, State}
+use Rattle.model.specs.State.{Pointer, nullPointer, blankPointer, direct, indirect, Storage, Version, Till, State}
 use Rattle.model.specs.Records.{isHeld, cellOf, positionAt, namedCells}
 use Rattle.model.specs.Sound.{Store, storeOf}
 use Rattle.model.specs.Rights.{ownerRefusal, unless}
 
 -- a direct reference to cell `c`
-abbrev pub refersTo : Shelf → ℕ → Pointer → Bool
-refersTo shelf c nullPointer = false
-refersTo shelf c blankPointer = false
-refersTo shelf c (direct k i) = allOf (isHeld (positionAt shelf k i) ∷ eqb (cellOf (positionAt shelf k i)) c ∷ [])
-refersTo shelf c (indirect n) = false
+abbrev pub refersTo : Storage → ℕ → Pointer → Bool
+refersTo storage c nullPointer = false
+refersTo storage c blankPointer = false
+refersTo storage c (direct k i) = allOf (isHeld (positionAt storage k i) ∷ eqb (cellOf (positionAt storage k i)) c ∷ [])
+refersTo storage c (indirect n) = false
 
 -- a till with a direct reference to the cell, however many it has
-unfoldable pub pays : Shelf → ℕ → Till → Bool
-pays shelf c till = ltb 0 (count (refersTo shelf c) (rows (λ (v : Version). v .pointers) (till .versions)))
+unfoldable pub pays : Storage → ℕ → Till → Bool
+pays storage c till = ltb 0 (count (refersTo storage c) (rows (λ (v : Version). v .pointers) (till .versions)))
 
 -- "each gets the whole quotient, and the remaining tenths go one each to the lowest": of quotient `q` and `r` tenths left, to those of the tills that pay
 unfoldable pub shares : ℕ → ℕ → List Bool → List ℕ
@@ -44,11 +44,11 @@ added (x ∷ xs) (y ∷ ys) = (x + y) ∷ added xs ys
 -- every till's sum over some cells
 unfoldable pub billFor : ℕ → State → List ℕ → List ℕ
 billFor p st [] = replicate (length (st .tills)) 0
-billFor p st (c ∷ cells) = added (divided p (map (pays (st .shelf) c) (st .tills))) (billFor p st cells)
+billFor p st (c ∷ cells) = added (divided p (map (pays (st .storage) c) (st .tills))) (billFor p st cells)
 
 -- over the occupied cells
 unfoldable pub bill : ℕ → State → List ℕ
-bill p st = billFor p st (namedCells (st .shelf .records))
+bill p st = billFor p st (namedCells (st .storage .records))
 
 -- ---- the call: 10, 22, 23, 30; the bill is the owner's
 
@@ -77,4 +77,4 @@ billAs pool table user p = unless (ownerRefusal (storeOf pool table) user) billR
 abbrev pub BillIsExact : Type 0
 BillIsExact =
     (pool table : List ℕ) (store : Store) (user p : ℕ) → storeOf pool table ≡ some store → billAs pool table user p .refusal ≡ 0
-    → total (λ n. n) (billAs pool table user p .sums) ≡ p * length (namedCells (store .state .shelf .records))
+    → total (λ n. n) (billAs pool table user p .sums) ≡ p * length (namedCells (store .state .storage .records))

@@ -18,11 +18,11 @@ use Rattle.lists.proofs.Masks.{mask-map}
 use Rattle.lists.proofs.Tests.{clause, all-true}
 use Rattle.lists.proofs.Uses.{uses-append, uses-here}
 use Rattle.model.specs.Measures.{Shape}
-use Rattle.model.specs.State.{Pointer, nullPointer, blankPointer, direct, indirect, Position, nullPosition, blankPosition, held, removed, Segment, Shelf, Till, State}
+use Rattle.model.specs.State.{Pointer, nullPointer, blankPointer, direct, indirect, Position, nullPosition, blankPosition, held, removed, Segment, Storage, Till, State}
 use Rattle.model.specs.Records.{isHeld, cellOf, countOf, cellsOf, namedCells, positionAt}
 use Rattle.model.specs.Sound.{leadsTo, allPointers}
 use Rattle.laws.proofs.Sweep.{countIn, named-one, bit-most}
-use Rattle.laws.specs.Shelves.{SegmentFits}
+use Rattle.laws.specs.Storage.{SegmentFits}
 use Rattle.laws.proofs.Ranges.{ranges}
 use Rattle.laws.proofs.Serves.{Valid, pointersOf}
 use Rattle.bill.specs.Bill.{refersTo, pays, shares, divided, billFor, bill}
@@ -83,31 +83,31 @@ at-one c (s ∷ segs) l (suc k) i (suc k′) j h e g f =
 
 -- ---- a till pays for a cell if it points to its position
 
-module _ (shelf : Shelf) (c k i : ℕ) (once : uses c (namedCells (shelf .records)) ≤ 1) (h : isHeld (positionAt shelf k i) ≡ true) (e : cellOf (positionAt shelf k i) ≡ c) where
-  one-pointer : (p : Pointer) → refersTo shelf c p ≡ leadsTo k i p
+module _ (storage : Storage) (c k i : ℕ) (once : uses c (namedCells (storage .records)) ≤ 1) (h : isHeld (positionAt storage k i) ≡ true) (e : cellOf (positionAt storage k i) ≡ c) where
+  one-pointer : (p : Pointer) → refersTo storage c p ≡ leadsTo k i p
   unfolding positionAt
   one-pointer nullPointer = refl
   one-pointer blankPointer = refl
-  one-pointer (direct k′ i′) = go (refersTo shelf c (direct k′ i′)) (leadsTo k i (direct k′ i′)) refl refl
+  one-pointer (direct k′ i′) = go (refersTo storage c (direct k′ i′)) (leadsTo k i (direct k′ i′)) refl refl
     where
-      go : (a b : Bool) → refersTo shelf c (direct k′ i′) ≡ a → leadsTo k i (direct k′ i′) ≡ b → a ≡ b
+      go : (a b : Bool) → refersTo storage c (direct k′ i′) ≡ a → leadsTo k i (direct k′ i′) ≡ b → a ≡ b
       go true true p q = refl
       go true false p q =
-          let r = at-one c (shelf .records) once k i k′ i′ h e (clause _ 0 p) (eqb-true _ c (clause _ 1 p)) in
+          let r = at-one c (storage .records) once k i k′ i′ h e (clause _ 0 p) (eqb-true _ c (clause _ 1 p)) in
           sym (all-true _ (eq-eqb k k′ (r .0), (eq-eqb i i′ (r .1), tt))) ∙ q
       go false true p q =
           let a = sym (eqb-true k k′ (clause _ 0 q)) in
           let b = sym (eqb-true i i′ (clause _ 1 q)) in
-          sym p ∙ all-true _ (ap₂ (λ (x y : ℕ). isHeld (positionAt shelf x y)) a b ∙ h, (eq-eqb _ c (ap₂ (λ (x y : ℕ). cellOf (positionAt shelf x y)) a b ∙ e), tt))
+          sym p ∙ all-true _ (ap₂ (λ (x y : ℕ). isHeld (positionAt storage x y)) a b ∙ h, (eq-eqb _ c (ap₂ (λ (x y : ℕ). cellOf (positionAt storage x y)) a b ∙ e), tt))
       go false false p q = refl
   one-pointer (indirect n) = refl
 
-  same-count : (ps : List Pointer) → count (refersTo shelf c) ps ≡ count (leadsTo k i) ps
+  same-count : (ps : List Pointer) → count (refersTo storage c) ps ≡ count (leadsTo k i) ps
   unfolding count
   same-count [] = refl
   same-count (p ∷ ps) = ap₂ {C = ℕ} (λ (b : Bool) (n : ℕ). cond b 1 0 + n) (one-pointer p) (same-count ps)
 
-  pub pays-points : (ts : List Till) → map (points k i) ts ≡ map (pays shelf c) ts
+  pub pays-points : (ts : List Till) → map (points k i) ts ≡ map (pays storage c) ts
   unfolding pays points
   pays-points [] = refl
   pays-points (t ∷ ts) = ap₂ (λ (b : Bool) (bs : List Bool). b ∷ bs) (ap (ltb 0) (sym (same-count (pointersOf (t .versions))))) (pays-points ts)
@@ -137,22 +137,22 @@ module _ (s : Shape) (st : State) (v : Valid s st) (p : ℕ) where
   payers j = map (points (j / 16) (j % 16)) (st .tills)
 
   abbrev price : ℕ → ℕ → ℕ
-  price t c = getD (divided p (map (pays (st .shelf) c) (st .tills))) t 0
+  price t c = getD (divided p (map (pays (st .storage) c) (st .tills))) t 0
 
-  unpaid : (k i t : ℕ) → countIn (st .shelf) k i ≡ 0 → getD (divided p (map (points k i) (st .tills))) t 0 ≡ 0
+  unpaid : (k i t : ℕ) → countIn (st .storage) k i ≡ 0 → getD (divided p (map (points k i) (st .tills))) t 0 ≡ 0
   unfolding divided
   unpaid k i t e = none-points k i _ _ (st .tills) t (sym (v .counts k i) ∙ e)
 
-  position-worth : (k i t : ℕ) → getD (divided p (map (points k i) (st .tills))) t 0 ≡ worth (price t) (getD (getD (st .shelf .records) k []) i nullPosition)
+  position-worth : (k i t : ℕ) → getD (divided p (map (points k i) (st .tills))) t 0 ≡ worth (price t) (getD (getD (st .storage .records) k []) i nullPosition)
   unfolding positionAt
-  position-worth k i t = go (getD (getD (st .shelf .records) k []) i nullPosition) refl
+  position-worth k i t = go (getD (getD (st .storage .records) k []) i nullPosition) refl
     where
-      go : (x : Position) → getD (getD (st .shelf .records) k []) i nullPosition ≡ x → getD (divided p (map (points k i) (st .tills))) t 0 ≡ worth (price t) x
+      go : (x : Position) → getD (getD (st .storage .records) k []) i nullPosition ≡ x → getD (divided p (map (points k i) (st .tills))) t 0 ≡ worth (price t) x
       go nullPosition e = unpaid k i t (ap countOf e)
       go blankPosition e = unpaid k i t (ap countOf e)
       go (held c n) e =
           ap (λ (bs : List Bool). getD (divided p bs) t 0)
-          (pays-points (st .shelf) c k i (omega (arith, v .exact c, bit-most (getD (st .shelf .cells) c []))) (ap isHeld e) (ap cellOf e) (st .tills))
+          (pays-points (st .storage) c k i (omega (arith, v .exact c, bit-most (getD (st .storage .cells) c []))) (ap isHeld e) (ap cellOf e) (st .tills))
       go removed e = unpaid k i t (ap countOf e)
 
   -- as many marks as m records of 16 positions have
@@ -165,12 +165,12 @@ module _ (s : Shape) (st : State) (v : Valid s st) (p : ℕ) where
         all-at p t payers marks (replicate 16 0) 0 l (λ j b. is j b ∙ sym (mask-map (λ (b : Bool). b) (points (j / 16) (j % 16)) (st .tills)) ∙ ap (λ (n : ℕ). bits (payers n)) (sym (zero-add j)))
         ∙ ap (λ (n : ℕ). n + total f (numbers 0 (length marks))) (zeros-at 16 t) ∙ zero-add (total f (numbers 0 (length marks)))
         ∙ ap (λ (n : ℕ). total f (numbers 0 n)) long
-        ∙ records-total f (price t) 0 m (st .shelf .records) (omega (arith, v .recordCount))
-        (each-weaken (SegmentFits (s .measures)) (λ (x : Segment). length x ≤ 16) (λ x g. omega (arith, g .size, ranges s (v .range) .measured .mostBlocks)) (st .shelf .records) (v .fits .records))
+        ∙ records-total f (price t) 0 m (st .storage .records) (omega (arith, v .recordCount))
+        (each-weaken (SegmentFits (s .measures)) (λ (x : Segment). length x ≤ 16) (λ x g. omega (arith, g .size, ranges s (v .range) .measured .mostBlocks)) (st .storage .records) (v .fits .records))
         (λ k i b d. ap₂ (λ (x y : ℕ). getD (divided p (map (points x y) (st .tills))) t 0)
         (let a : (0 + (k * 16 + i)) / 16 ≡ k = omega arith in a) (let a : (0 + (k * 16 + i)) % 16 ≡ i = omega arith in a) ∙ position-worth k i t)
-        ∙ sym (bill-at p st t (namedCells (st .shelf .records)))
-        ∙ sym (fill-at 16 (billFor p st (namedCells (st .shelf .records))) t l)
+        ∙ sym (bill-at p st t (namedCells (st .storage .records)))
+        ∙ sym (fill-at 16 (billFor p st (namedCells (st .storage .records))) t l)
 
     pub sums-are : shareAll p marks (replicate 16 0) ≡ fill 16 (bill p st)
     sums-are =

@@ -20,7 +20,7 @@ use Rattle.model.specs.Sound.{leadsTo}
 use Rattle.model.specs.Table.{kindUnit, pointerOf, wordToPointer, versionIn, versionsIn, tillIn}
 use Rattle.model.specs.Calls.{emptyTill}
 use Rattle.laws.proofs.Serves.{pointersOf}
-use Rattle.audit_tills.specs.Says.{pointerWords, tillPointers}
+use Rattle.audit_tills.specs.Sound.{pointerWords, tillPointers}
 use Rattle.bill_sums.specs.Marks.{withBit, markWord, markWords, tillRow, markTills}
 use Rattle.bill_sums.proofs.Passes.{words-length, tills-length, bit-new, bit-old, zeros-at}
 

@@ -20,7 +20,7 @@ use Rattle.lists.proofs.Masks.{First, here, later, first-le, one-shl}
 use Rattle.lists.proofs.Slices.{drop-next, drop-end, every-next, every-stop, every-end}
 use Rattle.lists.proofs.Tests.{every-head, every-tail}
 use Rattle.model.specs.Table.{kindUnit}
-use Rattle.audit_tills.specs.Says.{tillPointers}
+use Rattle.audit_tills.specs.Sound.{tillPointers}
 use Rattle.bill.specs.Bill.{BillAnswer}
 use Rattle.bill_sums.specs.Marks.{withBit, markWord, markWords, noneDirect, tillRow, markTills, TillRows, partOf, shareOut, shared, shareAll}
 

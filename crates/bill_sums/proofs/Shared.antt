@@ -128,10 +128,10 @@ added-at (x ∷ xs) [] t = omega arith
 added-at (x ∷ xs) (y ∷ ys) zero = refl
 added-at (x ∷ xs) (y ∷ ys) (suc t) = added-at xs ys t
 
-pub bill-at : (p : ℕ) (st : State) (t : ℕ) (cells : List ℕ) → getD (billFor p st cells) t 0 ≡ total (λ c. getD (divided p (map (pays (st .shelf) c) (st .tills))) t 0) cells
+pub bill-at : (p : ℕ) (st : State) (t : ℕ) (cells : List ℕ) → getD (billFor p st cells) t 0 ≡ total (λ c. getD (divided p (map (pays (st .storage) c) (st .tills))) t 0) cells
 unfolding billFor total
 bill-at p st t [] = zeros-at (length (st .tills)) t
-bill-at p st t (c ∷ cells) = added-at (divided p (map (pays (st .shelf) c) (st .tills))) (billFor p st cells) t ∙ omega (arith, bill-at p st t cells)
+bill-at p st t (c ∷ cells) = added-at (divided p (map (pays (st .storage) c) (st .tills))) (billFor p st cells) t ∙ omega (arith, bill-at p st t cells)
 
 pub fill-at : (n : ℕ) (xs : List ℕ) (t : ℕ) → t < n → getD (fill n xs) t 0 ≡ getD xs t 0
 unfolding fill

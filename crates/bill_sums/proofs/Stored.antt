@@ -22,7 +22,7 @@ use Rattle.laws.specs.Stores.{recordsFrom, Sound}
 use Rattle.laws.proofs.Serves.{pointersOf}
 use Rattle.laws.proofs.Stores.{valid, header, records-room}
 use Rattle.laws.proofs.Tills.{few, held-word}
-use Rattle.audit_tills.specs.Says.{tillPointers}
+use Rattle.audit_tills.specs.Sound.{tillPointers}
 use Rattle.bill.specs.Bill.{BillAnswer, bill, billRefused, billIn, billOf}
 use Rattle.bill_sums.specs.Marks.{tillRow, markTills, TillRows, noMarks, shareAll, billedTills}
 use Rattle.bill_sums.proofs.Passes.{tills-length}

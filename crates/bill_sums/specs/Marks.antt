@@ -8,7 +8,7 @@ use lib.Dec.{eqb, ltb}
 use Rattle.lists.specs.Lists.{every}
 use Rattle.lists.specs.Walk.{walk}
 use Rattle.model.specs.Table.{kindUnit}
-use Rattle.audit_tills.specs.Says.{tillPointers}
+use Rattle.audit_tills.specs.Sound.{tillPointers}
 use Rattle.bill.specs.Bill.{BillAnswer}
 
 -- ---- the marks

@@ -3,7 +3,7 @@ ghost use mathlib.Core.Path.{_≡_};
 ghost use Prim.Native.Nat.{ℕ, _+_, _*_, _-_, _≤_, _<_};
 ghost use lib.ListN.{length, getD, take};
 ghost use Rattle.laws.specs.Stores.{Sound};
-ghost use Rattle.audit_tills.specs.Says.{pointerWords, slotsPointers, tillPointers};
+ghost use Rattle.audit_tills.specs.Sound.{pointerWords, slotsPointers, tillPointers};
 ghost use Rattle.bill.specs.Bill.{billOf};
 ghost use Rattle.bill_sums.specs.Answers.{billed};
 ghost use Rattle.bill_sums.specs.Marks.{withBit, markWord, markWords, noneDirect, TillRows, markTills, partOf, shareOut, shared, shareAll, billedTills};

@@ -25,22 +25,22 @@ use Rattle.laws.proofs.Ranges.{ranges}
 use Rattle.laws.proofs.RoundTrip.{store-found}
 use Rattle.laws.proofs.Serves.{sound-valid}
 use Rattle.closing.specs.Closing.{TillImage, imagesIn, closingFits, backupAll, allRefused, allAnswer, backupAllAnswer, backupAllIn, backupAllAs}
-use Rattle.closing.specs.Singly.{Made, madeEach, imageBackup, answerTo}
+use Rattle.closing.specs.Singly.{SinglyMade, madeEach, imageBackup, answerTo}
 use Rattle.closing.proofs.Singly.{closing-is-singly}
 use Rattle.chain.specs.Limit.{occupied, within, imageWithin, backupAllWithin}
 
 -- ---- the cells that a store occupies
 
-pub occupied-is : (pool table : List ℕ) (x : Store) → storeOf pool table ≡ some x → occupied pool table ≡ length (namedCells (x .state .shelf .records))
+pub occupied-is : (pool table : List ℕ) (x : Store) → storeOf pool table ≡ some x → occupied pool table ≡ length (namedCells (x .state .storage .records))
 unfolding occupied tallyOf tallyIn
 occupied-is pool table x e = ap (λ (o : Option Store). tallyIn o .cells) e
 
-named-most : (s : Shape) (st : State) → isSound s st ≡ true → length (namedCells (st .shelf .records)) ≤ 32768
+named-most : (s : Shape) (st : State) → isSound s st ≡ true → length (namedCells (st .storage .records)) ≤ 32768
 named-most s st h =
     omega (
       arith,
       named-count s st h,
-      count-most (λ c. isIn c (namedCells (st .shelf .records))) (counted (λ c. c) 0 (s .capacities .cells)),
+      count-most (λ c. isIn c (namedCells (st .storage .records))) (counted (λ c. c) 0 (s .capacities .cells)),
       length-counted (λ c. c) 0 (s .capacities .cells),
       ranges s (sound-valid s st h .range) .cells,
     )
@@ -98,7 +98,7 @@ module _ (others limit : ℕ) (pool table : List ℕ) where
     -- an accepted backup of a sound store is tested by the cells of the state that it leaves
     pub within-done : (era : Era) (t : ℕ) (brought : Option ℕ) (image : List ℕ) (a : After) → backup era (x .shape) (x .state) t brought image ≡ done a
         → within others limit pool table (backupBy era pool table t brought image)
-        ≡ cond (ltb limit (others + length (namedCells (a .state .shelf .records)))) (backupRefusal pool table 21) (backupBy era pool table t brought image)
+        ≡ cond (ltb limit (others + length (namedCells (a .state .storage .records)))) (backupRefusal pool table 21) (backupBy era pool table t brought image)
     unfolding stateOr
     within-done era t brought image a q =
         within-accepted (backupBy era pool table t brought image) (unfold backupBy backupIn backupAnswer in rw (e, q))
@@ -122,7 +122,7 @@ same-each f g h pool table (x ∷ xs) =
     ap (λ (a : BackupAnswer). ahead a (madeEach f (a .pool) (a .table) xs)) (h pool table x)
     ∙ ap (ahead (g pool table x)) (same-each f g h (g pool table x .pool) (g pool table x .table) xs)
   where
-    ahead : BackupAnswer → Made → Made
+    ahead : BackupAnswer → SinglyMade → SinglyMade
     ahead a m = record { refusals = a .refusal ∷ m .refusals; versions = a .version ∷ m .versions; pool = m .pool; table = m .table }
 
 pub all-none : (pool table : List ℕ) (user : ℕ) (tills lengths images : List ℕ) (x : Store) → storeOf pool table ≡ some x

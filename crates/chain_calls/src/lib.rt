@@ -10,7 +10,7 @@ ghost use Rattle.chain.specs.Calls.{chainBackup, chainRestore, chainRetire, cha
 ghost use Rattle.backup.specs.Call.{backedUpAnswer};
 ghost use Rattle.tills.specs.Answers.{listingAnswer, versionFound};
 ghost use Rattle.restore.specs.Answers.{restoreAnswer};
-ghost use Rattle.retire.specs.Answers.{retireAnswer};
+ghost use Rattle.retire.specs.Answers.{retiredAnswer};
 ghost use Rattle.tally.specs.Answers.{tallyAnswer};
 ghost use Rattle.stream_write.specs.Answers.{streamWritten};
 ghost use Rattle.sent_offer.specs.Offer.{offered};
@@ -18,12 +18,12 @@ ghost use Rattle.closing_backup.specs.Answers.{allBackedUp};
 ghost use Rattle.bill_sums.specs.Answers.{billed};
 ghost use Rattle.rights.specs.Answers.{rightsGiven, rightsAnswered};
 use backup::BackedUp;
+use backup_steps::Limit;
 use bill_sums::Bill;
 use closing_backup::AllBackedUp;
 use restore::Restored;
 use retire::Retired;
 use rights::Rights;
-use shelve::Limit;
 use stream_write::StreamWritten;
 use tally::Tally;
 use tills::Listing;
@@ -170,7 +170,7 @@ pub fn retire(
     till: u32,
     version: u32,
 ) -> Retired
-    ensures { λ r. ⌜ retireAnswer r (now (pools .exit)) (now (tables .exit)) ≡ chainRetire (chainOf (now (pools .entry)) (now (tables .entry)) (now («pool_lengths» .entry)) (now («table_lengths» .entry))) store user till version ⌝ }
+    ensures { λ r. ⌜ retiredAnswer r (now (pools .exit)) (now (tables .exit)) ≡ chainRetire (chainOf (now (pools .entry)) (now (tables .entry)) (now («pool_lengths» .entry)) (now («table_lengths» .entry))) store user till version ⌝ }
 {
     let p = chain_check::find_store(pools, tables, pool_lengths, table_lengths, store);
     let refusal = p.refusal;

@@ -45,25 +45,25 @@ module _ (p : ℕ → Bool) (i n : ℕ) (all : Bool) (g : every p (later i n) �
 -- ---- the cells of the others
 
 -- of store `j`, where store `i` is the one that is named
-abbrev pub beside : Chain → ℕ → ℕ → ℕ
-beside c i j = cond (eqb j i) 0 (occupied (poolAt c j) (tableAt c j))
+abbrev pub besideStore : Chain → ℕ → ℕ → ℕ
+besideStore c i j = cond (eqb j i) 0 (occupied (poolAt c j) (tableAt c j))
 
-pub itself : (c : Chain) (i j : ℕ) → j ≡ i → 0 ≡ beside c i j
+pub itself : (c : Chain) (i j : ℕ) → j ≡ i → 0 ≡ besideStore c i j
 itself c i j e = rw (eq-eqb j i e)
 
-pub another : (c : Chain) (i j : ℕ) → ¬ (j ≡ i) → (n : ℕ) → n ≡ occupied (poolAt c j) (tableAt c j) → n ≡ beside c i j
+pub another : (c : Chain) (i j : ℕ) → ¬ (j ≡ i) → (n : ℕ) → n ≡ occupied (poolAt c j) (tableAt c j) → n ≡ besideStore c i j
 another c i j d n e = rw (ne-eqb j i d) e
 
 module _ (c : Chain) (i : ℕ) where
-  pub others-first : 0 + total (beside c i) (later 0 (storeCount c)) ≡ otherCells c i
+  pub others-first : 0 + total (besideStore c i) (later 0 (storeCount c)) ≡ otherCells c i
   unfolding otherCells
-  others-first = omega (arith, ap (total (beside c i)) (later-all (storeCount c)))
+  others-first = omega (arith, ap (total (besideStore c i)) (later-all (storeCount c)))
 
-  module _ (j cells : ℕ) (g : cells + total (beside c i) (later j (storeCount c)) ≡ otherCells c i) where
-    pub others-next : j < storeCount c → (n : ℕ) → n ≡ beside c i j → (cells + n) + total (beside c i) (later (j + 1) (storeCount c)) ≡ otherCells c i
+  module _ (j cells : ℕ) (g : cells + total (besideStore c i) (later j (storeCount c)) ≡ otherCells c i) where
+    pub others-next : j < storeCount c → (n : ℕ) → n ≡ besideStore c i j → (cells + n) + total (besideStore c i) (later (j + 1) (storeCount c)) ≡ otherCells c i
     unfolding total
-    others-next h n e = omega (arith, g, e, ap (total (beside c i)) (later-next j (storeCount c) h))
+    others-next h n e = omega (arith, g, e, ap (total (besideStore c i)) (later-next j (storeCount c) h))
 
     pub others-all : storeCount c ≤ j → cells ≡ otherCells c i
     unfolding total
-    others-all h = omega (arith, g, ap (total (beside c i)) (later-none j (storeCount c) h))
+    others-all h = omega (arith, g, ap (total (besideStore c i)) (later-none j (storeCount c) h))

@@ -11,8 +11,8 @@ use lib.Dec.{eqb, ltb, leb}
 use borrow.Author.Tests.{not-true, not-false, le-leb, lt-leb, leb-true, eq-eqb, ne-eqb, eqb-true, lt-ltb, le-ltb, ltb-true}
 use lib.Seq.{take-length}
 use Rattle.lists.specs.Lists.{counted, every, total, isSome, allOf}
-use Rattle.lists.specs.Tells.{Tells}
-use Rattle.lists.proofs.Checkers.{is-not, same-as, tells-eqb}
+use Rattle.lists.specs.Decides.{Decides}
+use Rattle.lists.proofs.Checkers.{is-not, same-as, decides-eqb}
 use Rattle.lists.proofs.Counted.{length-counted, counted-at}
 use Rattle.lists.proofs.Tests.{clause, all-true, all-false, all-last, every-at}
 use Rattle.model.specs.Measures.{isWithin}
@@ -52,14 +52,14 @@ module _ (lengths pools : List ℕ) (n : ℕ) (e : n ≡ total (λ n. n) (take (
   sum-is : n ≡ total (λ n. n) lengths
   sum-is = e ∙ ap (total (λ (k : ℕ). k)) (take-length lengths)
 
-  pub pools-differ : {P : Type 0} → ¬ (n ≡ length pools) → Tells false ((total (λ n. n) lengths ≡ length pools) × P)
+  pub pools-differ : {P : Type 0} → ¬ (n ≡ length pools) → Decides false ((total (λ n. n) lengths ≡ length pools) × P)
   pools-differ d = is-not (λ q. d (sum-is ∙ q .0))
 
   pub tables-told : n ≡ length pools → (others tables : List ℕ) (m : ℕ) → m ≡ total (λ n. n) (take (length others) others)
-      → Tells (eqb m (length tables)) ((total (λ n. n) lengths ≡ length pools) × (total (λ n. n) others ≡ length tables))
+      → Decides (eqb m (length tables)) ((total (λ n. n) lengths ≡ length pools) × (total (λ n. n) others ≡ length tables))
   tables-told q others tables m f =
       let a : m ≡ total (λ (k : ℕ). k) others = f ∙ ap (total (λ (k : ℕ). k)) (take-length others) in
-      same-as (λ t. (sym sum-is ∙ q, sym a ∙ t)) (λ t. a ∙ t .1) (tells-eqb m (length tables))
+      same-as (λ t. (sym sum-is ∙ q, sym a ∙ t)) (λ t. a ∙ t .1) (decides-eqb m (length tables))
 
 -- ---- what the first test finds
 

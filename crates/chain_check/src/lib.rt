@@ -6,7 +6,7 @@ ghost use Prim.Native.Nat.{_≤_, _<_};
 ghost use lib.ListN.{length};
 ghost use lib.Dec.{eqb};
 ghost use Rattle.lists.specs.Lists.{counted, every, total};
-ghost use Rattle.lists.specs.Tells.{Tells};
+ghost use Rattle.lists.specs.Decides.{Decides};
 ghost use Rattle.chain.specs.Chain.{chainOf, storeCount, poolAt, tableAt, isChain, isStoreAt, chainRefusal};
 ghost use Rattle.chain.specs.Limit.{occupied, otherCells};
 ghost use Rattle.chain_check.specs.Places.{Lengths, SoundChain, Inside, Lies};
@@ -37,7 +37,7 @@ fn is_chain(pool_lengths: &[u32], table_lengths: &[u32]) -> bool
 // Whether the lengths add up to the bytes and the words.
 fn add_up(pools: &[u8], tables: &[u32], pool_lengths: &[u32], table_lengths: &[u32]) -> bool
     requires { ⌜ (length (now «pool_lengths») ≤ 8) × (length (now «table_lengths») ≤ 8) ⌝ }
-    ensures { λ r. ⌜ Tells r ((total (λ n. n) (now («pool_lengths» .entry)) ≡ length (now (pools .entry))) × (total (λ n. n) (now («table_lengths» .entry)) ≡ length (now (tables .entry)))) ⌝ }
+    ensures { λ r. ⌜ Decides r ((total (λ n. n) (now («pool_lengths» .entry)) ≡ length (now (pools .entry))) × (total (λ n. n) (now («table_lengths» .entry)) ≡ length (now (tables .entry)))) ⌝ }
 {
     if lengths::sum_to(pool_lengths, pool_lengths.len()) != pools.len() {
         return false;

@@ -27,24 +27,24 @@ use Rattle.laws.proofs.RoundTrip.{table-length, pool-length}
 use Rattle.history.specs.Calls.{Call, callLayout, callBackup, callRestore, callRetire, callListing, callVersionOn, callTally, callBill, callWriteStream, callOffer, callBackupSent, callBackupAll, callSetRights, Buffers, Answer, backedUp, backedUpAll, refusalIn, refusedLayout}
 use Rattle.history.specs.Users.{UserCall, answerBy, buffersBy, buffersAfterAll, refusedLayouts, stateAfterAll}
 use Rattle.history.specs.Demand.{Demands, laidOutIn}
-use Rattle.history.proofs.Steps.{Left, left-store, left-laid}
+use Rattle.history.proofs.Steps.{Represents, left-store, left-laid}
 use Rattle.history.proofs.Users.{left-by, left-all}
 use Rattle.history.proofs.Demand.{demand-3}
 use Rattle.chain.specs.Chain.{Chain, storeCount, poolAt, tableAt, addUp, isStoreAt, chainRefusal}
 use Rattle.chain.specs.Limit.{occupied, allCells, otherCells, isOver, within, backupAllWithin}
 use Rattle.chain.specs.Calls.{chainBackup, chainRestore, chainRetire, chainListing, chainVersionOn, chainTally, chainBill, chainWriteStream, chainOffer, chainBackupSent, chainBackupAll, chainSetRights, backupOnChain, allOnChain, retireOnChain, rightsOnChain}
 use Rattle.chain_history.specs.Calls.{ChainCall, buffersAt, withBuffers, answerOn, leftOn, chainAfter, chainAfterAll, layoutsRefused, unlessOver, reaches, callsTo, allCallsTo}
-use Rattle.chain_history.specs.Demand.{Fresh, FreshChain, namesStore, bringsLimit, Serves, ChainDemands, ChainDemand3}
+use Rattle.chain_history.specs.Demand.{Fresh, FreshChain, namesStore, bringsLimit, StoresServe, ChainDemands, ChainDemand3}
 use Rattle.chain_history.proofs.Puts.{Lengths, put, put-outside, put-lengths, put-here, put-other, not-refused, refused-outside, cells-put}
 use Rattle.chain_history.proofs.Steps.{after-append, refused-append, step-left, step-refused}
 
 -- ---- chains whose stores calls have left
 
-pub record Good (shapes : ℕ → Shape) (c : Chain) : Type 0 where
+pub record ChainSound (shapes : ℕ → Shape) (c : Chain) : Type 0 where
   pub lengths : Lengths c
-  pub left : (j : ℕ) → j < storeCount c → (st : State) × Left (shapes j) (buffersAt c j) st
+  pub left : (j : ℕ) → j < storeCount c → (st : State) × Represents (shapes j) (buffersAt c j) st
 
-module _ (shapes : ℕ → Shape) (c : Chain) (g : Good shapes c) where
+module _ (shapes : ℕ → Shape) (c : Chain) (g : ChainSound shapes c) where
   each-sound : (j : ℕ) → j < storeCount c → isStoreAt c j ≡ true
   unfolding isStoreAt isSome buffersAt
   each-sound j h = let (st, l) = g .left j h in ap isSome (left-store (shapes j) (buffersAt c j) st l)
@@ -56,13 +56,13 @@ module _ (shapes : ℕ → Shape) (c : Chain) (g : Good shapes c) where
   good-outside = refused-outside c (g .lengths) each-sound
 
 -- a store of a shape is as long as any other
-left-lengths : (s : Shape) (b b′ : Buffers) (st st′ : State) → Left s b st → Left s b′ st′ → (length (b′ .pool) ≡ length (b .pool)) × (length (b′ .table) ≡ length (b .table))
+left-lengths : (s : Shape) (b b′ : Buffers) (st st′ : State) → Represents s b st → Represents s b′ st′ → (length (b′ .pool) ≡ length (b .pool)) × (length (b′ .table) ≡ length (b .table))
 left-lengths s b b′ st st′ l l′ = (pool b′ st′ l′ ∙ sym (pool b st l), table b′ st′ l′ ∙ sym (table b st l))
   where
-    pool : (b : Buffers) (st : State) → Left s b st → length (b .pool) ≡ poolBytes s
+    pool : (b : Buffers) (st : State) → Represents s b st → length (b .pool) ≡ poolBytes s
     pool b st l = ap length (l .pool) ∙ pool-length s st (state-fits s st (l .fit .proper .bytes) (l .fit .most) (l .sound))
 
-    table : (b : Buffers) (st : State) → Left s b st → length (b .table) ≡ tableWords s
+    table : (b : Buffers) (st : State) → Represents s b st → length (b .table) ≡ tableWords s
     table b st l = ap length (l .table) ∙ table-length s st (state-fits s st (l .fit .proper .bytes) (l .fit .most) (l .sound))
 
 -- ---- one call
@@ -86,7 +86,7 @@ left-outside c l i limit u h z (callSetRights subject t r) = unfold chainSetRigh
 
 -- what a call leaves: sound stores, each that of the calls that it gets
 pub record Stepped (shapes : ℕ → Shape) (c : Chain) (x : ChainCall) : Type 0 where
-  pub good : Good shapes (chainAfter c x)
+  pub good : ChainSound shapes (chainAfter c x)
   pub count : storeCount (chainAfter c x) ≡ storeCount c
   pub each : (j : ℕ) → j < storeCount c → buffersAt (chainAfter c x) j ≡ buffersAfterAll (buffersAt c j) (callsTo j c x)
   pub refused : (j : ℕ) → j < storeCount c → refusedLayouts (buffersAt c j) (callsTo j c x)
@@ -100,7 +100,7 @@ calls-other : (c : Chain) (x : ChainCall) (j : ℕ) → (x .store ≡ j → ⊥)
 unfolding callsTo
 calls-other c x j h = rw (ne-eqb (x .store) j h)
 
-module _ (shapes : ℕ → Shape) (c : Chain) (g : Good shapes c) (x : ChainCall) (r : refusedLayout (buffersAt c (x .store)) (x .call)) where
+module _ (shapes : ℕ → Shape) (c : Chain) (g : ChainSound shapes c) (x : ChainCall) (r : refusedLayout (buffersAt c (x .store)) (x .call)) where
   -- a store that the call does not name
   no-calls : (j : ℕ) → (x .store ≡ j → ⊥) → (buffersAt c j ≡ buffersAfterAll (buffersAt c j) (callsTo j c x)) × refusedLayouts (buffersAt c j) (callsTo j c x)
   unfolding buffersAfterAll
@@ -111,7 +111,7 @@ module _ (shapes : ℕ → Shape) (c : Chain) (g : Good shapes c) (x : ChainCall
   stepped-outside h =
       let same : chainAfter c x ≡ c = left-outside c (g .lengths) (x .store) (x .limit) (x .user) h (good-outside shapes c g (x .store) h) (x .call) in
       record {
-        good = subst (Good shapes) (sym same) g;
+        good = subst (ChainSound shapes) (sym same) g;
         count = ap storeCount same;
         each = λ j q. ap (λ (d : Chain). buffersAt d j) same ∙ no-calls j (λ e. omega (arith, e, h, q)) .0;
         refused = λ j q. no-calls j (λ e. omega (arith, e, h, q)) .1;
@@ -134,7 +134,7 @@ module _ (shapes : ℕ → Shape) (c : Chain) (g : Good shapes c) (x : ChainCall
     unfolding chainAfter
     is = step-left c (g .lengths) (x .store) (x .limit) (x .user) z (x .call)
 
-    left-here : (st : State) × Left (shapes (x .store)) after st
+    left-here : (st : State) × Represents (shapes (x .store)) after st
     left-here = let (st, l) = g .left (x .store) h in (stateAfterAll (shapes (x .store)) st calls, left-all (shapes (x .store)) calls (buffersAt c (x .store)) st l refusals)
 
     as-long : (length (after .pool) ≡ length (poolAt c (x .store))) × (length (after .table) ≡ length (tableAt c (x .store)))
@@ -150,20 +150,20 @@ module _ (shapes : ℕ → Shape) (c : Chain) (g : Good shapes c) (x : ChainCall
     other : (j : ℕ) → (x .store ≡ j → ⊥) → buffersAt (put c (x .store) after) j ≡ buffersAt c j
     other j n = put-other c (g .lengths) (x .store) after (as-long .0) (as-long .1) j (λ e. n (sym e))
 
-    good-put : Good shapes (put c (x .store) after)
+    good-put : ChainSound shapes (put c (x .store) after)
     unfolding withBuffers
     good-put = record { lengths = put-lengths c (g .lengths) (x .store) after (as-long .0) (as-long .1); left = λ j q. go j q (eqb (x .store) j) refl }
       where
-        go : (j : ℕ) → j < storeCount c → (t : Bool) → eqb (x .store) j ≡ t → (st : State) × Left (shapes j) (buffersAt (put c (x .store) after) j) st
+        go : (j : ℕ) → j < storeCount c → (t : Bool) → eqb (x .store) j ≡ t → (st : State) × Represents (shapes j) (buffersAt (put c (x .store) after) j) st
         go j q true e =
-            subst (λ (k : ℕ). (st : State) × Left (shapes k) (buffersAt (put c (x .store) after) k) st) (eqb-true (x .store) j e)
-            (subst (λ (b : Buffers). (st : State) × Left (shapes (x .store)) b st) (sym here) left-here)
-        go j q false e = subst (λ (b : Buffers). (st : State) × Left (shapes j) b st) (sym (other j (eqb-false (x .store) j e))) (g .left j q)
+            subst (λ (k : ℕ). (st : State) × Represents (shapes k) (buffersAt (put c (x .store) after) k) st) (eqb-true (x .store) j e)
+            (subst (λ (b : Buffers). (st : State) × Represents (shapes (x .store)) b st) (sym here) left-here)
+        go j q false e = subst (λ (b : Buffers). (st : State) × Represents (shapes j) b st) (sym (other j (eqb-false (x .store) j e))) (g .left j q)
 
     stepped-inside : Stepped shapes c x
     unfolding withBuffers
     stepped-inside = record {
-      good = subst (Good shapes) (sym is) good-put;
+      good = subst (ChainSound shapes) (sym is) good-put;
       count = ap storeCount is;
       each = λ j q. ap (λ (d : Chain). buffersAt d j) is ∙ each j (eqb (x .store) j) refl;
       refused = λ j q. layouts j (eqb (x .store) j) refl;
@@ -186,8 +186,8 @@ module _ (shapes : ℕ → Shape) (c : Chain) (g : Good shapes c) (x : ChainCall
 
 -- ---- lists of calls
 
-stores-all : (shapes : ℕ → Shape) (xs : List ChainCall) (c : Chain) → Good shapes c → layoutsRefused c xs
-    → Good shapes (chainAfterAll c xs) × (storeCount (chainAfterAll c xs) ≡ storeCount c)
+stores-all : (shapes : ℕ → Shape) (xs : List ChainCall) (c : Chain) → ChainSound shapes c → layoutsRefused c xs
+    → ChainSound shapes (chainAfterAll c xs) × (storeCount (chainAfterAll c xs) ≡ storeCount c)
     × ((j : ℕ) → j < storeCount c → (buffersAt (chainAfterAll c xs) j ≡ buffersAfterAll (buffersAt c j) (allCallsTo j c xs)) × refusedLayouts (buffersAt c j) (allCallsTo j c xs))
 unfolding chainAfterAll allCallsTo buffersAfterAll
 stores-all shapes [] c g r = (g, refl, λ j h. (refl, tt))
@@ -266,7 +266,7 @@ module _ (c : Chain) (i limit u : ℕ) (z : chainRefusal c i ≡ 0) where
 
 -- ---- what a limit keeps
 
-module _ (shapes : ℕ → Shape) (c : Chain) (g : Good shapes c) (i limit u : ℕ) (h : i < storeCount c) where
+module _ (shapes : ℕ → Shape) (c : Chain) (g : ChainSound shapes c) (i limit u : ℕ) (h : i < storeCount c) where
   -- what a call leaves, where its store gets it
   cells-left : (call : Call) → refusedLayout (buffersAt c i) call → reaches c i limit u call ≡ record { user = u; call = call } ∷ []
       → allCells (leftOn c i limit u call) ≡ otherCells c i + occupied (buffersBy (buffersAt c i) u call .pool) (buffersBy (buffersAt c i) u call .table)
@@ -291,7 +291,7 @@ not-over others limit a e z = ltb-false limit (others + occupied (a .pool) (a .t
     last : {x y : Bool} → x ≡ true → cond x (cond y true false) false ≡ false → y ≡ false
     last {x} {y} p q = sym (cond-self y) ∙ sym (ap (λ (t : Bool). cond t (cond y true false) false) p) ∙ q
 
-serves : (shapes : ℕ → Shape) (c : Chain) → Good shapes c → Serves c
+serves : (shapes : ℕ → Shape) (c : Chain) → ChainSound shapes c → StoresServe c
 unfolding answerBy buffersBy buffersAt reaches unlessOver
 serves shapes c g = record {
   outside = λ i limit u call h e. answer-outside c i limit u call (good-outside shapes c g i h) e;
@@ -319,11 +319,11 @@ serves shapes c g = record {
 
 -- ---- the theorem
 
-good-fresh : (shapes : ℕ → Shape) (c : Chain) → FreshChain shapes c → Good shapes c
+good-fresh : (shapes : ℕ → Shape) (c : Chain) → FreshChain shapes c → ChainSound shapes c
 unfolding addUp
 good-fresh shapes c f = record {
   lengths = record { count = f .count; pools = eqb-true _ _ (f .pools); tables = eqb-true _ _ (f .tables) };
-  left = λ j h. let s : Fresh (shapes j) (buffersAt c j) = f .stores j h in (emptyState (shapes j), subst (λ (b : Buffers). Left (shapes j) b (emptyState (shapes j))) (sym (s .is)) (left-laid (shapes j) (s .pool) (s .table) (s .accepted)));
+  left = λ j h. let s : Fresh (shapes j) (buffersAt c j) = f .stores j h in (emptyState (shapes j), subst (λ (b : Buffers). Represents (shapes j) b (emptyState (shapes j))) (sym (s .is)) (left-laid (shapes j) (s .pool) (s .table) (s .accepted)));
 }
 
 pub chain-demand-3 : ChainDemand3

@@ -9,7 +9,7 @@ use Rattle.model.specs.Calls.{BackupAnswer, layoutOf}
 use Rattle.model.specs.Rights.{backupRefusal, backupAs, setRightsOf}
 use Rattle.sent.specs.Sent.{backupSentAs}
 use Rattle.closing.specs.Closing.{TillImage, imagesIn, closingFits, allRefused}
-use Rattle.closing.specs.Singly.{Made, madeEach, imageBackup, answerTo}
+use Rattle.closing.specs.Singly.{SinglyMade, madeEach, imageBackup, answerTo}
 use Rattle.history.specs.Calls.{Call, callLayout, callBackup, callRestore, callRetire, callListing, callVersionOn, callTally, callBill, callWriteStream, callOffer, callBackupSent, callBackupAll, callSetRights, Buffers, refusedLayout}
 use Rattle.history.specs.Users.{UserCall, buffersBy, buffersAfterAll, refusedLayouts}
 use Rattle.history.specs.Keeper.{backupFor}
@@ -50,7 +50,7 @@ over-refused false b u call r = (r, tt)
 
 module _ (others limit u : ℕ) where
   -- the images of a closing, one after the other
-  abbrev made : Buffers → List TillImage → Made
+  abbrev made : Buffers → List TillImage → SinglyMade
   made b xs = madeEach (imageWithin others limit u) (b .pool) (b .table) xs
 
   abbrev lefts : Buffers → List TillImage → List UserCall

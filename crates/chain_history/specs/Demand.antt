@@ -64,7 +64,7 @@ bringsLimit (callBackupAll ts ns is) = true
 bringsLimit (callSetRights subject t r) = false
 
 -- what the next call on store `i` answers, by a user, with a limit
-pub record Serves (c : Chain) : Type 0 where
+pub record StoresServe (c : Chain) : Type 0 where
   -- "a store number outside it 3": never 1 or 10
   pub outside : (i limit u : ℕ) (call : Call) → storeCount c ≤ i → namesStore call ≡ true → refusalIn (answerOn c i limit u call) ≡ 3
   -- "Otherwise a call answers … as it would alone"; "L refuses no retiring"
@@ -91,7 +91,7 @@ pub record ChainDemands (shapes : ℕ → Shape) (c : Chain) (calls : List Chain
   pub stores : (j : ℕ) → j < storeCount c → buffersAt (chainAfterAll c calls) j ≡ buffersAfterAll (buffersAt c j) (allCallsTo j c calls)
   -- the whole of demand 3 for each store, "with a keeper of its own", which is fed by these calls
   pub demands : (j : ℕ) → j < storeCount c → Demands (shapes j) (buffersAt c j) (allCallsTo j c calls)
-  pub serves : Serves (chainAfterAll c calls)
+  pub serves : StoresServe (chainAfterAll c calls)
 
 -- The single claim: from any chain of freshly laid out stores, after every list of calls on it, with any arguments, whose lay outs are refused.
 abbrev pub ChainDemand3 : Type 0

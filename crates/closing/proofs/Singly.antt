@@ -15,7 +15,7 @@ use Rattle.model.specs.Rights.{backupAs}
 use Rattle.laws.proofs.RoundTrip.{store-found}
 use Rattle.laws.proofs.Calls.{backup-as, backup-as-store}
 use Rattle.closing.specs.Closing.{TillImage, imagesIn, closingFits, Closed, backupOne, backupEach, backupAll, allRefused, allAnswer, backupAllAnswer, backupAllIn, backupAllAs}
-use Rattle.closing.specs.Singly.{Made, madeEach, madeSingly, answerTo, ClosingIsSingly}
+use Rattle.closing.specs.Singly.{SinglyMade, madeEach, madeSingly, answerTo, ClosingIsSingly}
 
 answer-is : (pool table : List ℕ) (s : Shape) (o : Outcome After)
     → (backupAnswer pool table s o .refusal ≡ outcomeRefusal o) × (backupAnswer pool table s o .version ≡ outcomeNumber o)
@@ -24,7 +24,7 @@ answer-is pool table s (refused n) = (refl, refl)
 answer-is pool table s (done a) = (refl, refl)
 
 -- a state in buffers
-unfoldable pub made : Shape → Closed → Made
+unfoldable pub made : Shape → Closed → SinglyMade
 made s c = record { refusals = c .refusals; versions = c .versions; pool = stateToBytes (c .state); table = stateToWords s (c .state) }
 
 pub each-made : (user : ℕ) (xs : List TillImage) (pool table : List ℕ) (x : Store) → storeOf pool table ≡ some x
@@ -42,7 +42,7 @@ each-made user (y ∷ ys) pool table x e =
     each-made user ys (a .pool) (a .table) (record { shape = x .shape; state = stateOr (x .state) o }) (unfold backupOne in backup-as-store pool table x e withBlanks user (y .till) none (y .image)) in
     ap₂ (λ (n v : ℕ). ahead n v (madeSingly (a .pool) (a .table) user ys)) (are .0) (are .1) ∙ ap (ahead (outcomeRefusal o) (outcomeNumber o)) later
   where
-    ahead : ℕ → ℕ → Made → Made
+    ahead : ℕ → ℕ → SinglyMade → SinglyMade
     ahead n v m = record { refusals = n ∷ m .refusals; versions = v ∷ m .versions; pool = m .pool; table = m .table }
 
 -- what is not refused whole

@@ -24,7 +24,7 @@ use Rattle.laws.proofs.Calls.{backup-as-store}
 use Rattle.chain.specs.Limit.{within, imageWithin}
 use Rattle.chain.proofs.Within.{within-either}
 use Rattle.closing.specs.Closing.{TillImage, imagesIn, BackupAllAnswer}
-use Rattle.closing.specs.Singly.{Made, madeEach, answerTo}
+use Rattle.closing.specs.Singly.{SinglyMade, madeEach, answerTo}
 use Rattle.closing_backup.specs.Answers.{allAnswered}
 use Rattle.closing_backup.proofs.Fits.{Fit}
 
@@ -37,7 +37,7 @@ sound-after others most pool table h user x =
     (sound-if _ _ (sym (ap isSome (backup-as-store pool table (storeRead pool table) (h .is) withBlanks user (x .till) none (x .image))))) h
 
 -- the first i answers as the lists have them, and the later ones
-unfoldable pub answerSoFar : List ℕ → List ℕ → ℕ → Made → BackupAllAnswer
+unfoldable pub answerSoFar : List ℕ → List ℕ → ℕ → SinglyMade → BackupAllAnswer
 answerSoFar refusals versions i m = record {
   answer = record { refusal = 0; refusals = fill 16 (take i refusals ++ m .refusals); versions = fill 16 (take i versions ++ m .versions) };
   pool = m .pool;

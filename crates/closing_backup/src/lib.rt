@@ -9,7 +9,7 @@ ghost use Rattle.chain.specs.Limit.{imageWithin, backupAllWithin};
 ghost use Rattle.closing.specs.Closing.{imagesIn, closingFits};
 ghost use Rattle.closing.specs.Singly.{madeEach, answerTo};
 ghost use Rattle.closing_backup.specs.Answers.{allAnswered, allBackedUp};
-use shelve::Limit;
+use backup_steps::Limit;
 
 // Refusal 0 is a call that is not refused whole. The images' own refusals and versions stand in their order, 0 past the last image.
 #[repr(C)]

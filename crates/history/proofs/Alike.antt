@@ -29,7 +29,7 @@ use Rattle.history.proofs.Frame.{frame-own, frame-other}
 use Rattle.history.proofs.Reach.{one-sound}
 use Rattle.history.proofs.Carried.{madeOf, made-sound, Carries}
 use Rattle.history.proofs.Users.{IsDone, done-made, done-accepted, backup-done}
-use Rattle.history.proofs.Local.{outcomeAnswer, Roomy}
+use Rattle.history.proofs.Local.{outcomeAnswer, NotFull}
 use Rattle.history.proofs.Same.{same-by}
 
 -- a refused call makes nothing of a till
@@ -50,7 +50,7 @@ changed-refused bytes (callBackupAll ts ns is) w = refl
 changed-refused bytes (callSetRights subject t r) w = refl
 
 -- an answer that depends on the till only is none of those for want of room
-pub room-left : (a : Answer) → IsFromTill a → Roomy a
+pub room-left : (a : Answer) → IsFromTill a → NotFull a
 unfolding isIn
 room-left a h = (
   λ e. false≢true (let no : true ≡ false = subst IsFromTill e h in sym no),

@@ -26,7 +26,7 @@ use Rattle.history.specs.Keeper.{Kept, Keeper, keptTill, fed, backupFor,
 use Rattle.history.specs.Demand.{Answers}
 use Rattle.history.proofs.Numbered.{Numbered, unless-numbered, backup-numbered}
 use Rattle.history.proofs.Reach.{one-sound}
-use Rattle.history.proofs.Steps.{Left, closing-same}
+use Rattle.history.proofs.Steps.{Represents, closing-same}
 use Rattle.history.proofs.Carried.{images-few, sixteen}
 use Rattle.history.proofs.Fed.{Stands, stands-made}
 use Rattle.history.proofs.Users.{backup-done, done-made, done-accepted, unless-done}
@@ -47,7 +47,7 @@ module _ (s : Shape) (fit : Fit s) where
   number-given u st h k z x (refused n) g q = rw (ne-eqb n 0 (λ e. omega (arith, g, e))) refl
   number-given u st h k z x (done a) g q =
       let there : Buffers = record { pool = stateToBytes st; table = stateToWords s st } in
-      let l : Left s there st = record { fit = fit; pool = refl; table = refl; sound = h } in
+      let l : Represents s there st = record { fit = fit; pool = refl; table = refl; sound = h } in
       let is = backup-in st h (x .till) (x .image) a (unless-done (refusalAt s st u (x .till) toBackUp) (backup withBlanks s st (x .till) none (x .image)) a q) in
       sym (is .1) ∙ backup-last s there st k l z withBlanks (x .till) none (x .image) (is .0)
 
@@ -74,7 +74,7 @@ module _ (s : Shape) (fit : Fit s) where
       one-numbered u st x =
           unfold backupOne in unless-numbered (refusalAt s st u (x .till) toBackUp) (backup withBlanks s st (x .till) none (x .image)) (backup-numbered withBlanks s st (x .till) none (x .image))
 
-module _ (s : Shape) (b : Buffers) (st : State) (k : Keeper) (l : Left s b st) (z : Stands s k st) where
+module _ (s : Shape) (b : Buffers) (st : State) (k : Keeper) (l : Represents s b st) (z : Stands s k st) where
   closing-last : (u : ℕ) (ts ns is : List ℕ) → backupAllAs (b .pool) (b .table) u ts ns is .answer .refusal ≡ 0
       → backupAllAs (b .pool) (b .table) u ts ns is .answer .versions ≡ fill 16 (numbersGiven k (imagesIn ts ns is) (backupAllAs (b .pool) (b .table) u ts ns is .answer .refusals))
   closing-last u ts ns is =
@@ -113,7 +113,7 @@ module _ (s : Shape) (b : Buffers) (st : State) (k : Keeper) (l : Left s b st) (
         ap (λ (a : BackupAnswer). a .version) q ∙ backup-last s b st k l z era t d image (sym (ap (λ (a : BackupAnswer). a .refusal) q) ∙ e);
     backupSent = sent-last s b st k l z;
     backupAll = closing-last;
-    goes = λ u t v x newer m e. ap (λ (a : RetireAnswer). a .refusal) (may-retire u t v m) ∙ retire-goes s b st k l z t v x newer e;
+    isUnreferenced = λ u t v x newer m e. ap (λ (a : RetireAnswer). a .refusal) (may-retire u t v m) ∙ retire-goes s b st k l z t v x newer e;
     notHeld = λ u t v m e h. ap (λ (a : RetireAnswer). a .refusal) (may-retire u t v m) ∙ retire-not s b st k l z t v e h;
     retire = λ u t v e.
         let q = retired-by u t v e in

@@ -33,11 +33,11 @@ use Rattle.history.specs.Keeper.{itself, comesTo}
 use Rattle.history.proofs.View.{viewAt}
 use Rattle.history.specs.Demand.{laidOutIn}
 use Rattle.history.specs.Apart.{Item, both, first, second, Lacks, FromTill, IsFromTill, segmentsMet, InBoth, Differ, SameAnswer, Agree, NonInterference}
-use Rattle.history.proofs.Steps.{Left, left-laid}
+use Rattle.history.proofs.Steps.{Represents, left-laid}
 use Rattle.history.proofs.Users.{left-by, answer-by, refusal-at, done-made, backup-done}
 use Rattle.history.proofs.Carried.{carried, images-few, sixteen}
 use Rattle.history.proofs.Reach.{one-sound}
-use Rattle.history.proofs.Local.{outcomeAnswer, Roomy}
+use Rattle.history.proofs.Local.{outcomeAnswer, NotFull}
 use Rattle.history.proofs.Same.{unless-same, refusal-same, plain-same, set-same}
 use Rattle.history.proofs.Bullets.{numberIn}
 use Rattle.history.proofs.Alike.{room-left, made-other, Off, same, off-carried, one-off}
@@ -109,7 +109,7 @@ module _ (s : Shape) (u x : ℕ) where
             → outcomeAnswer (backup withBlanks s st (im .till) none (im .image)) ≡ outcomeAnswer (backup withBlanks s st′ (im .till) none (im .image))
         backup-same ne f f′ p p′ =
             unfold answerIn tillNamed in
-            plain-same s st st′ x (callBackup withBlanks (im .till) none (im .image)) refl (subst Roomy p (room-left _ f)) (subst Roomy p′ (room-left _ f′)) (o (im .till) ne)
+            plain-same s st st′ x (callBackup withBlanks (im .till) none (im .image)) refl (subst NotFull p (room-left _ f)) (subst NotFull p′ (room-left _ f′)) (o (im .till) ne)
 
   -- his images change nothing of till `u`
   image-stays : Proper (s .measures) → (st : State) → isSound s st ≡ true → LacksIn st → (im : TillImage) → viewAt (s .measures .blockBytes) (stateOr st (backupOne s st x im)) u ≡ viewAt (s .measures .blockBytes) st u
@@ -154,7 +154,7 @@ offer-refusal s st t fs ms = go (leb (s .capacities .tills) t) (not (offerFits s
     go false true marks = unfold offerAnswer in refl
     go false false marks = unfold offerAnswer in refl
 
-module _ (s : Shape) (u x : ℕ) (b b′ : Buffers) (st st′ : State) (l : Left s b st) (l′ : Left s b′ st′) (o : Off s u st st′) (k : Lacks x u b) (k′ : Lacks x u b′) where
+module _ (s : Shape) (u x : ℕ) (b b′ : Buffers) (st st′ : State) (l : Represents s b st) (l′ : Represents s b′ st′) (o : Off s u st st′) (k : Lacks x u b) (k′ : Lacks x u b′) where
   lacks-in : LacksIn s u x st
   lacks-in right e = k right (refusal-at s b st x l u right ∙ e)
 
@@ -177,7 +177,7 @@ module _ (s : Shape) (u x : ℕ) (b b′ : Buffers) (st st′ : State) (l : Left
   same-in (callLayout c) f f′ n = tt
   same-in (callBackup era t d image) f f′ n =
       waits-same s u x st st′ o lacks-in lacks-in′ outcomeAnswer t toBackUp refused (backup era s st t d image) (backup era s st′ t d image)
-      (λ ne p p′. unfold tillNamed in plain-same s st st′ x (callBackup era t d image) refl (subst Roomy p (room-left _ f)) (subst Roomy p′ (room-left _ f′)) (o t ne))
+      (λ ne p p′. unfold tillNamed in plain-same s st st′ x (callBackup era t d image) refl (subst NotFull p (room-left _ f)) (subst NotFull p′ (room-left _ f′)) (o t ne))
   same-in (callRestore t v output) f f′ n =
       waits-same s u x st st′ o lacks-in lacks-in′ restored t toRestore (λ n. restoreRefusal n output) (restore s st t v output) (restore s st′ t v output)
       (λ ne p p′. unfold tillNamed in plain-same s st st′ x (callRestore t v output) refl tt tt (o t ne))
@@ -220,7 +220,7 @@ module _ (s : Shape) (u x : ℕ) (b b′ : Buffers) (st st′ : State) (l : Left
 -- ---- the two histories
 
 module _ (s : Shape) (x u : ℕ) where
-  agree : (items : List Item) (b b′ : Buffers) (st st′ : State) → Left s b st → Left s b′ st′ → Off s u st st′ → Differ x u b b′ items → Agree x b b′ items
+  agree : (items : List Item) (b b′ : Buffers) (st st′ : State) → Represents s b st → Represents s b′ st′ → Off s u st st′ → Differ x u b b′ items → Agree x b b′ items
   agree [] b b′ st st′ l l′ o d = tt
   agree (both c ∷ items) b b′ st st′ l l′ o d =
       let i : InBoth x u b b′ c = d .0 in (

@@ -26,7 +26,7 @@ use Rattle.history.specs.Users.{UserCall, answerBy, refusalBy, forUser, 
 use Rattle.history.specs.Keeper.{imageOr, imageSent, CallMade, backupFor, backupsMade, closingMade, itself, comesTo}
 use Rattle.history.proofs.View.{TillView, isOnTill, changed, IsPlain}
 use Rattle.history.specs.Apart.{both, second, IsOn, FromTill, IsFromTill, sentWith, segmentsMet}
-use Rattle.history.proofs.Steps.{Left, left-store, closing-same}
+use Rattle.history.proofs.Steps.{Represents, left-store, closing-same}
 use Rattle.history.proofs.Users.{answer-by}
 use Rattle.history.proofs.Carried.{carried, carried-other, images-few, sixteen}
 use Rattle.history.proofs.Local.{outcomeAnswer, HasRoom}
@@ -88,7 +88,7 @@ no-layout-on u b (callBackupAll ts ns is) h = tt
 no-layout-on u b (callSetRights subject t r) h = tt
 
 module _ (s : Shape) (u : ℕ) where
-  pub off-one : (b : Buffers) (st : State) → Left s b st → (c : UserCall) → IsOn u (c .call) → Off s u (stateBy s st (c .user) (c .call)) st
+  pub off-one : (b : Buffers) (st : State) → Represents s b st → (c : UserCall) → IsOn u (c .call) → Off s u (stateBy s st (c .user) (c .call)) st
   off-one b st l c on t ne =
       carried-other s (l .fit .proper) (comesTo b (c .user) (c .call)) st (stateBy s st (c .user) (c .call)) (l .sound) (carried s b st l (c .user) (c .call)) t
       (each-weaken (λ (m : CallMade). tillNamed (m .call) ≡ u) (λ (m : CallMade). t ≡ tillNamed (m .call) → ⊥) (λ m e q. ne (q ∙ e)) (comesTo b (c .user) (c .call)) (on-till u (c .user) b (c .call) on))
@@ -128,7 +128,7 @@ room-for (callBackupSent t n fs ms ss) a h = tt
 room-for (callBackupAll ts ns is) a h = tt
 room-for (callSetRights subject t r) a h = tt
 
-module _ (s : Shape) (u : ℕ) (b b′ : Buffers) (st st′ : State) (l : Left s b st) (l′ : Left s b′ st′) (o : Off s u st st′) (y : ℕ) where
+module _ (s : Shape) (u : ℕ) (b b′ : Buffers) (st st′ : State) (l : Represents s b st) (l′ : Represents s b′ st′) (o : Off s u st st′) (y : ℕ) where
   -- on another till, or on none, with any user
   on-other : (call : Call) → isOnTill call ≡ true → (tillNamed call ≡ u → ⊥) → IsFromTill (answerBy b y call) → IsFromTill (answerBy b′ y call) → answerBy b y call ≡ answerBy b′ y call
   on-other call on ne f f′ =
@@ -155,9 +155,9 @@ module _ (s : Shape) (u : ℕ) (b b′ : Buffers) (st st′ : State) (l : Left s
 
     -- what the store of a state has and what the message sends are among them
     abbrev metIn : State → List (List ℕ)
-    metIn x = (zeroSegment (s .measures) ∷ contents (s .measures) (x .shelf)) ++ segmentsSent (segmentBytes (s .measures)) ms ss
+    metIn x = (zeroSegment (s .measures) ∷ contents (s .measures) (x .storage)) ++ segmentsSent (segmentBytes (s .measures)) ms ss
 
-    met-is : (c : Buffers) (x : State) → Left s c x → segmentsMet c (callBackupSent t n fs ms ss) ≡ metIn x
+    met-is : (c : Buffers) (x : State) → Represents s c x → segmentsMet c (callBackupSent t n fs ms ss) ≡ metIn x
     unfolding segmentsMet sentWith knownIn
     met-is c x z =
         ap₂ (λ (q : Option Store) (h : Shape). knownIn q ++ segmentsSent (segmentBytes (h .measures)) ms ss) (left-store s c x z) (ap shapeOf (z .table) ∙ z .fit .back x)
@@ -167,15 +167,15 @@ module _ (s : Shape) (u : ℕ) (b b′ : Buffers) (st st′ : State) (l : Left s
     sent-other ne f f′ =
         let all : List (List ℕ) = metIn st ++ metIn st′ in
         let parts = each-split (λ x. In x all) (metIn st) (metIn st′) (all-in all) in
-        let one = each-split (λ x. In x all) (zeroSegment (s .measures) ∷ contents (s .measures) (st .shelf)) (segmentsSent (segmentBytes (s .measures)) ms ss) (parts .0) in
-        let two = each-split (λ x. In x all) (zeroSegment (s .measures) ∷ contents (s .measures) (st′ .shelf)) (segmentsSent (segmentBytes (s .measures)) ms ss) (parts .1) in
+        let one = each-split (λ x. In x all) (zeroSegment (s .measures) ∷ contents (s .measures) (st .storage)) (segmentsSent (segmentBytes (s .measures)) ms ss) (parts .0) in
+        let two = each-split (λ x. In x all) (zeroSegment (s .measures) ∷ contents (s .measures) (st′ .storage)) (segmentsSent (segmentBytes (s .measures)) ms ss) (parts .1) in
         sent-same s st st′ t (o t ne) n fs ms ss all (subst (NoneShare sha1) (ap₂ (λ (xs ys : List (List ℕ)). xs ++ ys) (met-is b st l) (met-is b′ st′ l′)) share) (one .0) (two .0 .1) (one .1) f f′
 
     -- with any user who may
     abbrev waits : State → Outcome After
     waits x = forUser s x y t toBackUp (backupSent sha1 s x t n fs ms ss)
 
-    from-by : (c : Buffers) (x : State) → Left s c x → IsFromTill (answerBy c y (callBackupSent t n fs ms ss)) → FromTill (outcomeRefusal (waits x))
+    from-by : (c : Buffers) (x : State) → Represents s c x → IsFromTill (answerBy c y (callBackupSent t n fs ms ss)) → FromTill (outcomeRefusal (waits x))
     unfolding answerInBy
     from-by c x z f = subst IsFromTill (answer-by s c x y (callBackupSent t n fs ms ss) z) f
 
@@ -210,7 +210,7 @@ module _ (s : Shape) (u : ℕ) (b b′ : Buffers) (st st′ : State) (l : Left s
     abbrev madeIn : State → CallMade
     madeIn x = record { call = callBackup withBlanks t none (imageOr (made sha1 s x t n fs ms ss)); accepted = eqb (outcomeRefusal (waits x)) 0 }
 
-    made-is : (c : Buffers) (x : State) → Left s c x → madeBy c ≡ madeIn x
+    made-is : (c : Buffers) (x : State) → Represents s c x → madeBy c ≡ madeIn x
     unfolding imageSent refusalBy answerInBy refusalIn
     made-is c x z =
         ap₂ (λ (q : Option Store) (a : Answer). record { call = callBackup withBlanks t none (imageSent q t n fs ms ss); accepted = eqb (refusalIn a) 0 }) (left-store s c x z)

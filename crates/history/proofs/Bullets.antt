@@ -27,13 +27,13 @@ use Rattle.history.proofs.View.{VersionView, TillView, viewOf, viewAt, 
 use Rattle.sent.specs.Sent.{backupSentBy, backupSentOf, backupSentAs}
 use Rattle.history.specs.Demand.{Restores}
 use Rattle.history.proofs.Sent.{accepted-is}
-use Rattle.history.proofs.Local.{Roomy, HasRoom, answer-in}
+use Rattle.history.proofs.Local.{NotFull, HasRoom, answer-in}
 use Rattle.history.proofs.Shown.{from-same, chain-is}
 use Rattle.history.proofs.Chains.{chain-most}
 use Rattle.history.proofs.Kept.{Agree, agree-from, agree-oldest, agree-newest, agree-length}
 use Rattle.history.proofs.Fed.{Stands}
 use Rattle.history.proofs.Keys.{may-same, may-missing, accepted-same}
-use Rattle.history.proofs.Steps.{Left, answer-same}
+use Rattle.history.proofs.Steps.{Represents, answer-same}
 
 unrestored : Answer → RestoreAnswer
 unrestored (laidOut n) = restoreRefusal n []
@@ -79,7 +79,7 @@ numberIn (backedUpAll a) = 0
 numberIn (rightsSet n) = 0
 
 -- The law: a call on a till answers what the till's view says, 14 and 16 apart.
-pub answer-shown : (s : Shape) (b : Buffers) (st : State) → Left s b st → (call : Call) → isOnTill call ≡ true → HasRoom call (answerOf b call)
+pub answer-shown : (s : Shape) (b : Buffers) (st : State) → Represents s b st → (call : Call) → isOnTill call ≡ true → HasRoom call (answerOf b call)
     → answerOf b call ≡ answerShown s (viewAt (s .measures .blockBytes) st (tillNamed call)) call
 answer-shown s b st l call on room = let same = answer-same s b st call l in same ∙ answer-in s st call on (subst (HasRoom call) same room)
 
@@ -95,7 +95,7 @@ first-kept : (bytes : ℕ) (xs : List Kept) (w : VersionView) (ws : List Version
 first-kept bytes [] w ws a = absurd a
 first-kept bytes (x ∷ newer) w ws a = (x, newer, refl, a .0 .size)
 
-module _ (s : Shape) (b : Buffers) (st : State) (k : Keeper) (l : Left s b st) (z : Stands s k st) where
+module _ (s : Shape) (b : Buffers) (st : State) (k : Keeper) (l : Represents s b st) (z : Stands s k st) where
   -- what till `t` shows
   shown : ℕ → TillView
   shown t = viewAt (s .measures .blockBytes) st t
@@ -171,8 +171,8 @@ module _ (s : Shape) (b : Buffers) (st : State) (k : Keeper) (l : Left s b st) (
   chain-of : (t v : ℕ) → chainShown (shownFrom v (shown t .versions)) ≡ longestChain (heldFrom v (tillOf st t .versions))
   unfolding shown viewOf
   chain-of t v =
-      ap chainShown (from-same (s .measures .blockBytes) (st .shelf) v (tillOf st t .versions))
-      ∙ sym (chain-is (s .measures .blockBytes) (st .shelf) (heldFrom v (tillOf st t .versions)))
+      ap chainShown (from-same (s .measures .blockBytes) (st .storage) v (tillOf st t .versions))
+      ∙ sym (chain-is (s .measures .blockBytes) (st .storage) (heldFrom v (tillOf st t .versions)))
 
   pub restores : Restores (s .measures .blockBytes) st k b
   unfolding restoreShown restoreRefusal
@@ -208,7 +208,7 @@ module _ (s : Shape) (b : Buffers) (st : State) (k : Keeper) (l : Left s b st) (
       none n output (w ∷ ws) a = absurd a
 
   -- an accepted backup
-  room : (era : Era) (t : ℕ) (d : Option ℕ) (image : List ℕ) → backupBy era (b .pool) (b .table) t d image .refusal ≡ 0 → Roomy (answerOf b (callBackup era t d image))
+  room : (era : Era) (t : ℕ) (d : Option ℕ) (image : List ℕ) → backupBy era (b .pool) (b .table) t d image .refusal ≡ 0 → NotFull (answerOf b (callBackup era t d image))
   unfolding answerOf refusalIn
   room era t d image z = (
     λ e. suc-ne-zero 13 (sym (ap refusalIn e) ∙ z),

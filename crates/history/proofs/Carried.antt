@@ -29,7 +29,7 @@ use Rattle.history.proofs.View.{viewAt, IsPlain}
 use Rattle.history.proofs.Sent.{here, sent-alike}
 use Rattle.history.proofs.Reach.{sound-after}
 use Rattle.history.proofs.Frame.{frame-other}
-use Rattle.history.proofs.Steps.{Left, left-store, closing-same}
+use Rattle.history.proofs.Steps.{Represents, left-store, closing-same}
 use Rattle.history.proofs.Users.{IsDone, answer-by, outcome-done, backup-done, done-by}
 
 -- what a plain call leaves that was accepted or refused as it was made
@@ -104,7 +104,7 @@ module _ (s : Shape) (u : ℕ) where
       (sym (a .1) ∙ d .0, d .1 ∙ a .0)
   sent-done st t n fs ms ss false e = outcome-done st (refusalAt s st u t toBackUp) (backupSent sha1 s st t n fs ms ss) false e .1 refl
 
-  sent-is : (b : Buffers) (st : State) → Left s b st → (t n : ℕ) (fs ms ss : List ℕ)
+  sent-is : (b : Buffers) (st : State) → Represents s b st → (t n : ℕ) (fs ms ss : List ℕ)
       → IsDone s st (callBackup withBlanks t none (imageSent (here s st) t n fs ms ss)) (eqb (refusalBy b u (callBackupSent t n fs ms ss)) 0) (stateBy s st u (callBackupSent t n fs ms ss))
   unfolding stateBy refusalBy
   sent-is b st l t n fs ms ss =
@@ -113,13 +113,13 @@ module _ (s : Shape) (u : ℕ) where
 
   -- ---- any call
 
-  itself-carried : (b : Buffers) (st : State) → Left s b st → (call : Call) → IsPlain call → Carries s st (itself b u call) (stateBy s st u call)
+  itself-carried : (b : Buffers) (st : State) → Represents s b st → (call : Call) → IsPlain call → Carries s st (itself b u call) (stateBy s st u call)
   unfolding itself refusalBy
   itself-carried b st l call p =
       carries-on s st (stateBy s st u call) call p (eqb (refusalIn (answerBy b u call)) 0)
       (done-by s st u call p _ (ap (λ (a : Answer). eqb (refusalIn a) 0) (sym (answer-by s b st u call l)))) [] (stateBy s st u call) refl
 
-pub carried : (s : Shape) (b : Buffers) (st : State) → Left s b st → (u : ℕ) (call : Call) → Carries s st (comesTo b u call) (stateBy s st u call)
+pub carried : (s : Shape) (b : Buffers) (st : State) → Represents s b st → (u : ℕ) (call : Call) → Carries s st (comesTo b u call) (stateBy s st u call)
 unfolding comesTo
 carried s b st l u (callLayout c) = itself-carried s u b st l (callLayout c) tt
 carried s b st l u (callBackup era t d image) = itself-carried s u b st l (callBackup era t d image) tt

@@ -16,7 +16,7 @@ use Rattle.lists.proofs.Rises.{rises-first}
 use Rattle.lists.proofs.Tests.{clause, every-head, every-tail}
 use Rattle.lists.proofs.Uses.{in-uses, uses-append, uses-in}
 use Rattle.model.specs.Measures.{Shape}
-use Rattle.model.specs.State.{Pointer, nullPointer, blankPointer, direct, indirect, nullPosition, blankPosition, held, removed, Segment, Shelf, Version, Till, State}
+use Rattle.model.specs.State.{Pointer, nullPointer, blankPointer, direct, indirect, nullPosition, blankPosition, held, removed, Segment, Storage, Version, Till, State}
 use Rattle.model.specs.Records.{isHeld, cellOf, cellsOf, namedCells, positionAt}
 use Rattle.model.specs.Sound.{isSound, isTill, isNumbered, leadsTo, nextPointers, allPointers}
 use Rattle.model.specs.Calls.{emptyTill, tillOf, heldFrom}
@@ -72,7 +72,7 @@ version-of k i (w ∷ vs) low high h c =
           ap (λ (l : List Version). getD (nextPointers l) (z .1) nullPointer) (held-later (z .0) w vs (λ y. omega (arith, y, z .2))) ∙ z .3,
         )
 
-till-of : (s : Shape) (a : Shelf) (k i : ℕ) (ts : List Till) → every (isTill s a) ts ≡ true → 0 < count (leadsTo k i) (allPointers ts)
+till-of : (s : Shape) (a : Storage) (k i : ℕ) (ts : List Till) → every (isTill s a) ts ≡ true → 0 < count (leadsTo k i) (allPointers ts)
     → (t : ℕ) × (v : ℕ) × (j : ℕ) × (getD (nextPointers (heldFrom v (getD ts t emptyTill .versions))) j nullPointer ≡ direct k i)
 unfolding allPointers joined
 till-of s a k i [] h c = unfold count in absurd (not-suc-le-zero c)
@@ -101,13 +101,13 @@ module _ (s : Shape) (st : State) (h : isSound s st ≡ true) where
   valid : Valid s st
   valid = sound-valid s st h
 
-  named-led : (c : ℕ) → isIn c (namedCells (st .shelf .records)) ≡ true → LedTo st c
+  named-led : (c : ℕ) → isIn c (namedCells (st .storage .records)) ≡ true → LedTo st c
   unfolding isSound pointersHeld tillOf positionAt
   named-led c e =
-      let r = record-of c (st .shelf .records) (in-uses c (namedCells (st .shelf .records)) e) in
-      let p = position-of c (getD (st .shelf .records) (r .0) []) (r .1) in
-      let positive : 0 < countIn (st .shelf) (r .0) (p .0) = held-positive (allPointers (st .tills)) 0 (st .shelf .records) (clause _ 5 h) (r .0) (p .0) (p .1) in
-      let z = till-of s (st .shelf) (r .0) (p .0) (st .tills) (valid .tills) (subst (λ (n : ℕ). 0 < n) (valid .counts (r .0) (p .0)) positive) in
+      let r = record-of c (st .storage .records) (in-uses c (namedCells (st .storage .records)) e) in
+      let p = position-of c (getD (st .storage .records) (r .0) []) (r .1) in
+      let positive : 0 < countIn (st .storage) (r .0) (p .0) = held-positive (allPointers (st .tills)) 0 (st .storage .records) (clause _ 5 h) (r .0) (p .0) (p .1) in
+      let z = till-of s (st .storage) (r .0) (p .0) (st .tills) (valid .tills) (subst (λ (n : ℕ). 0 < n) (valid .counts (r .0) (p .0)) positive) in
       record {
         till = z .0;
         version = z .1;
@@ -119,13 +119,13 @@ module _ (s : Shape) (st : State) (h : isSound s st ≡ true) where
         cell = p .2;
       }
 
-  led-named : (c : ℕ) → LedTo st c → isIn c (namedCells (st .shelf .records)) ≡ true
+  led-named : (c : ℕ) → LedTo st c → isIn c (namedCells (st .storage .records)) ≡ true
   unfolding positionAt
   led-named c l =
-      let seg : Segment = getD (st .shelf .records) (l .segment) [] in
-      ap (λ (n : ℕ). isIn n (namedCells (st .shelf .records))) (sym (l .cell))
-      ∙ uses-in (cellOf (getD seg (l .position) nullPosition)) (namedCells (st .shelf .records))
-      (omega (arith, held-named seg (l .position) (l .isHere), named-one (cellOf (getD seg (l .position) nullPosition)) (st .shelf .records) (l .segment)))
+      let seg : Segment = getD (st .storage .records) (l .segment) [] in
+      ap (λ (n : ℕ). isIn n (namedCells (st .storage .records))) (sym (l .cell))
+      ∙ uses-in (cellOf (getD seg (l .position) nullPosition)) (namedCells (st .storage .records))
+      (omega (arith, held-named seg (l .position) (l .isHere), named-one (cellOf (getD seg (l .position) nullPosition)) (st .storage .records) (l .segment)))
 
-  pub named-leads : (c : ℕ) → (isIn c (namedCells (st .shelf .records)) ≡ true) ↔ LedTo st c
+  pub named-leads : (c : ℕ) → (isIn c (namedCells (st .storage .records)) ≡ true) ↔ LedTo st c
   named-leads c = (named-led c, led-named c)

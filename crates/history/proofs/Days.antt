@@ -31,7 +31,7 @@ use Rattle.history.proofs.Shown.{lastOf, newestOf, newest-day-is, day-i
 use Rattle.history.proofs.Numbered.{Numbered, backup-numbered}
 use Rattle.history.proofs.Frame.{frame-own, frame-other}
 use Rattle.history.proofs.Kept.{Agree, agree-numbers, agree-days}
-use Rattle.history.proofs.Steps.{Left, left-store}
+use Rattle.history.proofs.Steps.{Represents, left-store}
 use Rattle.history.proofs.Users.{left-by}
 use Rattle.history.proofs.Carried.{madeOf, made-sound, Carries, carried}
 use Rattle.history.proofs.Fed.{Stands}
@@ -122,10 +122,10 @@ pub dated-empty : (s : Shape) → Dated s (emptyState s)
 unfolding emptyState tillOf viewOf
 dated-empty s t = go (s .capacities .tills) t
   where
-    none-held : NeverFall (map (λ (w : VersionView). w .day) (viewVersions (s .measures .blockBytes) (emptyState s .shelf) (emptyTill .versions)))
+    none-held : NeverFall (map (λ (w : VersionView). w .day) (viewVersions (s .measures .blockBytes) (emptyState s .storage) (emptyTill .versions)))
     none-held = unfold emptyTill viewVersions in tt
 
-    go : (n t : ℕ) → NeverFall (map (λ (w : VersionView). w .day) (viewVersions (s .measures .blockBytes) (emptyState s .shelf) (getD (replicate n emptyTill) t emptyTill .versions)))
+    go : (n t : ℕ) → NeverFall (map (λ (w : VersionView). w .day) (viewVersions (s .measures .blockBytes) (emptyState s .storage) (getD (replicate n emptyTill) t emptyTill .versions)))
     go zero t = none-held
     go (suc n) zero = none-held
     go (suc n) (suc t) = go n t
@@ -140,7 +140,7 @@ module _ (s : Shape) (pr : Proper (s .measures)) (st : State) (h : isSound s st 
       filed-days era (s .measures .blockBytes) (viewAt (s .measures .blockBytes) st t) d image (unfold daysOf in z t)
       (unfold viewOf in
       (let l : newestDay (tillOf st t .versions) ≤ dayFor d (tillOf st t .versions) = backup-day era s t d image st a q in
-      omega (arith, l, newest-day-is (s .measures .blockBytes) (st .shelf) (tillOf st t .versions), day-is (s .measures .blockBytes) (st .shelf) d (tillOf st t .versions))))
+      omega (arith, l, newest-day-is (s .measures .blockBytes) (st .storage) (tillOf st t .versions), day-is (s .measures .blockBytes) (st .storage) d (tillOf st t .versions))))
 
   retire-days : (t v : ℕ) (ok : Bool) → NeverFall (map (λ (w : VersionView). w .day) (changed (s .measures .blockBytes) (callRetire t v) ok (viewAt (s .measures .blockBytes) st t) .versions))
   unfolding changed shownWithout
@@ -191,7 +191,7 @@ dated-each s pr (m ∷ ms) st end h c z = dated-each s pr ms (madeOf s st m) end
     go true = dated-plain s pr st h z (m .call) (c .0)
     go false = z
 
-pub dated-all : (s : Shape) (calls : List UserCall) (b : Buffers) (st : State) → Left s b st → Dated s st → refusedLayouts b calls → Dated s (stateAfterAll s st calls)
+pub dated-all : (s : Shape) (calls : List UserCall) (b : Buffers) (st : State) → Represents s b st → Dated s st → refusedLayouts b calls → Dated s (stateAfterAll s st calls)
 unfolding stateAfterAll
 dated-all s [] b st l z r = z
 dated-all s (c ∷ calls) b st l z r =
@@ -206,10 +206,10 @@ newest-kept [] = refl
 newest-kept (x ∷ []) = refl
 newest-kept (x ∷ y ∷ xs) = newest-kept (y ∷ xs)
 
-module _ (s : Shape) (b : Buffers) (st : State) (k : Keeper) (l : Left s b st) (z : Stands s k st) (dated : Dated s st) where
+module _ (s : Shape) (b : Buffers) (st : State) (k : Keeper) (l : Represents s b st) (z : Stands s k st) (dated : Dated s st) where
   -- what is shown of till `t`
   abbrev shown : ℕ → List VersionView
-  shown t = viewVersions (s .measures .blockBytes) (st .shelf) (tillOf st t .versions)
+  shown t = viewVersions (s .measures .blockBytes) (st .storage) (tillOf st t .versions)
 
   agree : (t : ℕ) → Agree (s .measures .blockBytes) (keptTill k t .versions) (shown t)
   unfolding viewOf
@@ -234,7 +234,7 @@ module _ (s : Shape) (b : Buffers) (st : State) (k : Keeper) (l : Left s b st) (
   found-is t day =
       ap (λ (o : Option Store). versionOnIn o t day) (left-store s b st l)
       ∙ ap (λ (a : VersionOnAnswer). cond (leb (s .capacities .tills) t) (record { refusal = 3; version = 0 }) a)
-      (newest-or-none (s .measures .blockBytes) (st .shelf) day (tillOf st t .versions) ∙ of-views (shownNotAfter day (shown t)) ∙ ap newestOf (early-same t day))
+      (newest-or-none (s .measures .blockBytes) (st .storage) day (tillOf st t .versions) ∙ of-views (shownNotAfter day (shown t)) ∙ ap newestOf (early-same t day))
 
   none-there : (t day : ℕ) → length k ≤ t → keptNotAfter day (keptTill k t .versions) ≡ []
   unfolding keptTill keptNotAfter noTill keep
@@ -265,7 +265,7 @@ module _ (s : Shape) (b : Buffers) (st : State) (k : Keeper) (l : Left s b st) (
 
   pub days : Days (s .measures .blockBytes) st k b
   days = record {
-    kept = λ t. sym (views-days (s .measures .blockBytes) (st .shelf) (tillOf st t .versions)) ∙ same-days t;
+    kept = λ t. sym (views-days (s .measures .blockBytes) (st .storage) (tillOf st t .versions)) ∙ same-days t;
     ordered = λ t. subst NeverFall (same-days t) (days-shown t);
     given = λ u t day x xs m e.
         let is = may-same s b st k l z u t toList versionOnRefusal (versionOnOf (b .pool) (b .table) t day) m in

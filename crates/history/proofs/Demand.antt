@@ -9,7 +9,7 @@ use Rattle.lists.specs.Lists.{rises}
 use Rattle.lists.specs.Rows.{chunks}
 use Rattle.lists.proofs.Cuts.{chunks-joined}
 use Rattle.model.specs.Measures.{Shape}
-use Rattle.model.specs.State.{Pointer, nullPointer, blankPointer, direct, indirect, Shelf, Version, State}
+use Rattle.model.specs.State.{Pointer, nullPointer, blankPointer, direct, indirect, Storage, Version, State}
 use Rattle.model.specs.Image.{imageBlocks}
 use Rattle.model.specs.Table.{stateToBytes, cellsIn}
 use Rattle.model.specs.Sound.{Store, storeOf, nextPointers}
@@ -28,7 +28,7 @@ use Rattle.history.specs.Demand.{IsDirect, Shares, Cells, Holds, laidOut
 use Rattle.history.proofs.Shown.{from-same, shown-numbers}
 use Rattle.history.proofs.Kept.{isDirectKind, Agree, agree-from, agree-numbers}
 use Rattle.history.proofs.Fed.{Stands, stands-fresh, stands-all}
-use Rattle.history.proofs.Steps.{Left, left-laid, left-store}
+use Rattle.history.proofs.Steps.{Represents, left-laid, left-store}
 use Rattle.history.proofs.Users.{left-all, answers-same}
 use Rattle.history.proofs.Cells.{named-leads}
 use Rattle.history.proofs.Bullets.{restores}
@@ -46,7 +46,7 @@ direct-kind blankPointer h = absurd h
 direct-kind (direct k i) h = refl
 direct-kind (indirect n) h = absurd h
 
-shared-not-direct : (bytes : ℕ) (a : Shelf) (x y : Kept) (newer : List Kept) (vs : List Version) (n i : ℕ) → Agree bytes (x ∷ y ∷ newer) (viewVersions bytes a vs)
+shared-not-direct : (bytes : ℕ) (a : Storage) (x y : Kept) (newer : List Kept) (vs : List Version) (n i : ℕ) → Agree bytes (x ∷ y ∷ newer) (viewVersions bytes a vs)
     → y .previous ≡ x .number → n < length (imageBlocks bytes (x .image)) → i < length (imageBlocks bytes (y .image))
     → getD (imageBlocks bytes (x .image)) n [] ≡ getD (imageBlocks bytes (y .image)) i [] → ¬ IsDirect (getD (nextPointers vs) n nullPointer)
 unfolding viewVersions nextPointers
@@ -58,20 +58,20 @@ shared-not-direct bytes a x y newer (v ∷ vs) n i g p ln li same d =
 
 -- ---- a store that stands for a state that calls reach
 
-module _ (s : Shape) (b : Buffers) (st : State) (k : Keeper) (l : Left s b st) (z : Stands s k st) (d : Dated s st) where
+module _ (s : Shape) (b : Buffers) (st : State) (k : Keeper) (l : Represents s b st) (z : Stands s k st) (d : Dated s st) where
   -- of versions held and shown
-  held : (t v : ℕ) → Agree (s .measures .blockBytes) (keptFrom v (keptTill k t .versions)) (viewVersions (s .measures .blockBytes) (st .shelf) (heldFrom v (tillOf st t .versions)))
+  held : (t v : ℕ) → Agree (s .measures .blockBytes) (keptFrom v (keptTill k t .versions)) (viewVersions (s .measures .blockBytes) (st .storage) (heldFrom v (tillOf st t .versions)))
   unfolding viewOf
   held t v =
-      subst (Agree (s .measures .blockBytes) (keptFrom v (keptTill k t .versions))) (from-same (s .measures .blockBytes) (st .shelf) v (tillOf st t .versions))
+      subst (Agree (s .measures .blockBytes) (keptFrom v (keptTill k t .versions))) (from-same (s .measures .blockBytes) (st .storage) v (tillOf st t .versions))
       (agree-from (s .measures .blockBytes) v (keptTill k t .versions) (viewAt (s .measures .blockBytes) st t .versions) (z .tills t .1))
 
   shares : Shares (s .measures .blockBytes) st k b
   unfolding pointersHeld
   shares = record {
     notDirect = λ t v x y newer n i q p ln li full same d.
-        shared-not-direct (s .measures .blockBytes) (st .shelf) x y newer (heldFrom v (tillOf st t .versions)) n i
-        (subst (λ (xs : List Kept). Agree (s .measures .blockBytes) xs (viewVersions (s .measures .blockBytes) (st .shelf) (heldFrom v (tillOf st t .versions)))) q (held t v)) p ln li same d;
+        shared-not-direct (s .measures .blockBytes) (st .storage) x y newer (heldFrom v (tillOf st t .versions)) n i
+        (subst (λ (xs : List Kept). Agree (s .measures .blockBytes) xs (viewVersions (s .measures .blockBytes) (st .storage) (heldFrom v (tillOf st t .versions)))) q (held t v)) p ln li same d;
   }
 
   numbers : (t : ℕ) → rises 0 (keptTill k t .last) (map (λ (x : Kept). x .number) (keptTill k t .versions)) ≡ true
@@ -79,17 +79,17 @@ module _ (s : Shape) (b : Buffers) (st : State) (k : Keeper) (l : Left s b st) (
       ap₂ (rises 0) (sym (z .tills t .0)) (sym (agree-numbers (s .measures .blockBytes) (keptTill k t .versions) (viewAt (s .measures .blockBytes) st t .versions) (z .tills t .1)))
       ∙ shown-numbers s st (l .sound) t
 
-  pool-cells : cellsIn (s .measures .blockBytes) (b .pool) ≡ st .shelf .cells
+  pool-cells : cellsIn (s .measures .blockBytes) (b .pool) ≡ st .storage .cells
   unfolding cellsIn stateToBytes
   pool-cells =
       ap (chunks (s .measures .blockBytes)) (l .pool)
-      ∙ chunks-joined (s .measures .blockBytes) (st .shelf .cells) (sound-valid s st (l .sound) .fits .cells) (l .fit .proper .bytes)
+      ∙ chunks-joined (s .measures .blockBytes) (st .storage .cells) (sound-valid s st (l .sound) .fits .cells) (l .fit .proper .bytes)
 
   cells : Cells (s .measures .blockBytes) st k b s
   unfolding tallyAs tallyOf tallyIn
   cells = record {
     inPool = pool-cells;
-    nonZero = named-full (st .shelf) (sound-valid s st (l .sound) .exact);
+    nonZero = named-full (st .storage) (sound-valid s st (l .sound) .exact);
     led = named-leads s st (l .sound);
     inside = named-inside s st (l .sound);
     billed = λ u price e.
@@ -121,8 +121,8 @@ module _ (s : Shape) (b : Buffers) (st : State) (k : Keeper) (l : Left s b st) (
 pub demand-3 : Demand3
 demand-3 s pool table calls accepted refusals =
     let b : Buffers = laidOutIn s pool table in
-    let start : Left s b (emptyState s) = left-laid s pool table accepted in
-    let end : Left s (buffersAfterAll b calls) (stateAfterAll s (emptyState s) calls) = left-all s calls b (emptyState s) start refusals in
+    let start : Represents s b (emptyState s) = left-laid s pool table accepted in
+    let end : Represents s (buffersAfterAll b calls) (stateAfterAll s (emptyState s) calls) = left-all s calls b (emptyState s) start refusals in
     record {
       answers = answers-same s calls b (emptyState s) start refusals;
       after =

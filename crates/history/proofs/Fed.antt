@@ -23,7 +23,7 @@ use Rattle.history.proofs.View.{TillView, viewVersions, viewOf, viewAt,
 use Rattle.history.proofs.Kept.{AgreeTill, till-filed, till-struck, till-rights}
 use Rattle.history.proofs.Shown.{shown-numbers}
 use Rattle.history.proofs.Frame.{frame-own, frame-other}
-use Rattle.history.proofs.Steps.{Left}
+use Rattle.history.proofs.Steps.{Represents}
 use Rattle.history.proofs.Users.{left-by}
 use Rattle.history.proofs.Carried.{madeOf, made-sound, Carries, carried}
 
@@ -37,10 +37,10 @@ pub stands-fresh : (s : Shape) → Stands s (freshKeeper (s .capacities)) (empty
 unfolding freshKeeper emptyState tillOf keptTill
 stands-fresh s = record { many = length-replicate (s .capacities .tills) noTill; tills = λ t. go (s .capacities .tills) t }
   where
-    none : AgreeTill (s .measures .blockBytes) noTill (viewOf (s .measures .blockBytes) (emptyState s .shelf) emptyTill)
+    none : AgreeTill (s .measures .blockBytes) noTill (viewOf (s .measures .blockBytes) (emptyState s .storage) emptyTill)
     none = unfold noTill emptyTill viewOf viewVersions in (refl, tt, refl)
 
-    go : (n t : ℕ) → AgreeTill (s .measures .blockBytes) (getD (replicate n noTill) t noTill) (viewOf (s .measures .blockBytes) (emptyState s .shelf) (getD (replicate n emptyTill) t emptyTill))
+    go : (n t : ℕ) → AgreeTill (s .measures .blockBytes) (getD (replicate n noTill) t noTill) (viewOf (s .measures .blockBytes) (emptyState s .storage) (getD (replicate n emptyTill) t emptyTill))
     go zero t = none
     go (suc n) zero = none
     go (suc n) (suc t) = go n t
@@ -175,7 +175,7 @@ stands-each s pr (m ∷ ms) st end h c k z =
     stands-each s pr ms (madeOf s st m) end (made-sound s pr st h m) (c .2) (fed k (m .call) (m .accepted)) (stands-made s pr m st h (c .0) (c .1) k z)
 
 -- after every list of calls
-pub stands-all : (s : Shape) (calls : List UserCall) (b : Buffers) (st : State) (k : Keeper) → Left s b st → Stands s k st → refusedLayouts b calls
+pub stands-all : (s : Shape) (calls : List UserCall) (b : Buffers) (st : State) (k : Keeper) → Represents s b st → Stands s k st → refusedLayouts b calls
     → Stands s (fedAll k b calls) (stateAfterAll s st calls)
 unfolding fedAll stateAfterAll
 stands-all s [] b st k l z r = z

@@ -8,7 +8,7 @@ use lib.ListN.{length, getD, set}
 use lib.Seq.{getD-set-same, getD-set-other}
 use Rattle.lists.proofs.Tests.{clause}
 use Rattle.model.specs.Measures.{Shape}
-use Rattle.model.specs.State.{Shelf, Version, Rights, Till, State}
+use Rattle.model.specs.State.{Storage, Version, Rights, Till, State}
 use Rattle.model.specs.Image.{Era, imageBlocks}
 use Rattle.model.specs.Sound.{isSound, isTill, allPointers}
 use Rattle.model.specs.Calls.{emptyTill, tillOf, withTill, heldBefore, closeUp, dayFor, After}
@@ -29,8 +29,8 @@ till-other : (st : State) (a : After) (t : ℕ) (till : Till) → a .state .till
 unfolding tillOf
 till-other st a t till e u ne = ap (λ (ts : List Till). getD ts u emptyTill) e ∙ getD-set-other (st .tills) t u till emptyTill ne
 
--- a till on a shelf that serves the pointers of all
-serves-till : (s : Shape) (a b : Shelf) (st : State) → Serves (s .measures) a b (allPointers (st .tills)) → (u : ℕ)
+-- a till on a storage that serves the pointers of all
+serves-till : (s : Shape) (a b : Storage) (st : State) → Serves (s .measures) a b (allPointers (st .tills)) → (u : ℕ)
     → viewOf (s .measures .blockBytes) b (tillOf st u) ≡ viewOf (s .measures .blockBytes) a (tillOf st u)
 unfolding tillOf
 serves-till s a b st sv u = view-again s a b (allPointers (st .tills)) sv (getD (st .tills) u emptyTill) (λ k i. till-among k i (st .tills) u)
@@ -43,9 +43,9 @@ module _ (era : Era) (s : Shape) (pr : Proper (s .measures)) (st : State) (h : i
   unfolding tillOf
   till-is = ap (λ (ts : List Till). getD ts t emptyTill) (f .tills) ∙ getD-set-same (st .tills) t (f .till) emptyTill (f .there)
 
-  old-views : viewVersions (s .measures .blockBytes) (f .placed) (tillOf st t .versions) ≡ viewVersions (s .measures .blockBytes) (st .shelf) (tillOf st t .versions)
+  old-views : viewVersions (s .measures .blockBytes) (f .placed) (tillOf st t .versions) ≡ viewVersions (s .measures .blockBytes) (st .storage) (tillOf st t .versions)
   unfolding tillOf
-  old-views = views-again s (st .shelf) (f .placed) (allPointers (st .tills)) (f .kept) (getD (st .tills) t emptyTill .versions) (λ k i. till-among k i (st .tills) t)
+  old-views = views-again s (st .storage) (f .placed) (allPointers (st .tills)) (f .kept) (getD (st .tills) t emptyTill .versions) (λ k i. till-among k i (st .tills) t)
 
   new-view : viewVersions (s .measures .blockBytes) (f .placed) (f .version ∷ [])
       ≡ record { number = suc (tillOf st t .last); length = length image; day = dayFor d (tillOf st t .versions); image = image; kinds = map (newKind era) (imageBlocks (s .measures .blockBytes) image) } ∷ []
@@ -58,8 +58,8 @@ module _ (era : Era) (s : Shape) (pr : Proper (s .measures)) (st : State) (h : i
   -- its day, by what the till showed
   dated : _≡_ {A = List VersionView}
       (record { number = suc (tillOf st t .last); length = length image; day = dayFor d (tillOf st t .versions); image = image; kinds = map (newKind era) (imageBlocks (s .measures .blockBytes) image) } ∷ [])
-      (record { number = suc (tillOf st t .last); length = length image; day = dayShown d (viewVersions (s .measures .blockBytes) (st .shelf) (tillOf st t .versions)); image = image; kinds = map (newKind era) (imageBlocks (s .measures .blockBytes) image) } ∷ [])
-  dated = ap (λ (w : VersionView). w ∷ []) (view-path _ _ _ _ _ _ _ _ _ _ refl refl (day-is (s .measures .blockBytes) (st .shelf) d (tillOf st t .versions)) refl refl)
+      (record { number = suc (tillOf st t .last); length = length image; day = dayShown d (viewVersions (s .measures .blockBytes) (st .storage) (tillOf st t .versions)); image = image; kinds = map (newKind era) (imageBlocks (s .measures .blockBytes) image) } ∷ [])
+  dated = ap (λ (w : VersionView). w ∷ []) (view-path _ _ _ _ _ _ _ _ _ _ refl refl (day-is (s .measures .blockBytes) (st .storage) d (tillOf st t .versions)) refl refl)
 
   all-views : viewVersions (s .measures .blockBytes) (f .placed) (f .till .versions)
       ≡ shownWith era (s .measures .blockBytes) (viewAt (s .measures .blockBytes) st t) d image .versions
@@ -72,15 +72,15 @@ module _ (era : Era) (s : Shape) (pr : Proper (s .measures)) (st : State) (h : i
 
   pub filed-own : viewAt (s .measures .blockBytes) (a .state) t ≡ shownWith era (s .measures .blockBytes) (viewAt (s .measures .blockBytes) st t) d image
   filed-own =
-      serves-till s (f .placed) (a .state .shelf) (a .state) (f .swept) t
+      serves-till s (f .placed) (a .state .storage) (a .state) (f .swept) t
       ∙ ap (viewOf (s .measures .blockBytes) (f .placed)) till-is
       ∙ (unfold viewOf shownWith in (λ j. record { last = f .last j; rights = f .rights j; versions = all-views j }))
 
   pub filed-other : (u : ℕ) → (u ≡ t → ⊥) → viewAt (s .measures .blockBytes) (a .state) u ≡ viewAt (s .measures .blockBytes) st u
   filed-other u ne =
-      serves-till s (f .placed) (a .state .shelf) (a .state) (f .swept) u
+      serves-till s (f .placed) (a .state .storage) (a .state) (f .swept) u
       ∙ ap (viewOf (s .measures .blockBytes) (f .placed)) (till-other st a t (f .till) (f .tills) u ne)
-      ∙ serves-till s (st .shelf) (f .placed) st (f .kept) u
+      ∙ serves-till s (st .storage) (f .placed) st (f .kept) u
 
 -- ---- retire
 
@@ -94,23 +94,23 @@ module _ (s : Shape) (st : State) (t v : ℕ) (a : After) (f : Retired s st t v 
 
   pub retired-own : viewAt (s .measures .blockBytes) (a .state) t ≡ shownWithout (viewAt (s .measures .blockBytes) st t) v
   retired-own =
-      serves-till s (st .shelf) (a .state .shelf) (a .state) (f .swept) t
-      ∙ ap (viewOf (s .measures .blockBytes) (st .shelf)) after-is
+      serves-till s (st .storage) (a .state .storage) (a .state) (f .swept) t
+      ∙ ap (viewOf (s .measures .blockBytes) (st .storage)) after-is
       ∙ (unfold viewOf shownWithout after in (λ j. record { last = tillOf st t .last; rights = tillOf st t .rights; versions = rest j }))
     where
       b : Between v (tillOf st t .versions) (f .version) (f .newer)
       b = between v (tillOf st t .versions) (f .version) (f .newer) (f .from)
 
-      rest : viewVersions (s .measures .blockBytes) (st .shelf) (closeUp (heldBefore v (tillOf st t .versions)) (f .version) (f .newer))
-          ≡ dropVersion v (viewVersions (s .measures .blockBytes) (st .shelf) (tillOf st t .versions))
+      rest : viewVersions (s .measures .blockBytes) (st .storage) (closeUp (heldBefore v (tillOf st t .versions)) (f .version) (f .newer))
+          ≡ dropVersion v (viewVersions (s .measures .blockBytes) (st .storage) (tillOf st t .versions))
       rest =
-          views-closed (s .measures) (st .shelf) v (f .version) (f .newer) (b .named) (heldBefore v (tillOf st t .versions)) (b .others)
-          ∙ ap (λ (vs : List Version). dropVersion v (viewVersions (s .measures .blockBytes) (st .shelf) vs)) (sym (b .split))
+          views-closed (s .measures) (st .storage) v (f .version) (f .newer) (b .named) (heldBefore v (tillOf st t .versions)) (b .others)
+          ∙ ap (λ (vs : List Version). dropVersion v (viewVersions (s .measures .blockBytes) (st .storage) vs)) (sym (b .split))
 
   pub retired-other : (u : ℕ) → (u ≡ t → ⊥) → viewAt (s .measures .blockBytes) (a .state) u ≡ viewAt (s .measures .blockBytes) st u
   retired-other u ne =
-      serves-till s (st .shelf) (a .state .shelf) (a .state) (f .swept) u
-      ∙ ap (viewOf (s .measures .blockBytes) (st .shelf)) (till-other st a t _ (f .tills) u ne)
+      serves-till s (st .storage) (a .state .storage) (a .state) (f .swept) u
+      ∙ ap (viewOf (s .measures .blockBytes) (st .storage)) (till-other st a t _ (f .tills) u ne)
 
 -- ---- rights
 
@@ -119,9 +119,9 @@ module _ (s : Shape) (st : State) (subject t : ℕ) (r : Rights) (a : After) (f 
   unfolding withTill
   tills-are = ap (λ (x : State). x .tills) (f .state)
 
-  shelf-is : a .state .shelf ≡ st .shelf
+  storage-is : a .state .storage ≡ st .storage
   unfolding withTill
-  shelf-is = ap (λ (x : State). x .shelf) (f .state)
+  storage-is = ap (λ (x : State). x .storage) (f .state)
 
   new-till : tillOf (a .state) t ≡ withRights (tillOf st t) subject r
   unfolding tillOf
@@ -129,7 +129,7 @@ module _ (s : Shape) (st : State) (subject t : ℕ) (r : Rights) (a : After) (f 
 
   pub rights-own : viewAt (s .measures .blockBytes) (a .state) t ≡ shownRights (viewAt (s .measures .blockBytes) st t) subject r
   unfolding viewOf shownRights withRights
-  rights-own = ap₂ (viewOf (s .measures .blockBytes)) shelf-is new-till
+  rights-own = ap₂ (viewOf (s .measures .blockBytes)) storage-is new-till
 
   pub rights-other : (u : ℕ) → (u ≡ t → ⊥) → viewAt (s .measures .blockBytes) (a .state) u ≡ viewAt (s .measures .blockBytes) st u
-  rights-other u ne = ap₂ (viewOf (s .measures .blockBytes)) shelf-is (till-other st a t _ tills-are u ne)
+  rights-other u ne = ap₂ (viewOf (s .measures .blockBytes)) storage-is (till-other st a t _ tills-are u ne)

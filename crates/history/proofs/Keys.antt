@@ -23,7 +23,7 @@ use Rattle.history.specs.Users.{rightFor, answerBy, refusalBy}
 use Rattle.history.specs.Keeper.{Keeper, keptTill}
 use Rattle.history.proofs.View.{viewOf}
 use Rattle.history.specs.Demand.{Keys}
-use Rattle.history.proofs.Steps.{Left, left-store, rights-same}
+use Rattle.history.proofs.Steps.{Represents, left-store, rights-same}
 use Rattle.history.proofs.Users.{refusal-at, set-refusal}
 use Rattle.history.proofs.Fed.{Stands}
 
@@ -32,7 +32,7 @@ pub may-missing : (k : Keeper) (u t : ℕ) (right : Right) → length k ≤ t �
 may-missing k zero t right h = refl
 may-missing k (suc u) t right h = rw (le-leb (length k) t h) refl
 
-module _ (s : Shape) (b : Buffers) (st : State) (k : Keeper) (l : Left s b st) (z : Stands s k st) where
+module _ (s : Shape) (b : Buffers) (st : State) (k : Keeper) (l : Represents s b st) (z : Stands s k st) where
   rights-kept : (t : ℕ) → tillOf st t .rights ≡ keptTill k t .rights
   unfolding viewOf
   rights-kept t = z .tills t .2

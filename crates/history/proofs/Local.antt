@@ -10,7 +10,7 @@ use lib.Dec.{eqb, leb, ltb}
 use Rattle.lists.specs.Lists.{every, firstFrom}
 use Rattle.lists.proofs.Tests.{by-test}
 use Rattle.model.specs.Measures.{Shape}
-use Rattle.model.specs.State.{Block, Shelf, Version, Rights, Till, State, Outcome, refused, done}
+use Rattle.model.specs.State.{Block, Storage, Version, Rights, Till, State, Outcome, refused, done}
 use Rattle.model.specs.Image.{Era, isBare, imageBlocks, imageSegments}
 use Rattle.model.specs.Records.{isFree, equals}
 use Rattle.model.specs.Runs.{Run, findRun}
@@ -31,29 +31,29 @@ abbrev NoRoom : {A : Type 0} → Outcome A → Type 0
 NoRoom (refused n) = (n ≡ 14) ⊎ (n ≡ 16)
 NoRoom (done a) = Unit {0}
 
-run-room : (era : Era) (a : Shelf) (seg : List Block) (k : ℕ) (o : Option Run) → NoRoom (writeRun era a seg k o)
+run-room : (era : Era) (a : Storage) (seg : List Block) (k : ℕ) (o : Option Run) → NoRoom (writeRun era a seg k o)
 unfolding writeRun
 run-room era a seg k none = inr refl
 run-room era a seg k (some run) = tt
 
-record-room : (era : Era) (a : Shelf) (seg : List Block) (o : Option ℕ) → NoRoom (writeRecord era a seg o)
+record-room : (era : Era) (a : Storage) (seg : List Block) (o : Option ℕ) → NoRoom (writeRecord era a seg o)
 unfolding writeRecord
 record-room era a seg none = inl refl
 record-room era a seg (some k) = run-room era a seg k (findRun a (length (stored era seg)))
 
-either-room : (era : Era) (a : Shelf) (seg : List Block) (o : Option ℕ) → NoRoom (shareOrWrite era a seg o)
+either-room : (era : Era) (a : Storage) (seg : List Block) (o : Option ℕ) → NoRoom (shareOrWrite era a seg o)
 unfolding shareOrWrite
 either-room era a seg none = record-room era a seg (firstFrom isFree 0 (a .records))
 either-room era a seg (some k) = tt
 
-segment-room : (era : Era) (a : Shelf) (seg : List Block) → NoRoom (placeSegment era a seg)
+segment-room : (era : Era) (a : Storage) (seg : List Block) → NoRoom (placeSegment era a seg)
 unfolding placeSegment
 segment-room era a seg = by-test NoRoom (every (isBare era) seg) (λ e. tt) (λ e. either-room era a seg (firstFrom (equals era a seg) 0 (a .records)))
 
 next-room : (era : Era) (o : Outcome Placed) (seg : List Block) → NoRoom o → NoRoom (placeNext era o seg)
 unfolding placeNext afterSome
 next-room era (refused n) seg h = h
-next-room era (done p) seg h = go (placeSegment era (p .shelf) seg) (segment-room era (p .shelf) seg)
+next-room era (done p) seg h = go (placeSegment era (p .storage) seg) (segment-room era (p .storage) seg)
   where
     go : (o : Outcome Placed) → NoRoom o → NoRoom (afterSome (p .pointers) o)
     go (refused n) h = h
@@ -67,15 +67,15 @@ all-room era o (seg ∷ segs) h = all-room era (placeNext era o seg) segs (next-
 -- ---- each call
 
 -- the answer of a backup, other than 14 and 16
-abbrev pub Roomy : Answer → Type 0
-Roomy a = (a ≡ backedUp 14 0 → ⊥) × (a ≡ backedUp 16 0 → ⊥)
+abbrev pub NotFull : Answer → Type 0
+NotFull a = (a ≡ backedUp 14 0 → ⊥) × (a ≡ backedUp 16 0 → ⊥)
 
 -- what a backup answers by its outcome
 abbrev pub outcomeAnswer : Outcome After → Answer
 outcomeAnswer o = backedUp (outcomeRefusal o) (outcomeNumber o)
 
 file-answer : (era : Era) (s : Shape) (st : State) (t day : ℕ) (image : List ℕ) (blocks : List Block) (till : Till) (o : Outcome Placed) → NoRoom o
-    → Roomy (outcomeAnswer (fileIn era s st t day image blocks till o)) → outcomeAnswer (fileIn era s st t day image blocks till o) ≡ backedUp 0 (suc (till .last))
+    → NotFull (outcomeAnswer (fileIn era s st t day image blocks till o)) → outcomeAnswer (fileIn era s st t day image blocks till o) ≡ backedUp 0 (suc (till .last))
 unfolding fileIn outcomeRefusal outcomeNumber
 file-answer era s st t day image blocks till (refused n) (inl e) r = absurd (r .0 (ap (λ (k : ℕ). backedUp k 0) e))
 file-answer era s st t day image blocks till (refused n) (inr e) r = absurd (r .1 (ap (λ (k : ℕ). backedUp k 0) e))
@@ -89,7 +89,7 @@ abbrev outcomeIf : Bool → Bool → Bool → Bool → Bool → Outcome After �
 outcomeIf gone size full top early o = cond gone (refused 3) (cond size (refused 4) (cond full (refused 11) (cond top (refused 12) (cond early (refused 28) o))))
 
 abbrev Is : Answer → Outcome After → Type 0
-Is a o = Roomy (outcomeAnswer o) → outcomeAnswer o ≡ a
+Is a o = NotFull (outcomeAnswer o) → outcomeAnswer o ≡ a
 
 in-order : (gone size full top early : Bool) (a : Answer) (o : Outcome After) → Is a o → Is (shownIf gone size full top early a) (outcomeIf gone size full top early o)
 in-order gone size full top early a o h = step gone 3 _ _ (step size 4 _ _ (step full 11 _ _ (step top 12 _ _ (step early 28 _ _ h))))
@@ -98,16 +98,16 @@ in-order gone size full top early a o h = step gone 3 _ _ (step size 4 _ _ (step
     step true n o a h r = unfold outcomeRefusal outcomeNumber in refl
     step false n o a h r = h r
 
-backup-shown : (era : Era) (s : Shape) (st : State) (t : ℕ) (d : Option ℕ) (image : List ℕ) → Roomy (outcomeAnswer (backup era s st t d image))
+backup-shown : (era : Era) (s : Shape) (st : State) (t : ℕ) (d : Option ℕ) (image : List ℕ) → NotFull (outcomeAnswer (backup era s st t d image))
     → outcomeAnswer (backup era s st t d image) ≡ answerShown s (viewAt (s .measures .blockBytes) st t) (callBackup era t d image)
 unfolding answerShown backup viewOf
 backup-shown era s st t d image =
     subst
-    (λ (e : Bool). Is (shownIf gone size (leb (s .capacities .versions) (length (viewVersions (s .measures .blockBytes) (st .shelf) (tillOf st t .versions)))) top e given)
+    (λ (e : Bool). Is (shownIf gone size (leb (s .capacities .versions) (length (viewVersions (s .measures .blockBytes) (st .storage) (tillOf st t .versions)))) top e given)
     (outcomeIf gone size full top early (placeAndFile era s st t day image (tillOf st t))))
-    (ap₂ ltb (day-is (s .measures .blockBytes) (st .shelf) d (tillOf st t .versions)) (newest-day-is (s .measures .blockBytes) (st .shelf) (tillOf st t .versions)))
+    (ap₂ ltb (day-is (s .measures .blockBytes) (st .storage) d (tillOf st t .versions)) (newest-day-is (s .measures .blockBytes) (st .storage) (tillOf st t .versions)))
     (subst (λ (n : ℕ). Is (shownIf gone size (leb (s .capacities .versions) n) top early given) (outcomeIf gone size full top early (placeAndFile era s st t day image (tillOf st t))))
-    (sym (views-length (s .measures .blockBytes) (st .shelf) (tillOf st t .versions)))
+    (sym (views-length (s .measures .blockBytes) (st .storage) (tillOf st t .versions)))
     (in-order gone size full top early given (placeAndFile era s st t day image (tillOf st t)) filed))
   where
     day : ℕ
@@ -135,8 +135,8 @@ backup-shown era s st t d image =
     filed =
         unfold placeAndFile in
         file-answer era s st t day image (imageBlocks (s .measures .blockBytes) image) (tillOf st t)
-        (placeAll era (done (record { shelf = st .shelf; pointers = [] })) (imageSegments (s .measures .blockBytes) (s .measures .segmentBlocks) image))
-        (all-room era (done (record { shelf = st .shelf; pointers = [] })) (imageSegments (s .measures .blockBytes) (s .measures .segmentBlocks) image) tt)
+        (placeAll era (done (record { storage = st .storage; pointers = [] })) (imageSegments (s .measures .blockBytes) (s .measures .segmentBlocks) image))
+        (all-room era (done (record { storage = st .storage; pointers = [] })) (imageSegments (s .measures .blockBytes) (s .measures .segmentBlocks) image) tt)
 
 -- a restore, from what the till shows
 restore-view : (s : Shape) (st : State) (t v : ℕ) (output : List ℕ)
@@ -145,17 +145,17 @@ restore-view : (s : Shape) (st : State) (t v : ℕ) (output : List ℕ)
 unfolding restore lookUp viewOf
 restore-view s st t v output =
     ap (λ (r : RestoreAnswer). cond (leb (s .capacities .tills) t) (restoreRefusal 3 output) r)
-    (first (heldFrom v (tillOf st t .versions)) ∙ ap (λ (l : List VersionView). restoreShown (notHeld (tillOf st t .last) v) l output) (sym (from-same (s .measures .blockBytes) (st .shelf) v (tillOf st t .versions))))
+    (first (heldFrom v (tillOf st t .versions)) ∙ ap (λ (l : List VersionView). restoreShown (notHeld (tillOf st t .last) v) l output) (sym (from-same (s .measures .blockBytes) (st .storage) v (tillOf st t .versions))))
   where
     first : (vs : List Version)
-        → restoreFrom (s .measures .blockBytes) (st .shelf) (firstOf (notHeld (tillOf st t .last) v) (heldBefore v (tillOf st t .versions)) vs) output
-        ≡ restoreShown (notHeld (tillOf st t .last) v) (viewVersions (s .measures .blockBytes) (st .shelf) vs) output
+        → restoreFrom (s .measures .blockBytes) (st .storage) (firstOf (notHeld (tillOf st t .last) v) (heldBefore v (tillOf st t .versions)) vs) output
+        ≡ restoreShown (notHeld (tillOf st t .last) v) (viewVersions (s .measures .blockBytes) (st .storage) vs) output
     first [] = unfold restoreFrom firstOf restoreShown viewVersions in refl
     first (w ∷ ws) =
         unfold restoreFrom firstOf restoreShown viewVersions in
         ap (λ (c : ℕ). cond (ltb (length output) (w .length)) (restoreRefusal 5 output)
-        (record { refusal = 0; length = w .length; hops = c; output = imageOf (s .measures .blockBytes) (st .shelf) (w ∷ ws) ++ drop (w .length) output }))
-        (unfold viewVersions in chain-is (s .measures .blockBytes) (st .shelf) (w ∷ ws))
+        (record { refusal = 0; length = w .length; hops = c; output = imageOf (s .measures .blockBytes) (st .storage) (w ∷ ws) ++ drop (w .length) output }))
+        (unfold viewVersions in chain-is (s .measures .blockBytes) (st .storage) (w ∷ ws))
 
 restore-shown : (s : Shape) (st : State) (t v : ℕ) (output : List ℕ)
     → restored (restore s st t v output) ≡ answerShown s (viewAt (s .measures .blockBytes) st t) (callRestore t v output)
@@ -174,31 +174,31 @@ retire-shown : (s : Shape) (st : State) (t v : ℕ) → retiredFrom (retire s st
 unfolding retire lookUp answerShown viewOf
 retire-shown s st t v = either (leb (s .capacities .tills) t)
   where
-    one : (n : ℕ) (older hs : List Version) → retiredFrom (retireFrom s st t (tillOf st t) (firstOf n older hs)) ≡ retireShown n (viewVersions (s .measures .blockBytes) (st .shelf) hs)
+    one : (n : ℕ) (older hs : List Version) → retiredFrom (retireFrom s st t (tillOf st t) (firstOf n older hs)) ≡ retireShown n (viewVersions (s .measures .blockBytes) (st .storage) hs)
     one n older [] = unfold retireFrom firstOf retireShown viewVersions outcomeRefusal outcomeNumber in refl
     one n older (w ∷ ws) = unfold retireFrom firstOf retireShown viewVersions outcomeRefusal outcomeNumber in refl
 
     either : (b : Bool)
         → retiredFrom (cond b (refused 3) (retireFrom s st t (tillOf st t) (firstOf (notHeld (tillOf st t .last) v) (heldBefore v (tillOf st t .versions)) (heldFrom v (tillOf st t .versions)))))
-        ≡ cond b (retired 3 0) (retireShown (notHeld (tillOf st t .last) v) (shownFrom v (viewVersions (s .measures .blockBytes) (st .shelf) (tillOf st t .versions))))
+        ≡ cond b (retired 3 0) (retireShown (notHeld (tillOf st t .last) v) (shownFrom v (viewVersions (s .measures .blockBytes) (st .storage) (tillOf st t .versions))))
     either true = unfold outcomeRefusal outcomeNumber in refl
     either false =
         one (notHeld (tillOf st t .last) v) (heldBefore v (tillOf st t .versions)) (heldFrom v (tillOf st t .versions))
-        ∙ ap (retireShown (notHeld (tillOf st t .last) v)) (sym (from-same (s .measures .blockBytes) (st .shelf) v (tillOf st t .versions)))
+        ∙ ap (retireShown (notHeld (tillOf st t .last) v)) (sym (from-same (s .measures .blockBytes) (st .storage) v (tillOf st t .versions)))
 
 listing-shown : (s : Shape) (st : State) (t : ℕ)
     → listed (listingIn (some (record { shape = s; state = st })) t) ≡ answerShown s (viewAt (s .measures .blockBytes) st t) (callListing t)
 unfolding listingIn listTill answerShown viewOf
 listing-shown s st t =
     ap₂ (λ (o n : ℕ). listed (cond (leb (s .capacities .tills) t) (listingRefusal 3) (record { refusal = 0; oldest = o; newest = n; last = tillOf st t .last })))
-    (oldest-is (s .measures .blockBytes) (st .shelf) (tillOf st t .versions)) (newest-is (s .measures .blockBytes) (st .shelf) (tillOf st t .versions))
+    (oldest-is (s .measures .blockBytes) (st .storage) (tillOf st t .versions)) (newest-is (s .measures .blockBytes) (st .storage) (tillOf st t .versions))
 
 found-shown : (s : Shape) (st : State) (t day : ℕ)
     → foundOn (versionOnIn (some (record { shape = s; state = st })) t day) ≡ answerShown s (viewAt (s .measures .blockBytes) st t) (callVersionOn t day)
 unfolding versionOnIn notAfter answerShown shownNotAfter viewOf
 found-shown s st t day =
     ap (λ (a : VersionOnAnswer). foundOn (cond (leb (s .capacities .tills) t) (record { refusal = 3; version = 0 }) a))
-    (newest-or-none (s .measures .blockBytes) (st .shelf) day (tillOf st t .versions))
+    (newest-or-none (s .measures .blockBytes) (st .storage) day (tillOf st t .versions))
 
 rights-shown : (s : Shape) (st : State) (subject t : ℕ) (r : Rights)
     → rightsSet (outcomeRefusal (setRights s st 0 subject t r)) ≡ answerShown s (viewAt (s .measures .blockBytes) st t) (callSetRights subject t r)
@@ -208,7 +208,7 @@ rights-shown s st subject t r = ap rightsSet (set-refusal s st 0 subject t r)
 -- a backup is not answered 14 or 16; of any other call nothing is asked
 abbrev pub HasRoom : Call → Answer → Type 0
 HasRoom (callLayout c) a = Unit {0}
-HasRoom (callBackup era t d image) a = Roomy a
+HasRoom (callBackup era t d image) a = NotFull a
 HasRoom (callRestore t v output) a = Unit {0}
 HasRoom (callRetire t v) a = Unit {0}
 HasRoom (callListing t) a = Unit {0}

@@ -11,7 +11,7 @@ use borrow.Author.Tests.{eqb-false}
 use Rattle.lists.specs.Lists.{every, firstFrom}
 use Rattle.lists.proofs.Tests.{by-test}
 use Rattle.model.specs.Measures.{Shape}
-use Rattle.model.specs.State.{Block, Shelf, Version, Rights, staff, State, Outcome, refused, done}
+use Rattle.model.specs.State.{Block, Storage, Version, Rights, staff, State, Outcome, refused, done}
 use Rattle.model.specs.Image.{Era, isBare, imageBlocks, imageSegments}
 use Rattle.model.specs.Records.{isFree, equals}
 use Rattle.model.specs.Runs.{Run, findRun}
@@ -31,29 +31,29 @@ unless-numbered n o h = go (eqb n 0) refl
     go true q = h
     go false q = let some : 0 < n = omega (arith, eqb-false n 0 q) in some
 
-run-numbered : (era : Era) (a : Shelf) (seg : List Block) (k : ℕ) (o : Option Run) → Numbered (writeRun era a seg k o)
+run-numbered : (era : Era) (a : Storage) (seg : List Block) (k : ℕ) (o : Option Run) → Numbered (writeRun era a seg k o)
 unfolding writeRun
 run-numbered era a seg k none = lit< tt
 run-numbered era a seg k (some run) = tt
 
-record-numbered : (era : Era) (a : Shelf) (seg : List Block) (o : Option ℕ) → Numbered (writeRecord era a seg o)
+record-numbered : (era : Era) (a : Storage) (seg : List Block) (o : Option ℕ) → Numbered (writeRecord era a seg o)
 unfolding writeRecord
 record-numbered era a seg none = lit< tt
 record-numbered era a seg (some k) = run-numbered era a seg k (findRun a (length (stored era seg)))
 
-either-numbered : (era : Era) (a : Shelf) (seg : List Block) (o : Option ℕ) → Numbered (shareOrWrite era a seg o)
+either-numbered : (era : Era) (a : Storage) (seg : List Block) (o : Option ℕ) → Numbered (shareOrWrite era a seg o)
 unfolding shareOrWrite
 either-numbered era a seg none = record-numbered era a seg (firstFrom isFree 0 (a .records))
 either-numbered era a seg (some k) = tt
 
-segment-numbered : (era : Era) (a : Shelf) (seg : List Block) → Numbered (placeSegment era a seg)
+segment-numbered : (era : Era) (a : Storage) (seg : List Block) → Numbered (placeSegment era a seg)
 unfolding placeSegment
 segment-numbered era a seg = by-test Numbered (every (isBare era) seg) (λ e. tt) (λ e. either-numbered era a seg (firstFrom (equals era a seg) 0 (a .records)))
 
 next-numbered : (era : Era) (o : Outcome Placed) (seg : List Block) → Numbered o → Numbered (placeNext era o seg)
 unfolding placeNext afterSome
 next-numbered era (refused n) seg h = h
-next-numbered era (done p) seg h = go (placeSegment era (p .shelf) seg) (segment-numbered era (p .shelf) seg)
+next-numbered era (done p) seg h = go (placeSegment era (p .storage) seg) (segment-numbered era (p .storage) seg)
   where
     go : (o : Outcome Placed) → Numbered o → Numbered (afterSome (p .pointers) o)
     go (refused n) h = h
@@ -72,8 +72,8 @@ backup-numbered era s st t d image =
     (λ e. by-test Numbered (leb (s .capacities .versions) (length (tillOf st t .versions))) (λ e. lit< tt)
     (λ e. by-test Numbered (eqb (tillOf st t .last) 65535) (λ e. lit< tt)
     (λ e. by-test Numbered (ltb (dayFor d (tillOf st t .versions)) (newestDay (tillOf st t .versions))) (λ e. lit< tt)
-    (λ e. go (dayFor d (tillOf st t .versions)) (placeAll era (done (record { shelf = st .shelf; pointers = [] })) (imageSegments (s .measures .blockBytes) (s .measures .segmentBlocks) image))
-    (all-numbered era (done (record { shelf = st .shelf; pointers = [] })) (imageSegments (s .measures .blockBytes) (s .measures .segmentBlocks) image) tt))))))
+    (λ e. go (dayFor d (tillOf st t .versions)) (placeAll era (done (record { storage = st .storage; pointers = [] })) (imageSegments (s .measures .blockBytes) (s .measures .segmentBlocks) image))
+    (all-numbered era (done (record { storage = st .storage; pointers = [] })) (imageSegments (s .measures .blockBytes) (s .measures .segmentBlocks) image) tt))))))
   where
     go : (day : ℕ) (o : Outcome Placed) → Numbered o → Numbered (fileIn era s st t day image (imageBlocks (s .measures .blockBytes) image) (tillOf st t) o)
     go day (refused n) h = unfold fileIn in h

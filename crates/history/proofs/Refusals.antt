@@ -8,7 +8,7 @@ use lib.ListN.{length}
 use lib.Dec.{eqb, leb, ltb}
 use Rattle.lists.proofs.Tests.{by-test}
 use Rattle.model.specs.Measures.{Shape}
-use Rattle.model.specs.State.{Rights, Shelf, Version, Outcome, refused, done}
+use Rattle.model.specs.State.{Rights, Storage, Version, Outcome, refused, done}
 use Rattle.model.specs.Sound.{Store, storeOf}
 use Rattle.model.specs.Calls.{layoutOf, BackupAnswer, RetireAnswer, TallyAnswer, backup, backupIn, backupBy, backupAnswer, restore, restoreFrom, restoreIn, restoreOf, restoreRefusal, RestoreAnswer, tillOf, retire, retireIn, retireOf, retireAnswer, VersionOnAnswer, notAfter, newestOrNone, versionOnIn, versionOnOf, listingIn, listingOf, listingRefusal, listTill, ListingAnswer, tallyIn, tallyOf, After, Lookup, found, missing, lookUp}
 use Rattle.model.specs.Rights.{toList, toBackUp, toRestore, toRetire, refusalFor, ownerRefusal, unless, backupRefusal, backupAs, restoreAs, retireRefusal, retireAs, listingAs, versionOnRefusal, versionOnAs, tallyRefusal, tallyAs, setRights, rightsAnswer, setRightsIn, setRightsOf}
@@ -118,7 +118,7 @@ refusedWith n (callSetRights subject t r) = rightsSet n
 abbrev ZeroRestore : List ℕ → RestoreAnswer → Type 0
 ZeroRestore output r = ¬ (r .refusal ≡ 0) → r ≡ record { refusal = r .refusal; length = 0; hops = 0; output = output }
 
-from-zero : (bytes : ℕ) (a : Shelf) (output : List ℕ) (l : Lookup) → ZeroRestore output (restoreFrom bytes a l output)
+from-zero : (bytes : ℕ) (a : Storage) (output : List ℕ) (l : Lookup) → ZeroRestore output (restoreFrom bytes a l output)
 unfolding restoreFrom restoreRefusal
 from-zero bytes a output (missing n) = λ h. refl
 from-zero bytes a output (found older v newer) = by-test (ZeroRestore output) (ltb (length output) (v .length)) (λ e h. refl) (λ e h. absurd (h refl))
@@ -128,7 +128,7 @@ unfolding restoreIn restore restoreRefusal
 restore-zero t v output none = λ h. refl
 restore-zero t v output (some x) =
     by-test (ZeroRestore output) (leb (x .shape .capacities .tills) t) (λ e h. refl)
-    (λ e. from-zero (x .shape .measures .blockBytes) (x .state .shelf) output (lookUp (tillOf (x .state) t) v))
+    (λ e. from-zero (x .shape .measures .blockBytes) (x .state .storage) output (lookUp (tillOf (x .state) t) v))
 
 abbrev ZeroListing : ListingAnswer → Type 0
 ZeroListing r = ¬ (r .refusal ≡ 0) → r ≡ record { refusal = r .refusal; oldest = 0; newest = 0; last = 0 }

@@ -15,7 +15,7 @@ use Rattle.history.proofs.Calls.{answerIn}
 use Rattle.history.specs.Users.{answerInBy}
 use Rattle.history.proofs.View.{TillView, viewOf, viewAt, isOnTill, answerShown}
 use Rattle.history.proofs.Users.{set-refusal}
-use Rattle.history.proofs.Local.{Roomy, HasRoom, answer-in}
+use Rattle.history.proofs.Local.{NotFull, HasRoom, answer-in}
 
 -- what waits for a right, on both states
 pub unless-same : {A B : Type 0} (F : A → B) (n n′ : ℕ) → n ≡ n′ → (refuse : ℕ → A) (a a′ : A) → (eqb n 0 ≡ true → F (unless n refuse a) ≡ F a → F (unless n′ refuse a′) ≡ F a′ → F a ≡ F a′)
@@ -46,7 +46,7 @@ module _ (s : Shape) (st st′ : State) (u : ℕ) where
   same-by (callLayout c) on room room′ e = absurd (false≢true on)
   same-by (callBackup era t d image) on room room′ e =
       unless-same (λ (o : Outcome After). backedUp (outcomeRefusal o) (outcomeNumber o)) (refusalAt s st u t toBackUp) (refusalAt s st′ u t toBackUp) (refusal-same t toBackUp e) refused
-      (backup era s st t d image) (backup era s st′ t d image) (λ q p p′. plain-same (callBackup era t d image) refl (subst Roomy p room) (subst Roomy p′ room′) e)
+      (backup era s st t d image) (backup era s st′ t d image) (λ q p p′. plain-same (callBackup era t d image) refl (subst NotFull p room) (subst NotFull p′ room′) e)
   same-by (callRestore t v output) on room room′ e =
       unless-same restored (refusalAt s st u t toRestore) (refusalAt s st′ u t toRestore) (refusal-same t toRestore e) (λ n. restoreRefusal n output)
       (restore s st t v output) (restore s st′ t v output) (λ q p p′. plain-same (callRestore t v output) refl tt tt e)

@@ -12,7 +12,7 @@ use Rattle.lists.proofs.Counted.{counted-same}
 use Rattle.lists.proofs.Keep.{keep-same}
 use Rattle.lists.proofs.Tests.{clause, every-at}
 use Rattle.model.specs.Measures.{Shape}
-use Rattle.model.specs.State.{Pointer, nullPointer, blankPointer, direct, indirect, Shelf, Version, Till, State}
+use Rattle.model.specs.State.{Pointer, nullPointer, blankPointer, direct, indirect, Storage, Version, Till, State}
 use Rattle.model.specs.Trace.{imageOf, hopsVia, hops, longestChain}
 use Rattle.model.specs.Sound.{isSound, isTill, isNumbered}
 use Rattle.model.specs.Calls.{emptyTill, tillOf, heldFrom, oldestNumber, newestNumber, newestDay, dayFor, VersionOnAnswer, notAfter, newestOrNone}
@@ -52,7 +52,7 @@ unfolding newestShownOrNone newestOf
 of-views [] = refl
 of-views (w ∷ ws) = ap (λ (n : ℕ). record { refusal = 0; version = n }) (newest-shown (w ∷ ws))
 
-module _ (bytes : ℕ) (a : Shelf) where
+module _ (bytes : ℕ) (a : Storage) where
   pub views-numbers : (vs : List Version) → map (λ (w : VersionView). w .number) (viewVersions bytes a vs) ≡ map (λ (v : Version). v .number) vs
   unfolding viewVersions
   views-numbers [] = refl
@@ -140,10 +140,10 @@ pub shown-numbers : (s : Shape) (st : State) → isSound s st ≡ true → (t : 
     → rises 0 (viewAt (s .measures .blockBytes) st t .last) (map (λ (w : VersionView). w .number) (viewAt (s .measures .blockBytes) st t .versions)) ≡ true
 unfolding viewOf
 shown-numbers s st h t =
-    ap (rises 0 (tillOf st t .last)) (views-numbers (s .measures .blockBytes) (st .shelf) (tillOf st t .versions)) ∙ go (ltb t (length (st .tills))) refl
+    ap (rises 0 (tillOf st t .last)) (views-numbers (s .measures .blockBytes) (st .storage) (tillOf st t .versions)) ∙ go (ltb t (length (st .tills))) refl
   where
     go : (b : Bool) → ltb t (length (st .tills)) ≡ b → rises 0 (tillOf st t .last) (map (λ (v : Version). v .number) (tillOf st t .versions)) ≡ true
-    go true q = unfold tillOf isTill isNumbered in clause _ 2 (clause _ 0 (every-at (isTill s (st .shelf)) emptyTill (st .tills) (sound-valid s st h .tills) t (ltb-true t (length (st .tills)) q)))
+    go true q = unfold tillOf isTill isNumbered in clause _ 2 (clause _ 0 (every-at (isTill s (st .storage)) emptyTill (st .tills) (sound-valid s st h .tills) t (ltb-true t (length (st .tills)) q)))
     go false q =
         let gone : tillOf st t ≡ emptyTill = unfold tillOf in List·getD-eq-default (st .tills) emptyTill (ltb-false t (length (st .tills)) q) in
         subst (λ (x : Till). rises 0 (x .last) (map (λ (v : Version). v .number) (x .versions)) ≡ true) (sym gone) (unfold emptyTill rises in refl)

@@ -25,14 +25,14 @@ use Rattle.history.proofs.Calls.{refusalOf, buffersAfter, answerOf, sta
 use Rattle.history.specs.Demand.{laidOutIn}
 use Rattle.history.proofs.Reach.{sound-after}
 
-pub record Left (s : Shape) (b : Buffers) (st : State) : Type 0 where
+pub record Represents (s : Shape) (b : Buffers) (st : State) : Type 0 where
   pub fit : Fit s
   pub pool : b .pool ≡ stateToBytes st
   pub table : b .table ≡ stateToWords s st
   pub sound : isSound s st ≡ true
 
 -- the store that a call finds
-pub left-store : (s : Shape) (b : Buffers) (st : State) → Left s b st → storeOf (b .pool) (b .table) ≡ some (record { shape = s; state = st })
+pub left-store : (s : Shape) (b : Buffers) (st : State) → Represents s b st → storeOf (b .pool) (b .table) ≡ some (record { shape = s; state = st })
 left-store s b st e = ap₂ storeOf (e .pool) (e .table) ∙ round-trip s st (e .fit) (e .sound)
 
 -- ---- what is left
@@ -56,12 +56,12 @@ closing-words s b st (refused n) p q = (p, q)
 closing-words s b st (done c) p q = (refl, refl)
 
 -- what a user's closing and a user's change of rights leave
-pub closing-left : (s : Shape) (b : Buffers) (st : State) → Left s b st → (u : ℕ) (ts ns is : List ℕ)
+pub closing-left : (s : Shape) (b : Buffers) (st : State) → Represents s b st → (u : ℕ) (ts ns is : List ℕ)
     → (backupAllAs (b .pool) (b .table) u ts ns is .pool ≡ stateToBytes (closedOr st (backupAll s st u ts ns is))) × (backupAllAs (b .pool) (b .table) u ts ns is .table ≡ stateToWords s (closedOr st (backupAll s st u ts ns is)))
 unfolding backupAllAs backupAllIn
 closing-left s b st e u ts ns is = rw (left-store s b st e) (closing-words s b st (backupAll s st u ts ns is) (e .pool) (e .table))
 
-pub rights-left : (s : Shape) (b : Buffers) (st : State) → Left s b st → (u subject t : ℕ) (r : Rights)
+pub rights-left : (s : Shape) (b : Buffers) (st : State) → Represents s b st → (u subject t : ℕ) (r : Rights)
     → (b .pool ≡ stateToBytes (stateOr st (setRights s st u subject t r))) × (setRightsOf (b .pool) (b .table) u subject t r .table ≡ stateToWords s (stateOr st (setRights s st u subject t r)))
 unfolding setRightsOf setRightsIn
 rights-left s b st e u subject t r = rw (left-store s b st e) (go (setRights s st u subject t r) refl)
@@ -70,7 +70,7 @@ rights-left s b st e u subject t r = rw (left-store s b st e) (go (setRights s s
     go (refused n) q = unfold rightsAnswer stateOr in (e .pool, e .table)
     go (done a) q = unfold rightsAnswer stateOr in (e .pool ∙ rights-set s st u subject t r a (e .sound) q .bytes, refl)
 
-pub left-one : (s : Shape) (b : Buffers) (st : State) (call : Call) → Left s b st → refusedLayout b call → Left s (buffersAfter b call) (stateAfter s st call)
+pub left-one : (s : Shape) (b : Buffers) (st : State) (call : Call) → Represents s b st → refusedLayout b call → Represents s (buffersAfter b call) (stateAfter s st call)
 left-one s b st call e r = record { fit = e .fit; pool = words call r .0; table = words call r .1; sound = sound-after s (e .fit .proper) st (e .sound) call }
   where
     words : (call : Call) → refusedLayout b call
@@ -95,7 +95,7 @@ left-one s b st call e r = record { fit = e .fit; pool = words call r .0; table 
     words (callSetRights subject t r) w = unfold buffersAfter stateAfter in rights-left s b st e 0 subject t r
 
 -- an accepted lay out leaves the empty state
-pub left-laid : (s : Shape) (pool table : List ℕ) → layoutOf s pool table .refusal ≡ 0 → Left s (laidOutIn s pool table) (emptyState s)
+pub left-laid : (s : Shape) (pool table : List ℕ) → layoutOf s pool table .refusal ≡ 0 → Represents s (laidOutIn s pool table) (emptyState s)
 unfolding laidOutIn
 left-laid s pool table h =
     let a = layout-accepted s pool table h in record { fit = range-fit s (a .0); pool = a .1; table = a .2; sound = empty-sound s (a .0) }
@@ -109,7 +109,7 @@ backup-answer s b (refused n) = refl
 backup-answer s b (done a) = refl
 
 -- a closing's answer
-pub closing-same : (s : Shape) (b : Buffers) (st : State) → Left s b st → (u : ℕ) (ts ns is : List ℕ) → backupAllAs (b .pool) (b .table) u ts ns is .answer ≡ allAnswer (backupAll s st u ts ns is)
+pub closing-same : (s : Shape) (b : Buffers) (st : State) → Represents s b st → (u : ℕ) (ts ns is : List ℕ) → backupAllAs (b .pool) (b .table) u ts ns is .answer ≡ allAnswer (backupAll s st u ts ns is)
 unfolding backupAllAs backupAllIn
 closing-same s b st e u ts ns is = rw (left-store s b st e) (go (backupAll s st u ts ns is))
   where
@@ -118,7 +118,7 @@ closing-same s b st e u ts ns is = rw (left-store s b st e) (go (backupAll s st 
     go (done c) = unfold backupAllAnswer in refl
 
 -- that of a change of rights
-pub rights-same : (s : Shape) (b : Buffers) (st : State) → Left s b st → (u subject t : ℕ) (r : Rights) → setRightsOf (b .pool) (b .table) u subject t r .refusal ≡ outcomeRefusal (setRights s st u subject t r)
+pub rights-same : (s : Shape) (b : Buffers) (st : State) → Represents s b st → (u subject t : ℕ) (r : Rights) → setRightsOf (b .pool) (b .table) u subject t r .refusal ≡ outcomeRefusal (setRights s st u subject t r)
 unfolding setRightsOf setRightsIn
 rights-same s b st e u subject t r = rw (left-store s b st e) (go (setRights s st u subject t r))
   where
@@ -127,7 +127,7 @@ rights-same s b st e u subject t r = rw (left-store s b st e) (go (setRights s s
     go (done a) = unfold rightsAnswer outcomeRefusal in refl
 
 -- what a call answers on the buffers is what it answers on the state
-pub answer-same : (s : Shape) (b : Buffers) (st : State) (call : Call) → Left s b st → answerOf b call ≡ answerIn s st call
+pub answer-same : (s : Shape) (b : Buffers) (st : State) (call : Call) → Represents s b st → answerOf b call ≡ answerIn s st call
 unfolding answerOf answerIn
 answer-same s b st (callLayout c) e = ap₂ (λ (pool table : List ℕ). laidOut (layoutOf c pool table .refusal)) (e .pool) (e .table)
 answer-same s b st (callBackup era t d image) e =
@@ -157,6 +157,6 @@ answer-same s b st (callBackupSent t n fs ms ss) e =
 answer-same s b st (callBackupAll ts ns is) e = ap backedUpAll (closing-same s b st e 0 ts ns is)
 answer-same s b st (callSetRights subject t r) e = ap rightsSet (rights-same s b st e 0 subject t r)
 
-pub accepted-same : (s : Shape) (b : Buffers) (st : State) (call : Call) → Left s b st → eqb (refusalOf b call) 0 ≡ isAccepted s st call
+pub accepted-same : (s : Shape) (b : Buffers) (st : State) (call : Call) → Represents s b st → eqb (refusalOf b call) 0 ≡ isAccepted s st call
 unfolding refusalOf isAccepted
 accepted-same s b st call e = ap (λ (a : Answer). eqb (refusalIn a) 0) (answer-same s b st call e)

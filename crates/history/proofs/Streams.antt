@@ -18,7 +18,7 @@ use Rattle.model.specs.Sound.{hasLength, areTraceable}
 use Rattle.laws.proofs.Tills.{not-held-some}
 use Rattle.model.specs.Calls.{tillOf, heldFrom, RestoreAnswer, restoreOf, restoreRefusal, notHeld}
 use Rattle.model.specs.Rights.{toRestore, userRefusal, restoreAs}
-use Rattle.laws.specs.Stores.{Header}
+use Rattle.laws.specs.Stores.{HeaderRanges}
 use Rattle.laws.proofs.Stores.{sound-if, header}
 use Rattle.stream.specs.Stream.{StreamAnswer, streamRefusal, streamOf, writeStream}
 use Rattle.stream.specs.Version.{longestOutput, writeRestored, writeStreamOf, writeStreamAs}
@@ -32,7 +32,7 @@ use Rattle.history.proofs.Shown.{from-same}
 use Rattle.history.proofs.Chains.{from-traceable, all-traceable}
 use Rattle.history.proofs.Kept.{Agree, agree-from}
 use Rattle.history.proofs.Fed.{Stands}
-use Rattle.history.proofs.Steps.{Left, left-store}
+use Rattle.history.proofs.Steps.{Represents, left-store}
 use Rattle.history.proofs.Bullets.{restores}
 use Rattle.history.proofs.Keys.{may-same, may-missing}
 
@@ -62,11 +62,11 @@ short-write image output h = rw (lt-leb (length (streamOf image)) (length output
 
 -- ---- a kept image has a stream
 
-header-most : (table : List ℕ) → Header table → shapeOf table .measures .blockBytes * shapeOf table .capacities .blocks ≤ 65536
+header-most : (table : List ℕ) → HeaderRanges table → shapeOf table .measures .blockBytes * shapeOf table .capacities .blocks ≤ 65536
 unfolding shapeOf
 header-most table h = subst (λ (n : ℕ). n ≤ 65536) (mul-comm (shapeOf table .capacities .blocks) (shapeOf table .measures .blockBytes)) (h .image)
 
-module _ (s : Shape) (b : Buffers) (st : State) (k : Keeper) (l : Left s b st) (z : Stands s k st) where
+module _ (s : Shape) (b : Buffers) (st : State) (k : Keeper) (l : Represents s b st) (z : Stands s k st) where
   most : s .measures .blockBytes * s .capacities .blocks ≤ 65536
   unfolding isSome
   most =
@@ -75,8 +75,8 @@ module _ (s : Shape) (b : Buffers) (st : State) (k : Keeper) (l : Left s b st) (
       subst (λ (x : Shape). x .measures .blockBytes * x .capacities .blocks ≤ 65536) e
       (header-most (b .table) h)
 
-  first-length : (t : ℕ) (x : Kept) (newer : List Kept) (hs : List Version) → areTraceable (s .measures .blockBytes) (s .capacities .blocks) (st .shelf) hs ≡ true
-      → Agree (s .measures .blockBytes) (x ∷ newer) (viewVersions (s .measures .blockBytes) (st .shelf) hs) → (1 ≤ length (x .image)) × (length (x .image) ≤ 65536)
+  first-length : (t : ℕ) (x : Kept) (newer : List Kept) (hs : List Version) → areTraceable (s .measures .blockBytes) (s .capacities .blocks) (st .storage) hs ≡ true
+      → Agree (s .measures .blockBytes) (x ∷ newer) (viewVersions (s .measures .blockBytes) (st .storage) hs) → (1 ≤ length (x .image)) × (length (x .image) ≤ 65536)
   unfolding areTraceable hasLength isWithin viewVersions
   first-length t x newer [] tr a = absurd a
   first-length t x newer (v ∷ vs) tr a =
@@ -89,8 +89,8 @@ module _ (s : Shape) (b : Buffers) (st : State) (k : Keeper) (l : Left s b st) (
   unfolding viewOf
   kept-length t v x newer e =
       first-length t x newer (heldFrom v (tillOf st t .versions))
-      (from-traceable s (st .shelf) v (tillOf st t .versions) (all-traceable s (l .fit .proper) st (l .sound) t))
-      (subst (Agree (s .measures .blockBytes) (x ∷ newer)) (from-same (s .measures .blockBytes) (st .shelf) v (tillOf st t .versions))
+      (from-traceable s (st .storage) v (tillOf st t .versions) (all-traceable s (l .fit .proper) st (l .sound) t))
+      (subst (Agree (s .measures .blockBytes) (x ∷ newer)) (from-same (s .measures .blockBytes) (st .storage) v (tillOf st t .versions))
       (subst (λ (xs : List Kept). Agree (s .measures .blockBytes) xs (shownFrom v (viewAt (s .measures .blockBytes) st t .versions))) e
       (agree-from (s .measures .blockBytes) v (keptTill k t .versions) (viewAt (s .measures .blockBytes) st t .versions) (z .tills t .1))))
 

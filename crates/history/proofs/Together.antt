@@ -6,7 +6,7 @@ use mathlib.Core.Bool.{true}
 use Prim.Native.Nat.{ℕ}
 use borrow.Author.Tests.{eq-eqb}
 use Rattle.model.specs.Measures.{Shape}
-use Rattle.model.specs.State.{Shelf, Version, State}
+use Rattle.model.specs.State.{Storage, Version, State}
 use Rattle.model.specs.Trace.{imageOf}
 use Rattle.model.specs.Calls.{emptyState, tillOf}
 use Rattle.history.specs.Calls.{Call, callLayout, callBackup, callRestore, callRetire, callListing, callVersionOn, callTally, callBill, callWriteStream, callOffer, callBackupSent, callBackupAll, callSetRights, Buffers, refusedLayout, refusalIn, tillNamed}
@@ -16,7 +16,7 @@ use Rattle.history.proofs.View.{VersionView, TillView, viewVersions, vi
 use Rattle.history.specs.Demand.{laidOutIn}
 use Rattle.history.specs.Together.{IsBackupRestoreOrRetire, AcceptedInTurn, HeldVersion, heldVersions, heldBy, SameTills, OrderFree, EitherOrder}
 use Rattle.history.proofs.Shown.{chain-is}
-use Rattle.history.proofs.Steps.{Left, left-store, left-laid}
+use Rattle.history.proofs.Steps.{Represents, left-store, left-laid}
 use Rattle.history.proofs.Users.{left-by, answer-by, left-all, done-by}
 use Rattle.history.proofs.Same.{same-by}
 use Rattle.history.proofs.Local.{HasRoom}
@@ -27,7 +27,7 @@ unfoldable heldShown : List VersionView → List HeldVersion
 heldShown [] = []
 heldShown (w ∷ newer) = record { number = w .number; length = w .length; day = w .day; image = w .image; chain = chainShown (w ∷ newer) } ∷ heldShown newer
 
-held-shown : (bytes : ℕ) (a : Shelf) (vs : List Version) → heldVersions bytes a vs ≡ heldShown (viewVersions bytes a vs)
+held-shown : (bytes : ℕ) (a : Storage) (vs : List Version) → heldVersions bytes a vs ≡ heldShown (viewVersions bytes a vs)
 unfolding heldVersions heldShown viewVersions
 held-shown bytes a [] = refl
 held-shown bytes a (v ∷ newer) =
@@ -66,7 +66,7 @@ is-plain (callSetRights subject t r) h = tt
 
 module _ (s : Shape) where
   -- stores whose tills show the same
-  shown-same : (b b′ : Buffers) (st st′ : State) → Left s b st → Left s b′ st′
+  shown-same : (b b′ : Buffers) (st st′ : State) → Represents s b st → Represents s b′ st′
       → ((t : ℕ) → viewAt (s .measures .blockBytes) st t ≡ viewAt (s .measures .blockBytes) st′ t) → SameTills b b′
   shown-same b b′ st st′ l l′ same = record {
     one = record { shape = s; state = st };
@@ -79,14 +79,14 @@ module _ (s : Shape) where
   }
     where
       held : (x : State) (t : ℕ) → heldBy (record { shape = s; state = x }) t ≡ heldShown (viewAt (s .measures .blockBytes) x t .versions)
-      held x t = unfold heldBy viewOf in held-shown (s .measures .blockBytes) (x .shelf) (tillOf x t .versions)
+      held x t = unfold heldBy viewOf in held-shown (s .measures .blockBytes) (x .storage) (tillOf x t .versions)
 
       same-answer : (u : ℕ) (call : Call) → isOnTill call ≡ true → HasRoom call (answerInBy s st u call) → HasRoom call (answerInBy s st′ u call) → answerBy b u call ≡ answerBy b′ u call
       same-answer u call on room room′ =
           answer-by s b st u call l ∙ same-by s st st′ u call on room room′ (same (tillNamed call)) ∙ sym (answer-by s b′ st′ u call l′)
 
   -- a user's accepted call is the call
-  accepted-done : (b : Buffers) (st : State) → Left s b st → (c : UserCall) → IsPlain (c .call) → refusalBy b (c .user) (c .call) ≡ 0
+  accepted-done : (b : Buffers) (st : State) → Represents s b st → (c : UserCall) → IsPlain (c .call) → refusalBy b (c .user) (c .call) ≡ 0
       → (isAccepted s st (c .call) ≡ true) × (stateBy s st (c .user) (c .call) ≡ stateAfter s st (c .call))
   unfolding refusalBy
   accepted-done b st l c p z = done-by s st (c .user) (c .call) p true (eq-eqb _ 0 (ap refusalIn (sym (answer-by s b st (c .user) (c .call) l)) ∙ z))
@@ -95,14 +95,14 @@ module _ (s : Shape) where
   abbrev twoBy : State → UserCall → UserCall → State
   twoBy st c d = stateBy s (stateBy s st (c .user) (c .call)) (d .user) (d .call)
 
-  in-turn : (b : Buffers) (st : State) → Left s b st → (c d : UserCall) → IsBackupRestoreOrRetire (c .call) → IsBackupRestoreOrRetire (d .call) → AcceptedInTurn b c d
+  in-turn : (b : Buffers) (st : State) → Represents s b st → (c d : UserCall) → IsBackupRestoreOrRetire (c .call) → IsBackupRestoreOrRetire (d .call) → AcceptedInTurn b c d
       → (isAccepted s st (c .call) ≡ true) × (isAccepted s (stateAfter s st (c .call)) (d .call) ≡ true) × (twoBy st c d ≡ stateAfter s (stateAfter s st (c .call)) (d .call))
   in-turn b st l c d kc kd cd =
       let one = accepted-done b st l c (is-plain (c .call) kc) (cd .0) in
       let two = accepted-done (buffersBy b (c .user) (c .call)) (stateBy s st (c .user) (c .call)) (left-by s b st (c .user) (c .call) l (no-layout b (c .call) kc)) d (is-plain (d .call) kd) (cd .1) in
       (one .0, subst (λ (x : State). isAccepted s x (d .call) ≡ true) (one .1) (two .0), two .1 ∙ ap (λ (x : State). stateAfter s x (d .call)) (one .1))
 
-  free-after : (b : Buffers) (st : State) → Left s b st → OrderFree b
+  free-after : (b : Buffers) (st : State) → Represents s b st → OrderFree b
   unfolding buffersAfterAll
   free-after b st l c d kc kd apart cd dc =
       let one = in-turn b st l c d kc kd cd in

@@ -66,11 +66,11 @@ module _ (s : Shape) (st st′ : State) (t : ℕ) (e : viewAt (s .measures .bloc
   many-same : length (tillOf st t .versions) ≡ length (tillOf st′ t .versions)
   unfolding viewOf
   many-same =
-      sym (views-length (s .measures .blockBytes) (st .shelf) (tillOf st t .versions)) ∙ ap (λ (w : TillView). length (w .versions)) e
-      ∙ views-length (s .measures .blockBytes) (st′ .shelf) (tillOf st′ t .versions)
+      sym (views-length (s .measures .blockBytes) (st .storage) (tillOf st t .versions)) ∙ ap (λ (w : TillView). length (w .versions)) e
+      ∙ views-length (s .measures .blockBytes) (st′ .storage) (tillOf st′ t .versions)
 
   module _ (n : ℕ) (fs ms ss : List ℕ) (xs : List (List ℕ)) (share : NoneShare sha1 xs)
-      (has : Each (λ x. In x xs) (zeroSegment (s .measures) ∷ contents (s .measures) (st .shelf))) (has′ : Each (λ x. In x xs) (contents (s .measures) (st′ .shelf)))
+      (has : Each (λ x. In x xs) (zeroSegment (s .measures) ∷ contents (s .measures) (st .storage))) (has′ : Each (λ x. In x xs) (contents (s .measures) (st′ .storage)))
       (sends : Each (λ x. In x xs) (segmentsSent (segmentBytes (s .measures)) ms ss)) where
     made-alike : ¬ (made sha1 s st t n fs ms ss ≡ refused 20) → ¬ (made sha1 s st′ t n fs ms ss ≡ refused 20) → made sha1 s st t n fs ms ss ≡ made sha1 s st′ t n fs ms ss
     unfolding made
@@ -79,10 +79,10 @@ module _ (s : Shape) (st st′ : State) (t : ℕ) (e : viewAt (s .measures .bloc
         (ap (leb (s .capacities .versions)) many-same) (eqb (tillOf st t .last) 65535) (eqb (tillOf st′ t .last) 65535) (ap (λ (k : ℕ). eqb k 65535) last-same) lack lack′
       where
         go : (gone odd full full′ : Bool) → full ≡ full′ → (top top′ : Bool) → top ≡ top′
-            → ¬ (cond gone (refused 3) (cond odd (refused 4) (cond full (refused 11) (cond top (refused 12) (assembled sha1 (s .measures) (st .shelf) n fs ms ss)))) ≡ refused 20)
-            → ¬ (cond gone (refused 3) (cond odd (refused 4) (cond full′ (refused 11) (cond top′ (refused 12) (assembled sha1 (s .measures) (st′ .shelf) n fs ms ss)))) ≡ refused 20)
-            → cond gone (refused 3) (cond odd (refused 4) (cond full (refused 11) (cond top (refused 12) (assembled sha1 (s .measures) (st .shelf) n fs ms ss))))
-            ≡ cond gone (refused 3) (cond odd (refused 4) (cond full′ (refused 11) (cond top′ (refused 12) (assembled sha1 (s .measures) (st′ .shelf) n fs ms ss))))
+            → ¬ (cond gone (refused 3) (cond odd (refused 4) (cond full (refused 11) (cond top (refused 12) (assembled sha1 (s .measures) (st .storage) n fs ms ss)))) ≡ refused 20)
+            → ¬ (cond gone (refused 3) (cond odd (refused 4) (cond full′ (refused 11) (cond top′ (refused 12) (assembled sha1 (s .measures) (st′ .storage) n fs ms ss)))) ≡ refused 20)
+            → cond gone (refused 3) (cond odd (refused 4) (cond full (refused 11) (cond top (refused 12) (assembled sha1 (s .measures) (st .storage) n fs ms ss))))
+            ≡ cond gone (refused 3) (cond odd (refused 4) (cond full′ (refused 11) (cond top′ (refused 12) (assembled sha1 (s .measures) (st′ .storage) n fs ms ss))))
         go true odd full full′ q top top′ r lack lack′ = refl
         go false true full full′ q top top′ r lack lack′ = refl
         go false false true true q top top′ r lack lack′ = refl
@@ -92,7 +92,7 @@ module _ (s : Shape) (st st′ : State) (t : ℕ) (e : viewAt (s .measures .bloc
         go false false false false q true false r lack lack′ = absurd (false≢true (sym r))
         go false false false false q false true r lack lack′ = absurd (false≢true r)
         go false false false false q false false r lack lack′ =
-            assembled-alike sha1 (s .measures) (λ x. In x xs) (share-one xs share) (has .0) (st .shelf) (st′ .shelf) (has .1) has′ n fs ms ss sends lack lack′
+            assembled-alike sha1 (s .measures) (λ x. In x xs) (share-one xs share) (has .0) (st .storage) (st′ .storage) (has .1) has′ n fs ms ss sends lack lack′
 
     -- so both back up the same image, or refuse alike
     pub sent-same : IsFromTill (outcomeAnswer (backupSent sha1 s st t n fs ms ss)) → IsFromTill (outcomeAnswer (backupSent sha1 s st′ t n fs ms ss))

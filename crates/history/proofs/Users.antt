@@ -26,7 +26,7 @@ use Rattle.history.proofs.Calls.{buffersAfter, stateAfter, answerIn, is
 use Rattle.history.specs.Users.{UserCall, buffersBy, answerBy, forUser, stateBy, answerInBy, buffersAfterAll, answersOf, refusedLayouts, stateAfterAll, answersIn}
 use Rattle.history.proofs.View.{IsPlain}
 use Rattle.history.proofs.Reach.{sound-after, closing-sound, rights-good, unless-sound}
-use Rattle.history.proofs.Steps.{Left, left-store, left-one, closing-left, rights-left, closing-same, rights-same}
+use Rattle.history.proofs.Steps.{Represents, left-store, left-one, closing-left, rights-left, closing-same, rights-same}
 
 -- ---- what is left
 
@@ -54,11 +54,11 @@ module _ (s : Shape) (b : Buffers) (st : State) where
 
 module _ (s : Shape) (b : Buffers) (st : State) (u : ℕ) where
   -- the user's refusal on the buffers is that on the state
-  pub refusal-at : Left s b st → (t : ℕ) (right : Right) → refusalFor (storeOf (b .pool) (b .table)) u t right ≡ refusalAt s st u t right
+  pub refusal-at : Represents s b st → (t : ℕ) (right : Right) → refusalFor (storeOf (b .pool) (b .table)) u t right ≡ refusalAt s st u t right
   unfolding refusalFor
   refusal-at l t right = ap (λ (o : Option Store). refusalFor o u t right) (left-store s b st l)
 
-  sound-by : Left s b st → (call : Call) → isSound s (stateBy s st u call) ≡ true
+  sound-by : Represents s b st → (call : Call) → isSound s (stateBy s st u call) ≡ true
   unfolding stateBy stateAfter
   sound-by l (callLayout c) = l .sound
   sound-by l (callBackup era t d image) = unless-sound s st (refusalAt s st u t toBackUp) (backup era s st t d image) (l .sound) (sound-after s (l .fit .proper) st (l .sound) (callBackup era t d image))
@@ -76,21 +76,21 @@ module _ (s : Shape) (b : Buffers) (st : State) (u : ℕ) where
   sound-by l (callSetRights subject t r) = rights-good s (l .fit .proper) st (l .sound) u subject t r (setRights s st u subject t r) refl
 
   -- what the calls themselves leave
-  backup-left : Left s b st → (era : Era) (t : ℕ) (d : Option ℕ) (image : List ℕ)
+  backup-left : Represents s b st → (era : Era) (t : ℕ) (d : Option ℕ) (image : List ℕ)
       → AreOf s b st (backupBy era (b .pool) (b .table) t d image .pool) (backupBy era (b .pool) (b .table) t d image .table) (stateOr st (backup era s st t d image))
   unfolding buffersAfter stateAfter
   backup-left l era t d image = let p = left-one s b st (callBackup era t d image) l tt in (p .pool, p .table)
 
-  retire-left : Left s b st → (t v : ℕ) → AreOf s b st (retireOf (b .pool) (b .table) t v .pool) (retireOf (b .pool) (b .table) t v .table) (stateOr st (retire s st t v))
+  retire-left : Represents s b st → (t v : ℕ) → AreOf s b st (retireOf (b .pool) (b .table) t v .pool) (retireOf (b .pool) (b .table) t v .table) (stateOr st (retire s st t v))
   unfolding buffersAfter stateAfter
   retire-left l t v = let p = left-one s b st (callRetire t v) l tt in (p .pool, p .table)
 
-  sent-left : Left s b st → (t n : ℕ) (fs ms ss : List ℕ)
+  sent-left : Represents s b st → (t n : ℕ) (fs ms ss : List ℕ)
       → AreOf s b st (backupSentOf (b .pool) (b .table) t n fs ms ss .pool) (backupSentOf (b .pool) (b .table) t n fs ms ss .table) (stateOr st (backupSent sha1 s st t n fs ms ss))
   unfolding buffersAfter stateAfter
   sent-left l t n fs ms ss = let p = left-one s b st (callBackupSent t n fs ms ss) l tt in (p .pool, p .table)
 
-  pub left-by : (call : Call) → Left s b st → refusedLayout b call → Left s (buffersBy b u call) (stateBy s st u call)
+  pub left-by : (call : Call) → Represents s b st → refusedLayout b call → Represents s (buffersBy b u call) (stateBy s st u call)
   left-by call l r = record { fit = l .fit; pool = words call r .0; table = words call r .1; sound = sound-by l call }
     where
       words : (call : Call) → refusedLayout b call → AreOf s b st (buffersBy b u call .pool) (buffersBy b u call .table) (stateBy s st u call)
@@ -145,7 +145,7 @@ retired-by s b n o = go (eqb n 0) o
     go true (done a) = unfold retireAnswer outcomeRefusal outcomeNumber in refl
     go false o = unfold outcomeRefusal outcomeNumber in refl
 
-pub answer-by : (s : Shape) (b : Buffers) (st : State) (u : ℕ) (call : Call) → Left s b st → answerBy b u call ≡ answerInBy s st u call
+pub answer-by : (s : Shape) (b : Buffers) (st : State) (u : ℕ) (call : Call) → Represents s b st → answerBy b u call ≡ answerInBy s st u call
 unfolding answerBy answerInBy
 answer-by s b st u (callLayout c) e = ap₂ (λ (pool table : List ℕ). laidOut (layoutOf c pool table .refusal)) (e .pool) (e .table)
 answer-by s b st u (callBackup era t d image) e = unfold backupAs refusalFor backupBy backupIn in rw (left-store s b st e) (backed-by s b (refusalAt s st u t toBackUp) (backup era s st t d image))
@@ -164,12 +164,12 @@ answer-by s b st u (callSetRights subject t r) e = ap rightsSet (rights-same s b
 
 -- ---- lists
 
-pub left-all : (s : Shape) (calls : List UserCall) (b : Buffers) (st : State) → Left s b st → refusedLayouts b calls → Left s (buffersAfterAll b calls) (stateAfterAll s st calls)
+pub left-all : (s : Shape) (calls : List UserCall) (b : Buffers) (st : State) → Represents s b st → refusedLayouts b calls → Represents s (buffersAfterAll b calls) (stateAfterAll s st calls)
 unfolding buffersAfterAll stateAfterAll
 left-all s [] b st l r = l
 left-all s (c ∷ calls) b st l r = left-all s calls (buffersBy b (c .user) (c .call)) (stateBy s st (c .user) (c .call)) (left-by s b st (c .user) (c .call) l (r .0)) (r .1)
 
-pub answers-same : (s : Shape) (calls : List UserCall) (b : Buffers) (st : State) → Left s b st → refusedLayouts b calls → answersOf b calls ≡ answersIn s st calls
+pub answers-same : (s : Shape) (calls : List UserCall) (b : Buffers) (st : State) → Represents s b st → refusedLayouts b calls → answersOf b calls ≡ answersIn s st calls
 unfolding answersOf answersIn
 answers-same s [] b st e r = refl
 answers-same s (c ∷ calls) b st e r =
@@ -228,7 +228,7 @@ pub set-refusal : (s : Shape) (st : State) (u subject t : ℕ) (r : Rights)
     → outcomeRefusal (setRights s st u subject t r) ≡ cond (leb (s .capacities .tills) t) 3 (cond (ltb staff u || (eqb subject 0 || ltb staff subject)) 22 (cond (ltb 0 u) 23 0))
 unfolding setRights
 set-refusal s st u subject t r =
-    go (leb (s .capacities .tills) t) (ltb staff u || (eqb subject 0 || ltb staff subject)) (ltb 0 u) (record { state = withTill st t (withRights (tillOf st t) subject r) (st .shelf); answer = 0 })
+    go (leb (s .capacities .tills) t) (ltb staff u || (eqb subject 0 || ltb staff subject)) (ltb 0 u) (record { state = withTill st t (withRights (tillOf st t) subject r) (st .storage); answer = 0 })
   where
     go : (gone odd other : Bool) (a : After) → outcomeRefusal (cond gone (refused 3) (cond odd (refused 22) (cond other (refused 23) (done a)))) ≡ cond gone 3 (cond odd 22 (cond other 23 0))
     go true odd other a = unfold outcomeRefusal in refl
@@ -242,10 +242,10 @@ setIf gone odd other new = cond gone (refused 3) (cond odd (refused 22) (cond ot
 
 module _ (s : Shape) (st : State) (u : ℕ) where
   -- a call that leaves the state as it is
-  stays : (call : Call) → stateBy s st u call ≡ st → stateAfter s st call ≡ st → (acceptedBy s st u call ≡ true → isAccepted s st call ≡ true)
+  isReferenced : (call : Call) → stateBy s st u call ≡ st → stateAfter s st call ≡ st → (acceptedBy s st u call ≡ true → isAccepted s st call ≡ true)
       → (acc : Bool) → acceptedBy s st u call ≡ acc → IsDone s st call acc (stateBy s st u call)
-  stays call p q h true e = (h e, p ∙ sym q)
-  stays call p q h false e = p
+  isReferenced call p q h true e = (h e, p ∙ sym q)
+  isReferenced call p q h false e = p
 
   -- a backup of a full image, for a user
   pub backup-done : (era : Era) (t : ℕ) (d : Option ℕ) (image : List ℕ) (acc : Bool) → eqb (outcomeRefusal (forUser s st u t toBackUp (backup era s st t d image))) 0 ≡ acc
@@ -264,7 +264,7 @@ module _ (s : Shape) (st : State) (u : ℕ) where
   set-done : (subject t : ℕ) (r : Rights) (acc : Bool) → eqb (outcomeRefusal (setRights s st u subject t r)) 0 ≡ acc
       → IsDone s st (callSetRights subject t r) acc (stateOr st (setRights s st u subject t r))
   unfolding isAccepted answerIn refusalIn stateAfter setRights
-  set-done subject t r true e = go (record { state = withTill st t (withRights (tillOf st t) subject r) (st .shelf); answer = 0 }) (leb (s .capacities .tills) t) (ltb staff u) (eqb subject 0 || ltb staff subject) (ltb 0 u) e
+  set-done subject t r true e = go (record { state = withTill st t (withRights (tillOf st t) subject r) (st .storage); answer = 0 }) (leb (s .capacities .tills) t) (ltb staff u) (eqb subject 0 || ltb staff subject) (ltb 0 u) e
     where
       go : (new : After) (gone unknown odd other : Bool) → eqb (outcomeRefusal (setIf gone (unknown || odd) other new)) 0 ≡ true
           → (eqb (outcomeRefusal (setIf gone odd false new)) 0 ≡ true) × (stateOr st (setIf gone (unknown || odd) other new) ≡ stateOr st (setIf gone odd false new))
@@ -278,23 +278,23 @@ module _ (s : Shape) (st : State) (u : ℕ) where
   -- any plain call
   pub done-by : (call : Call) → IsPlain call → (acc : Bool) → acceptedBy s st u call ≡ acc → IsDone s st call acc (stateBy s st u call)
   unfolding stateBy answerInBy refusalIn
-  done-by (callLayout c) p acc e = stays (callLayout c) refl (unfold stateAfter in refl) (λ h. unfold isAccepted answerIn refusalIn in h) acc e
+  done-by (callLayout c) p acc e = isReferenced (callLayout c) refl (unfold stateAfter in refl) (λ h. unfold isAccepted answerIn refusalIn in h) acc e
   done-by (callBackup era t d image) p acc e = backup-done era t d image acc e
   done-by (callRestore t v output) p acc e =
-      stays (callRestore t v output) refl (unfold stateAfter in refl) (λ h. unfold isAccepted answerIn refusalIn in answer-waits (λ (a : RestoreAnswer). a .refusal) (λ n. restoreRefusal n output) (λ n. unfold restoreRefusal in refl) (refusalAt s st u t toRestore) (restore s st t v output) h) acc e
+      isReferenced (callRestore t v output) refl (unfold stateAfter in refl) (λ h. unfold isAccepted answerIn refusalIn in answer-waits (λ (a : RestoreAnswer). a .refusal) (λ n. restoreRefusal n output) (λ n. unfold restoreRefusal in refl) (refusalAt s st u t toRestore) (restore s st t v output) h) acc e
   done-by (callRetire t v) p acc e = retire-done t v acc e
   done-by (callListing t) p acc e =
-      stays (callListing t) refl (unfold stateAfter in refl) (λ h. unfold isAccepted answerIn refusalIn in answer-waits (λ (a : ListingAnswer). a .refusal) listingRefusal (λ n. unfold listingRefusal in refl) (refusalAt s st u t toList) (listingIn (some (record { shape = s; state = st })) t) h) acc e
+      isReferenced (callListing t) refl (unfold stateAfter in refl) (λ h. unfold isAccepted answerIn refusalIn in answer-waits (λ (a : ListingAnswer). a .refusal) listingRefusal (λ n. unfold listingRefusal in refl) (refusalAt s st u t toList) (listingIn (some (record { shape = s; state = st })) t) h) acc e
   done-by (callVersionOn t day) p acc e =
-      stays (callVersionOn t day) refl (unfold stateAfter in refl) (λ h. unfold isAccepted answerIn refusalIn in answer-waits (λ (a : VersionOnAnswer). a .refusal) versionOnRefusal (λ n. unfold versionOnRefusal in refl) (refusalAt s st u t toList) (versionOnIn (some (record { shape = s; state = st })) t day) h) acc e
+      isReferenced (callVersionOn t day) refl (unfold stateAfter in refl) (λ h. unfold isAccepted answerIn refusalIn in answer-waits (λ (a : VersionOnAnswer). a .refusal) versionOnRefusal (λ n. unfold versionOnRefusal in refl) (refusalAt s st u t toList) (versionOnIn (some (record { shape = s; state = st })) t day) h) acc e
   done-by callTally p acc e =
-      stays callTally refl (unfold stateAfter in refl) (λ h. unfold isAccepted answerIn refusalIn in answer-waits (λ (a : TallyAnswer). a .refusal) tallyRefusal (λ n. unfold tallyRefusal in refl) (notOwner u) (tallyIn (some (record { shape = s; state = st }))) h) acc e
+      isReferenced callTally refl (unfold stateAfter in refl) (λ h. unfold isAccepted answerIn refusalIn in answer-waits (λ (a : TallyAnswer). a .refusal) tallyRefusal (λ n. unfold tallyRefusal in refl) (notOwner u) (tallyIn (some (record { shape = s; state = st }))) h) acc e
   done-by (callBill price) p acc e =
-      stays (callBill price) refl (unfold stateAfter in refl) (λ h. unfold isAccepted answerIn refusalIn in answer-waits (λ (a : BillAnswer). a .refusal) billRefused (λ n. unfold billRefused in refl) (notOwner u) (billIn (some (record { shape = s; state = st })) price) h) acc e
+      isReferenced (callBill price) refl (unfold stateAfter in refl) (λ h. unfold isAccepted answerIn refusalIn in answer-waits (λ (a : BillAnswer). a .refusal) billRefused (λ n. unfold billRefused in refl) (notOwner u) (billIn (some (record { shape = s; state = st })) price) h) acc e
   done-by (callWriteStream t v output) p acc e =
-      stays (callWriteStream t v output) refl (unfold stateAfter in refl) (λ h. unfold isAccepted answerIn refusalIn in answer-waits (λ (a : StreamAnswer). a .refusal) (λ n. streamRefusal n output) (λ n. unfold streamRefusal in refl) (refusalAt s st u t toRestore) (writeVersion s st t v output) h) acc e
+      isReferenced (callWriteStream t v output) refl (unfold stateAfter in refl) (λ h. unfold isAccepted answerIn refusalIn in answer-waits (λ (a : StreamAnswer). a .refusal) (λ n. streamRefusal n output) (λ n. unfold streamRefusal in refl) (refusalAt s st u t toRestore) (writeVersion s st t v output) h) acc e
   done-by (callOffer t fs ms) p acc e =
-      stays (callOffer t fs ms) refl (unfold stateAfter in refl) (λ h. unfold isAccepted answerIn refusalIn in answer-waits (λ (a : OfferAnswer). a .refusal) (λ n. record { refusal = n; marks = ms }) (λ n. refl) (refusalAt s st u t toBackUp) (offerIn sha1 (some (record { shape = s; state = st })) t fs ms) h) acc e
+      isReferenced (callOffer t fs ms) refl (unfold stateAfter in refl) (λ h. unfold isAccepted answerIn refusalIn in answer-waits (λ (a : OfferAnswer). a .refusal) (λ n. record { refusal = n; marks = ms }) (λ n. refl) (refusalAt s st u t toBackUp) (offerIn sha1 (some (record { shape = s; state = st })) t fs ms) h) acc e
   done-by (callBackupSent t n fs ms ss) p acc e = absurd p
   done-by (callBackupAll ts ns is) p acc e = absurd p
   done-by (callSetRights subject t r) p acc e = set-done subject t r acc e

@@ -8,7 +8,7 @@ use lib.Dec.{eqb, leb, ltb}
 use Rattle.lists.specs.Lists.{counted, keep, allZero, largest}
 use Rattle.lists.specs.Over.{over}
 use Rattle.model.specs.Measures.{Shape}
-use Rattle.model.specs.State.{Block, Shelf, Version, Rights, staff, Till, State}
+use Rattle.model.specs.State.{Block, Storage, Version, Rights, staff, Till, State}
 use Rattle.model.specs.Image.{Era, isBare, imageBlocks}
 use Rattle.model.specs.Turn.{turnsTo}
 use Rattle.model.specs.Trace.{imageOf}
@@ -32,17 +32,17 @@ pub record TillView : Type 0 where
   pub rights : List Rights
   pub versions : List VersionView
 
-unfoldable pub viewVersions : ℕ → Shelf → List Version → List VersionView
-viewVersions bytes shelf [] = []
-viewVersions bytes shelf (v ∷ newer) =
-    record { number = v .number; length = v .length; day = v .day; image = imageOf bytes shelf (v ∷ newer); kinds = map kindOf (v .pointers) } ∷ viewVersions bytes shelf newer
+unfoldable pub viewVersions : ℕ → Storage → List Version → List VersionView
+viewVersions bytes storage [] = []
+viewVersions bytes storage (v ∷ newer) =
+    record { number = v .number; length = v .length; day = v .day; image = imageOf bytes storage (v ∷ newer); kinds = map kindOf (v .pointers) } ∷ viewVersions bytes storage newer
 
-unfoldable pub viewOf : ℕ → Shelf → Till → TillView
-viewOf bytes shelf t = record { last = t .last; rights = t .rights; versions = viewVersions bytes shelf (t .versions) }
+unfoldable pub viewOf : ℕ → Storage → Till → TillView
+viewOf bytes storage t = record { last = t .last; rights = t .rights; versions = viewVersions bytes storage (t .versions) }
 
 -- till `t` of a state
 abbrev pub viewAt : ℕ → State → ℕ → TillView
-viewAt bytes st t = viewOf bytes (st .shelf) (tillOf st t)
+viewAt bytes st t = viewOf bytes (st .storage) (tillOf st t)
 
 -- how many indirect pointers are followed for block `n` of the first version of the list, the others being the newer ones; and the most for any block
 unfoldable pub hopsShown : List VersionView → ℕ → ℕ
@@ -150,7 +150,7 @@ IsPlain (callBackupSent t n fs ms ss) = ⊥
 IsPlain (callBackupAll ts ns is) = ⊥
 IsPlain (callSetRights subject t r) = Unit {0}
 
--- ---- what a call on a till answers, from what the till shows; 14 and 16, which depend on the shared shelf, apart, and the messages of §5, which do too
+-- ---- what a call on a till answers, from what the till shows; 14 and 16, which depend on the shared storage, apart, and the messages of §5, which do too
 
 abbrev pub isOnTill : Call → Bool
 isOnTill (callLayout c) = false

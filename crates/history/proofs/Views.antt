@@ -1,4 +1,4 @@
--- What versions show: on a shelf that serves their pointers it is as before; with a new version, and without a retired one, it is as the step on views says.
+-- What versions show: on a storage that serves their pointers it is as before; with a new version, and without a retired one, it is as the step on views says.
 use mathlib.Core.Path.{_≡_, refl, sym, ap, ap₂, _∙_}
 use mathlib.Core.Bool.{Bool, true, false, cond, false≢true}
 use mathlib.Core.List.{List, [], _∷_, _++_, map}
@@ -18,13 +18,13 @@ use Rattle.lists.proofs.Counts.{count-append}
 use Rattle.lists.proofs.Sets.{map-at}
 use Rattle.lists.proofs.Tests.{clause}
 use Rattle.model.specs.Measures.{Measures, Shape, partsFor}
-use Rattle.model.specs.State.{Block, Pointer, nullPointer, blankPointer, direct, indirect, Shelf, Version, withPointers, Till}
+use Rattle.model.specs.State.{Block, Pointer, nullPointer, blankPointer, direct, indirect, Storage, Version, withPointers, Till}
 use Rattle.model.specs.Image.{Era, isBare, imageBlocks}
 use Rattle.model.specs.Turn.{target, foundOr, turn}
 use Rattle.model.specs.Trace.{endOf, blockAt, tracedBlock, tracedBlocks, imageOf}
 use Rattle.model.specs.Sound.{isNull, leadsTo, nextPointers, areTraceable}
 use Rattle.model.specs.Calls.{newestPointers, withNewestPointers, takeOver, closeUp}
-use Rattle.laws.specs.Shelves.{Exact}
+use Rattle.laws.specs.Storage.{Exact}
 use Rattle.laws.proofs.Bare.{isIndirect, isBarePointer}
 use Rattle.laws.proofs.Serves.{pointersOf, Serves, traced-again}
 use Rattle.laws.proofs.Turn.{NewOk, extended, traced-same, turn-length, plain-end, lead-at, last-plain}
@@ -39,20 +39,20 @@ pub view-path : (n n′ l l′ d d′ : ℕ) (i i′ : List ℕ) (k k′ : List 
 view-path n n′ l l′ d d′ i i′ k k′ p q o r z = λ t. record { number = p t; length = q t; day = o t; image = r t; kinds = z t }
 
 -- versions of as many pointers that trace to the same blocks have the same blocks, and with the same length the same image
-pub blocks-same : (m : Measures) (a b : Shelf) (v v′ : Version) (vs vs′ : List Version) → length (v′ .pointers) ≡ length (v .pointers)
+pub blocks-same : (m : Measures) (a b : Storage) (v v′ : Version) (vs vs′ : List Version) → length (v′ .pointers) ≡ length (v .pointers)
     → ((n : ℕ) → tracedBlock (m .blockBytes) b (v′ ∷ vs′) n ≡ tracedBlock (m .blockBytes) a (v ∷ vs) n) → tracedBlocks (m .blockBytes) b (v′ ∷ vs′) ≡ tracedBlocks (m .blockBytes) a (v ∷ vs)
 unfolding tracedBlocks
 blocks-same m a b v v′ vs vs′ n t =
     ap (counted (tracedBlock (m .blockBytes) b (v′ ∷ vs′)) 0) n ∙ counted-same (tracedBlock (m .blockBytes) b (v′ ∷ vs′)) (tracedBlock (m .blockBytes) a (v ∷ vs)) t 0 (length (v .pointers))
 
-pub image-same : (m : Measures) (a b : Shelf) (v v′ : Version) (vs vs′ : List Version) → v′ .length ≡ v .length → length (v′ .pointers) ≡ length (v .pointers)
+pub image-same : (m : Measures) (a b : Storage) (v v′ : Version) (vs vs′ : List Version) → v′ .length ≡ v .length → length (v′ .pointers) ≡ length (v .pointers)
     → ((n : ℕ) → tracedBlock (m .blockBytes) b (v′ ∷ vs′) n ≡ tracedBlock (m .blockBytes) a (v ∷ vs) n) → imageOf (m .blockBytes) b (v′ ∷ vs′) ≡ imageOf (m .blockBytes) a (v ∷ vs)
 unfolding imageOf
 image-same m a b v v′ vs vs′ l n t = ap₂ (λ (k : ℕ) (bs : List Block). take k (joined bs)) l (blocks-same m a b v v′ vs vs′ n t)
 
--- ---- on a shelf that serves the pointers all is as before
+-- ---- on a storage that serves the pointers all is as before
 
-module _ (s : Shape) (a b : Shelf) (ps : List Pointer) (sv : Serves (s .measures) a b ps) where
+module _ (s : Shape) (a b : Storage) (ps : List Pointer) (sv : Serves (s .measures) a b ps) where
   abbrev Among : List Version → Type 0
   Among vs = (k i : ℕ) → count (leadsTo k i) (pointersOf vs) ≤ count (leadsTo k i) ps
 
@@ -75,7 +75,7 @@ module _ (s : Shape) (a b : Shelf) (ps : List Pointer) (sv : Serves (s .measures
 
 -- ---- pointers that turn
 
-turned-kind : (era : Era) (m : Measures) (p : Shelf) (bs : List Block) (q : Pointer)
+turned-kind : (era : Era) (m : Measures) (p : Storage) (bs : List Block) (q : Pointer)
     → kindOf (foundOr q (target era p bs q)) ≡ turnedKind era bs (kindOf q) (blockAt (m .blockBytes) p q)
 unfolding target turnedKind blockAt
 turned-kind era m p bs nullPointer = refl
@@ -87,14 +87,14 @@ turned-kind era m p bs (direct k i) = go (target era p bs (direct k i))
     go (some q) = refl
 turned-kind era m p bs (indirect n) = refl
 
-turned-kinds : (era : Era) (m : Measures) (p : Shelf) (bs : List Block) (qs : List Pointer)
+turned-kinds : (era : Era) (m : Measures) (p : Storage) (bs : List Block) (qs : List Pointer)
     → map kindOf (turn era p bs qs) ≡ over (turnedKind era bs) (map kindOf qs) (map (blockAt (m .blockBytes) p) qs)
 unfolding turn
 turned-kinds era m p bs [] = refl
 turned-kinds era m p bs (q ∷ qs) = ap₂ _∷_ (turned-kind era m p bs q) (turned-kinds era m p bs qs)
 
 -- the blocks of a newest version, whose pointers are not indirect
-plain-blocks : (m : Measures) (p : Shelf) (v : Version) → ((n : ℕ) → isIndirect (getD (v .pointers) n nullPointer) ≡ false)
+plain-blocks : (m : Measures) (p : Storage) (v : Version) → ((n : ℕ) → isIndirect (getD (v .pointers) n nullPointer) ≡ false)
     → tracedBlocks (m .blockBytes) p (v ∷ []) ≡ map (blockAt (m .blockBytes) p) (v .pointers)
 unfolding tracedBlocks tracedBlock endOf
 plain-blocks m p v h =
@@ -105,7 +105,7 @@ plain-blocks m p v h =
 
 -- ---- the new version
 
-pub new-blocks : (era : Era) (m : Measures) (p : Shelf) (bs : List Block) (newV : Version) → NewOk era m p bs (newV .pointers) → length (newV .pointers) ≡ length bs
+pub new-blocks : (era : Era) (m : Measures) (p : Storage) (bs : List Block) (newV : Version) → NewOk era m p bs (newV .pointers) → length (newV .pointers) ≡ length bs
     → tracedBlocks (m .blockBytes) p (newV ∷ []) ≡ bs
 unfolding tracedBlocks tracedBlock endOf
 new-blocks era m p bs newV ok n =
@@ -113,7 +113,7 @@ new-blocks era m p bs newV ok n =
     ∙ counted-is (tracedBlock (m .blockBytes) p (newV ∷ [])) [] 0 bs (λ j h.
     ap (tracedBlock (m .blockBytes) p (newV ∷ [])) (zero-add j) ∙ ap (blockAt (m .blockBytes) p) (plain-end (getD (newV .pointers) j nullPointer) _ (ok .plain j)) ∙ ok .traced j h)
 
-pub new-image : (era : Era) (m : Measures) → Proper m → (p : Shelf) (image : List ℕ) (newV : Version) → NewOk era m p (imageBlocks (m .blockBytes) image) (newV .pointers)
+pub new-image : (era : Era) (m : Measures) → Proper m → (p : Storage) (image : List ℕ) (newV : Version) → NewOk era m p (imageBlocks (m .blockBytes) image) (newV .pointers)
     → newV .length ≡ length image → length (newV .pointers) ≡ length (imageBlocks (m .blockBytes) image) → imageOf (m .blockBytes) p (newV ∷ []) ≡ image
 unfolding imageOf
 new-image era m pr p image newV ok l n =
@@ -121,7 +121,7 @@ new-image era m pr p image newV ok l n =
     ∙ ap (take (length image)) (blocks-joined m pr image)
     ∙ take-at image (fill (partsFor (m .blockBytes) (length image) * m .blockBytes - length image) []) (length image) refl
 
-pub new-kinds : (era : Era) (m : Measures) (p : Shelf) (bs : List Block) (new : List Pointer) → NewOk era m p bs new → length new ≡ length bs
+pub new-kinds : (era : Era) (m : Measures) (p : Storage) (bs : List Block) (new : List Pointer) → NewOk era m p bs new → length new ≡ length bs
     → map kindOf new ≡ map (newKind era) bs
 new-kinds era m p bs new ok n = go new bs n (ok .plain) (ok .nulls) (ok .bares)
   where
@@ -147,11 +147,11 @@ new-kinds era m p bs new ok n = go new bs n (ok .plain) (ok .nulls) (ok .bares)
 -- ---- with a new version
 
 -- each version's image, cut into blocks, is its traced blocks
-abbrev pub Cut : ℕ → Shelf → List Version → Type 0
+abbrev pub Cut : ℕ → Storage → List Version → Type 0
 Cut bytes p [] = Unit {0}
 Cut bytes p (v ∷ vs) = (imageBlocks bytes (imageOf bytes p (v ∷ vs)) ≡ tracedBlocks bytes p (v ∷ vs)) × Cut bytes p vs
 
-module _ (era : Era) (s : Shape) (p : Shelf) (x : Exact p) (bs : List Block) (newV : Version) (ok : NewOk era (s .measures) p bs (newV .pointers)) where
+module _ (era : Era) (s : Shape) (p : Storage) (x : Exact p) (bs : List Block) (newV : Version) (ok : NewOk era (s .measures) p bs (newV .pointers)) where
   pub views-extended : (vs : List Version) → areTraceable (s .measures .blockBytes) (s .capacities .blocks) p vs ≡ true → Cut (s .measures .blockBytes) p vs
       → viewVersions (s .measures .blockBytes) p (extended era s p x bs newV ok vs)
       ≡ turnNewest era (s .measures .blockBytes) bs (viewVersions (s .measures .blockBytes) p vs) ++ viewVersions (s .measures .blockBytes) p (newV ∷ [])
@@ -185,7 +185,7 @@ take-kinds : (gone ps : List Pointer) → map kindOf (map (takeOver gone) ps) �
 take-kinds gone [] = refl
 take-kinds gone (p ∷ ps) = ap₂ _∷_ (take-kind gone p) (take-kinds gone ps)
 
-module _ (m : Measures) (a : Shelf) (n : ℕ) (v : Version) (newer : List Version) (named : eqb (v .number) n ≡ true) where
+module _ (m : Measures) (a : Storage) (n : ℕ) (v : Version) (newer : List Version) (named : eqb (v .number) n ≡ true) where
   pub views-closed : (older : List Version) → Each (λ (w : Version). eqb (w .number) n ≡ false) older
       → viewVersions (m .blockBytes) a (closeUp older v newer) ≡ dropVersion n (viewVersions (m .blockBytes) a (older ++ (v ∷ newer)))
   unfolding viewVersions dropVersion withKinds closeUp withNewestPointers newestPointers

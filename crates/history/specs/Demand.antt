@@ -50,8 +50,8 @@ pub record LedTo (st : State) (c : ℕ) : Type 0 where
   pub segment : ℕ
   pub position : ℕ
   pub there : getD (pointersHeld st till version) block nullPointer ≡ direct segment position
-  pub isHere : isHeld (positionAt (st .shelf) segment position) ≡ true
-  pub cell : cellOf (positionAt (st .shelf) segment position) ≡ c
+  pub isHere : isHeld (positionAt (st .storage) segment position) ≡ true
+  pub cell : cellOf (positionAt (st .storage) segment position) ≡ c
 
 -- After a list: the state `st`, the keeper `k` and the buffers `b`, for blocks of that many bytes.
 module _ (bytes : ℕ) (st : State) (k : Keeper) (b : Buffers) where
@@ -138,7 +138,7 @@ module _ (bytes : ℕ) (st : State) (k : Keeper) (b : Buffers) where
     pub backupAll : (u : ℕ) (tills lengths images : List ℕ) → closing u tills lengths images .refusal ≡ 0
         → closing u tills lengths images .versions ≡ fill 16 (numbersGiven k (imagesIn tills lengths images) (closing u tills lengths images .refusals))
     -- a held version "now goes", whichever it is
-    pub goes : (u t v : ℕ) (x : Kept) (newer : List Kept) → May u t toRetire → IsKept t v x newer → retiring u t v .refusal ≡ 0
+    pub isUnreferenced : (u t v : ℕ) (x : Kept) (newer : List Kept) → May u t toRetire → IsKept t v x newer → retiring u t v .refusal ≡ 0
     -- and one not held is refused, of a till that is there with 17 or 18 as the keeper's last number says
     pub notHeld : (u t v : ℕ) → May u t toRetire → keptFrom v (keptTill k t .versions) ≡ [] → t < length k → retiring u t v .refusal ≡ notHeld (keptTill k t .last) v
     -- "an accepted retire the struck image's length"
@@ -173,15 +173,15 @@ module _ (bytes : ℕ) (st : State) (k : Keeper) (b : Buffers) where
   -- "The occupied cells (those that positions name), the cells with a byte other than zero, and the cells that some held version's direct pointer leads
   -- to are the same ones; an accepted tally's first number counts them"
   pub record Cells (s : Shape) : Type 0 where
-    pub inPool : cellsIn bytes (b .pool) ≡ st .shelf .cells
-    pub nonZero : (c : ℕ) → (isIn c (namedCells (st .shelf .records)) ≡ true) ↔ (allZero (cellAt (st .shelf) c) ≡ false)
-    pub led : (c : ℕ) → (isIn c (namedCells (st .shelf .records)) ≡ true) ↔ LedTo st c
-    pub inside : (c : ℕ) → isIn c (namedCells (st .shelf .records)) ≡ true → c < s .capacities .cells
+    pub inPool : cellsIn bytes (b .pool) ≡ st .storage .cells
+    pub nonZero : (c : ℕ) → (isIn c (namedCells (st .storage .records)) ≡ true) ↔ (allZero (cellAt (st .storage) c) ≡ false)
+    pub led : (c : ℕ) → (isIn c (namedCells (st .storage .records)) ≡ true) ↔ LedTo st c
+    pub inside : (c : ℕ) → isIn c (namedCells (st .storage .records)) ≡ true → c < s .capacities .cells
     -- §14: "The sums together are exactly p × occupied cells, whatever has been backed up or retired"
     pub billed : (u price : ℕ) → billAs (b .pool) (b .table) u price .refusal ≡ 0
-        → total (λ n. n) (billAs (b .pool) (b .table) u price .sums) ≡ price * count (λ c. isIn c (namedCells (st .shelf .records))) (counted (λ c. c) 0 (s .capacities .cells))
+        → total (λ n. n) (billAs (b .pool) (b .table) u price .sums) ≡ price * count (λ c. isIn c (namedCells (st .storage .records))) (counted (λ c. c) 0 (s .capacities .cells))
     pub counts : (u : ℕ) → tallyAs (b .pool) (b .table) u .refusal ≡ 0
-        → tallyAs (b .pool) (b .table) u .cells ≡ count (λ c. isIn c (namedCells (st .shelf .records))) (counted (λ c. c) 0 (s .capacities .cells))
+        → tallyAs (b .pool) (b .table) u .cells ≡ count (λ c. isIn c (namedCells (st .storage .records))) (counted (λ c. c) 0 (s .capacities .cells))
 
   -- §9, by the rights that are kept, which are those last set
   pub record Keys : Type 0 where

@@ -4,7 +4,7 @@ use mathlib.Core.Path.{_≡_}
 use mathlib.Core.List.{List, [], _∷_}
 use mathlib.Core.Option.{some}
 use Rattle.model.specs.Measures.{Shape}
-use Rattle.model.specs.State.{Shelf, Version}
+use Rattle.model.specs.State.{Storage, Version}
 use Rattle.model.specs.Trace.{imageOf, longestChain}
 use Rattle.model.specs.Sound.{Store, storeOf}
 use Rattle.model.specs.Calls.{layoutOf, tillOf}
@@ -42,14 +42,14 @@ pub record HeldVersion : Type 0 where
   pub chain : ℕ
 
 -- the versions of a till, the oldest first
-unfoldable pub heldVersions : ℕ → Shelf → List Version → List HeldVersion
-heldVersions bytes shelf [] = []
-heldVersions bytes shelf (v ∷ newer) =
-    record { number = v .number; length = v .length; day = v .day; image = imageOf bytes shelf (v ∷ newer); chain = longestChain (v ∷ newer) } ∷ heldVersions bytes shelf newer
+unfoldable pub heldVersions : ℕ → Storage → List Version → List HeldVersion
+heldVersions bytes storage [] = []
+heldVersions bytes storage (v ∷ newer) =
+    record { number = v .number; length = v .length; day = v .day; image = imageOf bytes storage (v ∷ newer); chain = longestChain (v ∷ newer) } ∷ heldVersions bytes storage newer
 
 -- what till `t` of a store holds
 unfoldable pub heldBy : Store → ℕ → List HeldVersion
-heldBy store t = heldVersions (store .shape .measures .blockBytes) (store .state .shelf) (tillOf (store .state) t .versions)
+heldBy store t = heldVersions (store .shape .measures .blockBytes) (store .state .storage) (tillOf (store .state) t .versions)
 
 -- Both are stores, and their tills hold the same. Nothing is said of cells and records, which "may differ".
 pub record SameTills (b b′ : Buffers) : Type 0 where

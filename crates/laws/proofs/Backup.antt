@@ -18,18 +18,18 @@ use Rattle.lists.proofs.Same.{zeros-zero}
 use Rattle.lists.proofs.Rises.{rises-snoc}
 use Rattle.lists.proofs.Counts.{count-append}
 use Rattle.model.specs.Measures.{Measures, Shape, isWithin, partsFor}
-use Rattle.model.specs.State.{Block, Pointer, nullPointer, blankPointer, direct, indirect, Shelf, Version, Rights, Till, State, Outcome, refused, done}
+use Rattle.model.specs.State.{Block, Pointer, nullPointer, blankPointer, direct, indirect, Storage, Version, Rights, Till, State, Outcome, refused, done}
 use Rattle.model.specs.Image.{zeroBlock, Era, isBare, imageBlocks, imageSegments}
 use Rattle.model.specs.Records.{isHeld, positionAt}
 use Rattle.model.specs.Place.{Placed, placeAll}
 use Rattle.model.specs.Turn.{turn, turning}
 use Rattle.model.specs.Sweep.{release, sweep}
 use Rattle.model.specs.Trace.{endOf, blockAt, tracedBlock}
-use Rattle.model.specs.Sound.{isSound, isNull, leads, leadsTo, hasLength, isNumbered, endsZero, areTraceable, isTill, allPointers}
+use Rattle.model.specs.Sound.{isSound, isNull, resolves, leadsTo, hasLength, isNumbered, endsZero, areTraceable, isTill, allPointers}
 use Rattle.model.specs.Calls.{emptyTill, tillOf, withTill, newestPointers, withNewestPointers, newestDay, dayFor, tillWith, fileIn, placeAndFile, backup, After}
 use Rattle.laws.proofs.Fits.{Proper}
 use Rattle.laws.proofs.Measures.{parts-some}
-use Rattle.laws.specs.Shelves.{Exact}
+use Rattle.laws.specs.Storage.{Exact}
 use Rattle.laws.proofs.Counts.{at, leads-itself}
 use Rattle.laws.proofs.Bare.{isIndirect, isBarePointer}
 use Rattle.laws.proofs.Place.{PlacedOk, counted-held}
@@ -64,7 +64,7 @@ replicate-at zero j b h = absurd (not-suc-le-zero h)
 replicate-at (suc n) zero b h = refl
 replicate-at (suc n) (suc j) b h = replicate-at n j b (le-of-suc-le-suc h)
 
-module _ (era : Era) (m : Measures) (a p : Shelf) (bs : List Block) (pad : ℕ) (ps : List Pointer) (ok : PlacedOk era m a p (bs ++ replicate pad (zeroBlock (m .blockBytes))) ps) where
+module _ (era : Era) (m : Measures) (a p : Storage) (bs : List Block) (pad : ℕ) (ps : List Pointer) (ok : PlacedOk era m a p (bs ++ replicate pad (zeroBlock (m .blockBytes))) ps) where
   n : ℕ
   n = length bs
 
@@ -106,7 +106,7 @@ module _ (era : Era) (m : Measures) (a p : Shelf) (bs : List Block) (pad : ℕ) 
 
 -- ---- the till's versions with the new one
 
-module _ (era : Era) (s : Shape) (p : Shelf) (x : Exact p) (bs : List Block) (newV : Version) (ok : NewOk era (s .measures) p bs (newV .pointers)) where
+module _ (era : Era) (s : Shape) (p : Storage) (x : Exact p) (bs : List Block) (newV : Version) (ok : NewOk era (s .measures) p bs (newV .pointers)) where
   ext : List Version → List Version
   ext vs = extended era s p x bs newV ok vs
 
@@ -156,26 +156,26 @@ numbered s last rights vs ws h room top l e =
     )
 
 -- pointers that are not indirect, to held positions, lead
-plain-leads : (p : Shelf) (qs : List Pointer) → ((j : ℕ) → isIndirect (getD qs j nullPointer) ≡ false)
-    → ((k i : ℕ) → 0 < count (leadsTo k i) qs → isHeld (at (p .records) k i) ≡ true) → every (leads p []) qs ≡ true
+plain-leads : (p : Storage) (qs : List Pointer) → ((j : ℕ) → isIndirect (getD qs j nullPointer) ≡ false)
+    → ((k i : ℕ) → 0 < count (leadsTo k i) qs → isHeld (at (p .records) k i) ≡ true) → every (resolves p []) qs ≡ true
 unfolding every count
 plain-leads p [] f g = refl
 plain-leads p (q ∷ qs) f g = rw (one q (f 0) (λ k i e. g k i (omega (arith, ap {B = ℕ} (λ (t : Bool). cond t 1 0) e)))) (plain-leads p qs (λ j. f (suc j)) (λ k i c. g k i (omega (arith, c))))
   where
-    one : (q : Pointer) → isIndirect q ≡ false → ((k i : ℕ) → leadsTo k i q ≡ true → isHeld (at (p .records) k i) ≡ true) → leads p [] q ≡ true
+    one : (q : Pointer) → isIndirect q ≡ false → ((k i : ℕ) → leadsTo k i q ≡ true → isHeld (at (p .records) k i) ≡ true) → resolves p [] q ≡ true
     one nullPointer e r = refl
     one blankPointer e r = refl
     one (direct k i) e r = unfold positionAt in r k i (leads-itself k i)
     one (indirect m) e r = absurd (false≢true (sym e))
 
--- What an accepted backup of `image` at till `t` of `st` did: the segments were placed, the new version joined the till, and the shelf was swept.
+-- What an accepted backup of `image` at till `t` of `st` did: the segments were placed, the new version joined the till, and the storage was swept.
 pub record Filed (era : Era) (s : Shape) (st : State) (t day : ℕ) (image : List ℕ) (a : After) : Type 0 where
   pub there : t < length (st .tills)
   pub answer : a .answer ≡ suc (tillOf st t .last)
-  -- the shelf with the segments placed keeps what all pointers lead to
-  pub placed : Shelf
+  -- the storage with the segments placed keeps what all pointers lead to
+  pub placed : Storage
   pub exact : Exact placed
-  pub kept : Serves (s .measures) (st .shelf) placed (allPointers (st .tills))
+  pub kept : Serves (s .measures) (st .storage) placed (allPointers (st .tills))
   -- the new version
   pub version : Version
   pub number : version .number ≡ suc (tillOf st t .last)
@@ -191,7 +191,7 @@ pub record Filed (era : Era) (s : Shape) (st : State) (t day : ℕ) (image : Lis
   pub versions : till .versions ≡ extended era s placed exact (imageBlocks (s .measures .blockBytes) image) version good (tillOf st t .versions)
   pub tills : a .state .tills ≡ set (st .tills) t till
   -- the sweep keeps what all pointers lead to
-  pub swept : Serves (s .measures) placed (a .state .shelf) (allPointers (a .state .tills))
+  pub swept : Serves (s .measures) placed (a .state .storage) (allPointers (a .state .tills))
   pub sound : isSound s (a .state) ≡ true
 
 -- ---- the state after a backup
@@ -200,7 +200,7 @@ module _ (era : Era) (s : Shape) (pr : Proper (s .measures)) (st : State) (h : i
     (some-bytes : 0 < length image) (few-bytes : length image ≤ s .measures .blockBytes * s .capacities .blocks) (room : length (tillOf st t .versions) < s .capacities .versions)
     (number : tillOf st t .last ≡ 65535 → ⊥)
     (placed : Placed)
-    (ok : PlacedOk era (s .measures) (st .shelf) (placed .shelf) (joined (imageSegments (s .measures .blockBytes) (s .measures .segmentBlocks) image)) (placed .pointers)) where
+    (ok : PlacedOk era (s .measures) (st .storage) (placed .storage) (joined (imageSegments (s .measures .blockBytes) (s .measures .segmentBlocks) image)) (placed .pointers)) where
   bs : List Block
   bs = imageBlocks (s .measures .blockBytes) image
 
@@ -210,24 +210,24 @@ module _ (era : Era) (s : Shape) (pr : Proper (s .measures)) (st : State) (h : i
   valid : Valid s st
   valid = sound-valid s st h
 
-  ok′ : PlacedOk era (s .measures) (st .shelf) (placed .shelf) (bs ++ replicate (padding (s .measures) pr image) (zeroBlock (s .measures .blockBytes))) (placed .pointers)
+  ok′ : PlacedOk era (s .measures) (st .storage) (placed .storage) (bs ++ replicate (padding (s .measures) pr image) (zeroBlock (s .measures .blockBytes))) (placed .pointers)
   unfolding bs
-  ok′ = subst (λ (l : List Block). PlacedOk era (s .measures) (st .shelf) (placed .shelf) l (placed .pointers)) (segments-joined (s .measures) pr image) ok
+  ok′ = subst (λ (l : List Block). PlacedOk era (s .measures) (st .storage) (placed .storage) l (placed .pointers)) (segments-joined (s .measures) pr image) ok
 
-  good : NewOk era (s .measures) (placed .shelf) bs (newV .pointers)
+  good : NewOk era (s .measures) (placed .storage) bs (newV .pointers)
   unfolding newV bs
-  good = new-ok era (s .measures) (st .shelf) (placed .shelf) bs (padding (s .measures) pr image) (placed .pointers) ok′
+  good = new-ok era (s .measures) (st .storage) (placed .storage) bs (padding (s .measures) pr image) (placed .pointers) ok′
 
   same-count : (k i : ℕ) → count (leadsTo k i) (placed .pointers) ≡ count (leadsTo k i) (newV .pointers)
   unfolding newV bs
-  same-count = new-count era (s .measures) (st .shelf) (placed .shelf) bs (padding (s .measures) pr image) (placed .pointers) ok′
+  same-count = new-count era (s .measures) (st .storage) (placed .storage) bs (padding (s .measures) pr image) (placed .pointers) ok′
 
   size : length (newV .pointers) ≡ partsFor (s .measures .blockBytes) (length image)
   unfolding newV bs
-  size = new-length era (s .measures) (st .shelf) (placed .shelf) bs (padding (s .measures) pr image) (placed .pointers) ok′ ∙ blocks-length (s .measures) pr image
+  size = new-length era (s .measures) (st .storage) (placed .storage) bs (padding (s .measures) pr image) (placed .pointers) ok′ ∙ blocks-length (s .measures) pr image
 
-  placed-held : (k i : ℕ) → 0 < count (leadsTo k i) (newV .pointers) → isHeld (at (placed .shelf .records) k i) ≡ true
-  placed-held k i q = counted-held (at (placed .shelf .records) k i) (omega (arith, q, ok .counts k i, same-count k i))
+  placed-held : (k i : ℕ) → 0 < count (leadsTo k i) (newV .pointers) → isHeld (at (placed .storage .records) k i) ≡ true
+  placed-held k i q = counted-held (at (placed .storage .records) k i) (omega (arith, q, ok .counts k i, same-count k i))
 
   len : hasLength (s .measures .blockBytes) (s .capacities .blocks) newV ≡ true
   unfolding hasLength isWithin newV
@@ -237,60 +237,60 @@ module _ (era : Era) (s : Shape) (pr : Proper (s .measures)) (st : State) (h : i
         (eq-eqb (length (newV .pointers)) (partsFor (s .measures .blockBytes) (length image)) size, tt),
       )
 
-  lead : every (leads (placed .shelf) []) (newV .pointers) ≡ true
-  lead = plain-leads (placed .shelf) (newV .pointers) (good .plain) placed-held
+  lead : every (resolves (placed .storage) []) (newV .pointers) ≡ true
+  lead = plain-leads (placed .storage) (newV .pointers) (good .plain) placed-held
 
   many : 0 < partsFor (s .measures .blockBytes) (length image)
   many = parts-some (s .measures .blockBytes) (length image) (pr .bytes) some-bytes
 
-  end : endsZero (s .measures .blockBytes) (placed .shelf) newV [] ≡ true
+  end : endsZero (s .measures .blockBytes) (placed .storage) newV [] ≡ true
   unfolding endsZero tracedBlock endOf bs newV
   end =
       let j : ℕ = length (newV .pointers) - 1 in
       ap (λ (b : Block). allZero (drop (length image - s .measures .blockBytes * j) b))
-      (ap (blockAt (s .measures .blockBytes) (placed .shelf)) (plain-end (getD (newV .pointers) j nullPointer) _ (good .plain j)) ∙ good .traced j (omega (arith, size, blocks-length (s .measures) pr image, some-bytes, many)))
+      (ap (blockAt (s .measures .blockBytes) (placed .storage)) (plain-end (getD (newV .pointers) j nullPointer) _ (good .plain j)) ∙ good .traced j (omega (arith, size, blocks-length (s .measures) pr image, some-bytes, many)))
       ∙ last-zero (s .measures) pr image some-bytes (length (newV .pointers)) size
 
-  -- ---- the tills on the shelf with the segments placed
+  -- ---- the tills on the storage with the segments placed
 
-  serves : Serves (s .measures) (st .shelf) (placed .shelf) (allPointers (st .tills))
+  serves : Serves (s .measures) (st .storage) (placed .storage) (allPointers (st .tills))
   serves = record {
-    holds = λ k i q. counted-held (at (placed .shelf .records) k i) (omega (arith, q, ok .counts k i, valid .counts k i));
+    holds = λ k i q. counted-held (at (placed .storage .records) k i) (omega (arith, q, ok .counts k i, valid .counts k i));
     blocks = λ k i q. ok .blocks k i (omega (arith, q, valid .counts k i));
   }
 
-  olds : every (isTill s (placed .shelf)) (st .tills) ≡ true
+  olds : every (isTill s (placed .storage)) (st .tills) ≡ true
   olds =
-      tills-again s (st .shelf) (placed .shelf) (allPointers (st .tills)) serves (st .tills) (valid .tills)
+      tills-again s (st .storage) (placed .storage) (allPointers (st .tills)) serves (st .tills) (valid .tills)
       (λ k i. le-refl (count (leadsTo k i) (allPointers (st .tills))))
 
-  before : isTill s (placed .shelf) (tillOf st t) ≡ true
+  before : isTill s (placed .storage) (tillOf st t) ≡ true
   unfolding tillOf
-  before = every-at (isTill s (placed .shelf)) emptyTill (st .tills) olds t ht
+  before = every-at (isTill s (placed .storage)) emptyTill (st .tills) olds t ht
 
   vs : List Version
   vs = tillOf st t .versions
 
   rs : List Pointer
-  rs = turning era (placed .shelf) bs (newestPointers vs)
+  rs = turning era (placed .storage) bs (newestPointers vs)
 
   after : Till
-  after = tillWith (tillOf st t) (turn era (placed .shelf) bs (newestPointers vs)) (length image) day (take (length bs) (placed .pointers))
+  after = tillWith (tillOf st t) (turn era (placed .storage) bs (newestPointers vs)) (length image) day (take (length bs) (placed .pointers))
 
-  after-versions : after .versions ≡ extended era s (placed .shelf) (ok .exact) bs newV good vs
+  after-versions : after .versions ≡ extended era s (placed .storage) (ok .exact) bs newV good vs
   unfolding after tillWith extended newV bs vs
   after-versions = refl
 
-  after-till : isTill s (placed .shelf) after ≡ true
+  after-till : isTill s (placed .storage) after ≡ true
   unfolding isTill after tillWith
   after-till =
       all-true _ (
         numbered s (tillOf st t .last) (tillOf st t .rights) vs (after .versions) (unfold vs in clause _ 0 before) (unfold vs in room) number
-            (ap length after-versions ∙ ext-length era s (placed .shelf) (ok .exact) bs newV good vs)
-            (ap (map (λ (v : Version). v .number)) after-versions ∙ (unfold newV in ext-numbers era s (placed .shelf) (ok .exact) bs newV good vs)),
+            (ap length after-versions ∙ ext-length era s (placed .storage) (ok .exact) bs newV good vs)
+            (ap (map (λ (v : Version). v .number)) after-versions ∙ (unfold newV in ext-numbers era s (placed .storage) (ok .exact) bs newV good vs)),
         (
-          ap (areTraceable (s .measures .blockBytes) (s .capacities .blocks) (placed .shelf)) after-versions
-              ∙ extended-traceable era s (placed .shelf) (ok .exact) bs newV good len lead end vs (unfold vs in clause _ 1 before),
+          ap (areTraceable (s .measures .blockBytes) (s .capacities .blocks) (placed .storage)) after-versions
+              ∙ extended-traceable era s (placed .storage) (ok .exact) bs newV good len lead end vs (unfold vs in clause _ 1 before),
           (clause _ 2 before, tt),
         ),
       )
@@ -309,17 +309,17 @@ module _ (era : Era) (s : Shape) (pr : Proper (s .measures)) (st : State) (h : i
         same-count k i,
         pointers-set k i (st .tills) t after ht,
         ap (λ (l : List Version). count (leadsTo k i) (pointersOf l)) after-versions,
-        ext-count era s (placed .shelf) (ok .exact) bs newV good k i (getD (st .tills) t emptyTill .versions),
+        ext-count era s (placed .storage) (ok .exact) bs newV good k i (getD (st .tills) t emptyTill .versions),
       )
 
-  fin : Finished (s .measures) (placed .shelf) (sweep (s .measures) (release (placed .shelf) rs)) ps
+  fin : Finished (s .measures) (placed .storage) (sweep (s .measures) (release (placed .storage) rs)) ps
   fin =
-      finish (s .measures) (placed .shelf) (allPointers (st .tills) ++ placed .pointers) rs ps (ok .fits) (ok .exact)
+      finish (s .measures) (placed .storage) (allPointers (st .tills) ++ placed .pointers) rs ps (ok .fits) (ok .exact)
       (λ k i. ok .counts k i ∙ ap (λ (n : ℕ). n + count (leadsTo k i) (placed .pointers)) (valid .counts k i)
       ∙ sym (count-append (leadsTo k i) (allPointers (st .tills)) (placed .pointers)))
       shared
 
-  filed-sound : isSound s (withTill st t after (sweep (s .measures) (release (placed .shelf) rs))) ≡ true
+  filed-sound : isSound s (withTill st t after (sweep (s .measures) (release (placed .storage) rs))) ≡ true
   unfolding withTill ps
   filed-sound =
       valid-sound s _
@@ -331,25 +331,25 @@ module _ (era : Era) (s : Shape) (pr : Proper (s .measures)) (st : State) (h : i
         fits = fin .fits;
         exact = fin .exact;
         tills =
-            tills-again s (placed .shelf) (sweep (s .measures) (release (placed .shelf) rs)) ps (fin .serves) (set (st .tills) t after)
-            (every-set (isTill s (placed .shelf)) (st .tills) t after olds after-till) (λ k i. le-refl (count (leadsTo k i) ps));
+            tills-again s (placed .storage) (sweep (s .measures) (release (placed .storage) rs)) ps (fin .serves) (set (st .tills) t after)
+            (every-set (isTill s (placed .storage)) (st .tills) t after olds after-till) (λ k i. le-refl (count (leadsTo k i) ps));
         counts = fin .counts;
       })
       (fin .positive)
 
-  filed : Filed era s st t day image (record { state = withTill st t (tillWith (tillOf st t) (turn era (placed .shelf) (imageBlocks (s .measures .blockBytes) image) (newestPointers (tillOf st t .versions))) (length image) day (take (length (imageBlocks (s .measures .blockBytes) image)) (placed .pointers))) (sweep (s .measures) (release (placed .shelf) (turning era (placed .shelf) (imageBlocks (s .measures .blockBytes) image) (newestPointers (tillOf st t .versions))))); answer = suc (tillOf st t .last) })
+  filed : Filed era s st t day image (record { state = withTill st t (tillWith (tillOf st t) (turn era (placed .storage) (imageBlocks (s .measures .blockBytes) image) (newestPointers (tillOf st t .versions))) (length image) day (take (length (imageBlocks (s .measures .blockBytes) image)) (placed .pointers))) (sweep (s .measures) (release (placed .storage) (turning era (placed .storage) (imageBlocks (s .measures .blockBytes) image) (newestPointers (tillOf st t .versions))))); answer = suc (tillOf st t .last) })
   unfolding bs newV vs rs after ps withTill
   filed = record {
     there = ht;
     answer = refl;
-    placed = placed .shelf;
+    placed = placed .storage;
     exact = ok .exact;
     kept = serves;
     version = newV;
     number = refl;
     bytes = refl;
     dated = refl;
-    size = new-length era (s .measures) (st .shelf) (placed .shelf) bs (padding (s .measures) pr image) (placed .pointers) ok′;
+    size = new-length era (s .measures) (st .storage) (placed .storage) bs (padding (s .measures) pr image) (placed .pointers) ok′;
     good = good;
     before = before;
     till = after;
@@ -376,13 +376,13 @@ backup-filed era s pr t brought image st a h e =
     let (z, big) = or-false (eqb (length image) 0) (ltb (s .measures .blockBytes * s .capacities .blocks) (length image)) e₂ in
     let v : Valid s st = sound-valid s st h in
     let segs : List (List Block) = imageSegments (s .measures .blockBytes) (s .measures .segmentBlocks) image in
-    go day (placeAll era (done (record { shelf = st .shelf; pointers = [] })) segs)
-    (place-ok era (s .measures) (st .shelf) segs (v .fits) (v .exact) (segments-ok (s .measures) pr image))
+    go day (placeAll era (done (record { storage = st .storage; pointers = [] })) segs)
+    (place-ok era (s .measures) (st .storage) segs (v .fits) (v .exact) (segments-ok (s .measures) pr image))
     (omega (arith, leb-false (s .capacities .tills) t e₁, v .tillCount)) (omega (arith, eqb-false (length image) 0 z))
     (ltb-false (s .measures .blockBytes * s .capacities .blocks) (length image) big) (leb-false (s .capacities .versions) (length (tillOf st t .versions)) e₃)
     (eqb-false (tillOf st t .last) 65535 e₄) r₅
   where
-    go : (day : ℕ) (o : Outcome Placed) → PlaceOk era (s .measures) (st .shelf) (joined (imageSegments (s .measures .blockBytes) (s .measures .segmentBlocks) image)) o
+    go : (day : ℕ) (o : Outcome Placed) → PlaceOk era (s .measures) (st .storage) (joined (imageSegments (s .measures .blockBytes) (s .measures .segmentBlocks) image)) o
         → t < length (st .tills) → 0 < length image → length image ≤ s .measures .blockBytes * s .capacities .blocks
         → length (tillOf st t .versions) < s .capacities .versions → (tillOf st t .last ≡ 65535 → ⊥)
         → fileIn era s st t day image (imageBlocks (s .measures .blockBytes) image) (tillOf st t) o ≡ done a → Filed era s st t day image a

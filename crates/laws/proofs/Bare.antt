@@ -6,18 +6,18 @@ use Rattle.lists.specs.Lists.{allZero}
 use Rattle.lists.proofs.Same.{all-eq, zeros-eq}
 use Rattle.lists.proofs.Tests.{by-test}
 use Rattle.model.specs.Measures.{Measures}
-use Rattle.model.specs.State.{Block, Pointer, nullPointer, blankPointer, direct, indirect, Position, nullPosition, blankPosition, Shelf}
+use Rattle.model.specs.State.{Block, Pointer, nullPointer, blankPointer, direct, indirect, Position, nullPosition, blankPosition, Storage}
 use Rattle.model.specs.Image.{zeroBlock, blankBlock, Era, beforeBlanks, withBlanks, isBlank, isBare}
 use Rattle.model.specs.Place.{barePointer, barePosition}
 use Rattle.model.specs.Trace.{blockAt}
 use Rattle.model.specs.Sound.{isNull, leadsTo}
-use Rattle.laws.proofs.Clean.{Whole}
+use Rattle.laws.proofs.Clean.{HasBytes}
 
-pub zero-eq : (m : Measures) (b : Block) → allZero b ≡ true → Whole m b → zeroBlock (m .blockBytes) ≡ b
+pub zero-eq : (m : Measures) (b : Block) → allZero b ≡ true → HasBytes m b → zeroBlock (m .blockBytes) ≡ b
 unfolding zeroBlock
 zero-eq m b h e = zeros-eq b (m .blockBytes) h e
 
-pub blank-eq : (era : Era) (m : Measures) (b : Block) → isBlank era b ≡ true → Whole m b → blankBlock (m .blockBytes) ≡ b
+pub blank-eq : (era : Era) (m : Measures) (b : Block) → isBlank era b ≡ true → HasBytes m b → blankBlock (m .blockBytes) ≡ b
 unfolding blankBlock isBlank
 blank-eq beforeBlanks m b h e = absurd (false≢true h)
 blank-eq withBlanks m b h e = all-eq 255 b (m .blockBytes) h e
@@ -44,7 +44,7 @@ stored-full era b = go (allZero b)
     go true h = absurd (false≢true (sym h))
     go false h = refl
 
-pub bare-eq : (era : Era) (m : Measures) (a : Shelf) (b : Block) → isBare era b ≡ true → Whole m b → blockAt (m .blockBytes) a (barePointer b) ≡ b
+pub bare-eq : (era : Era) (m : Measures) (a : Storage) (b : Block) → isBare era b ≡ true → HasBytes m b → blockAt (m .blockBytes) a (barePointer b) ≡ b
 unfolding isBare barePointer blockAt
 bare-eq era m a b h w = go (allZero b) refl h
   where

@@ -12,7 +12,7 @@ use lib.ListN.{length, getD}
 use lib.Dec.{leb, ltb, eqb}
 use borrow.Author.Tests.{leb-true, leb-false, ltb-true, ltb-false, eqb-true, eqb-false}
 use Rattle.lists.specs.Lists.{firstFrom}
-use Rattle.model.specs.State.{Shelf}
+use Rattle.model.specs.State.{Storage}
 use Rattle.model.specs.Runs.{Run, freeCells, better, scan, findRun}
 use Rattle.lists.proofs.Tests.{by-test}
 
@@ -106,8 +106,8 @@ module _ (free : List Bool) where
       better-best (some r) b =
           by-test (Best need (suc (a + k))) (leb need k)
           (λ e. by-test (Best need (suc (a + k))) (ltb k (r .cells)) (λ g. taken (leb-true need k e) (λ a′ l′ m w q. shorter (b .least a′ l′ m w q) (ltb-true k (r .cells) g)))
-          (λ g. stays (λ a′ l′ m q w. later (w .1) (w .0) (ltb-false k (r .cells) g))))
-          (λ e. stays (λ a′ l′ m q w. absurd (not-suc-le-zero (let z : 1 ≤ 0 = omega (arith, w .1, q, leb-false need k e) in z))))
+          (λ g. isReferenced (λ a′ l′ m q w. later (w .1) (w .0) (ltb-false k (r .cells) g))))
+          (λ e. isReferenced (λ a′ l′ m q w. absurd (not-suc-le-zero (let z : 1 ≤ 0 = omega (arith, w .1, q, leb-false need k e) in z))))
         where
           shorter : {a′ l′ : ℕ} → NotWorse r a′ l′ → k < r .cells → k < l′
           shorter (inl x) g = omega (arith, x, g)
@@ -120,8 +120,8 @@ module _ (free : List Bool) where
               go true q = inr (eqb-true (r .cells) l′ q, omega (arith, b .inside, s))
               go false q = inl (omega (arith, eqb-false (r .cells) l′ q, e, g))
 
-          stays : ((a′ l′ : ℕ) → Maximal a′ l′ → need ≤ l′ → (a′ ≡ a) × (l′ ≡ k) → NotWorse r a′ l′) → Best need (suc (a + k)) (some r)
-          stays f = record {
+          isReferenced : ((a′ l′ : ℕ) → Maximal a′ l′ → need ≤ l′ → (a′ ≡ a) × (l′ ≡ k) → NotWorse r a′ l′) → Best need (suc (a + k)) (some r)
+          isReferenced f = record {
             maximal = b .maximal;
             enough = b .enough;
             inside = omega (arith, b .inside);
@@ -173,23 +173,23 @@ abbrev pub IsBest : List Bool → ℕ → Option Run → Type 0
 IsBest free need none = (a l : ℕ) → Maximal free a l → need ≤ l → ⊥
 IsBest free need (some r) = BestOf free need r
 
-pub find-best : (shelf : Shelf) (need : ℕ) → 0 < need → IsBest (freeCells shelf) need (findRun shelf need)
+pub find-best : (storage : Storage) (need : ℕ) → 0 < need → IsBest (freeCells storage) need (findRun storage need)
 unfolding findRun
-find-best shelf need pos =
-    let free : List Bool = freeCells shelf in
+find-best storage need pos =
+    let free : List Bool = freeCells storage in
     let r = scan-best free need pos free 0 0 none (λ j. ap (λ (i : ℕ). getD free i false) (let z : j ≡ 0 + 0 + j = omega arith in z)) (λ j l. absurd (not-suc-le-zero l))
     (λ p e. absurd (not-suc-le-zero (let z : 1 ≤ 0 = omega (arith, e) in z))) (λ a l m h n. not-suc-le-zero h) in
     all (scan need free 0 0 none) (r .0) (r .1) (r .2)
   where
-    before : (n : ℕ) → ((i : ℕ) → n ≤ i → getD (freeCells shelf) i false ≡ false) → (a l : ℕ) → Maximal (freeCells shelf) a l → a < suc n
+    before : (n : ℕ) → ((i : ℕ) → n ≤ i → getD (freeCells storage) i false ≡ false) → (a l : ℕ) → Maximal (freeCells storage) a l → a < suc n
     before n e a l m = go (ltb a (suc n)) refl
       where
         go : (x : Bool) → ltb a (suc n) ≡ x → a < suc n
         go true q = ltb-true a (suc n) q
         go false q =
-            absurd (false≢true (sym (e a (omega (arith, ltb-false a (suc n) q))) ∙ ap (λ (i : ℕ). getD (freeCells shelf) i false) (sym (add-zero a)) ∙ m .all 0 (m .some)))
+            absurd (false≢true (sym (e a (omega (arith, ltb-false a (suc n) q))) ∙ ap (λ (i : ℕ). getD (freeCells storage) i false) (sym (add-zero a)) ∙ m .all 0 (m .some)))
 
-    all : (o : Option Run) (n : ℕ) → ((i : ℕ) → n ≤ i → getD (freeCells shelf) i false ≡ false) → Best (freeCells shelf) need (suc n) o → IsBest (freeCells shelf) need o
+    all : (o : Option Run) (n : ℕ) → ((i : ℕ) → n ≤ i → getD (freeCells storage) i false ≡ false) → Best (freeCells storage) need (suc n) o → IsBest (freeCells storage) need o
     all none n e b = λ a l m q. b a l m (before n e a l m) q
     all (some r) n e b = record { maximal = b .maximal; enough = b .enough; least = λ a l m q. b .least a l m (before n e a l m) q }
 

@@ -19,7 +19,7 @@ use Rattle.model.specs.State.{Pointer, nullPointer, blankPointer, direct, indir
 use Rattle.model.specs.Records.{isHeld, countOf}
 use Rattle.model.specs.Sound.{isSound, leadsTo, allPointers}
 use Rattle.laws.proofs.Sweep.{countIn}
-use Rattle.laws.specs.Shelves.{SegmentFits}
+use Rattle.laws.specs.Storage.{SegmentFits}
 use Rattle.laws.proofs.Counts.{at, leads-itself}
 use Rattle.laws.proofs.Serves.{pointersOf, Valid, sound-valid}
 use Rattle.laws.specs.Ranges.{Ranges}
@@ -64,7 +64,7 @@ module _ (s : Shape) (fit : Fit s) (st : State) (h : isSound s st ≡ true) wher
       omega (arith, tills-most s (st .tills) (f .tills), all)
 
   -- a position's count
-  pub count-bound : (k i : ℕ) → countIn (st .shelf) k i ≤ 1048576
+  pub count-bound : (k i : ℕ) → countIn (st .storage) k i ≤ 1048576
   count-bound k i = omega (arith, valid .counts k i, count-most (leadsTo k i) (allPointers (st .tills)), pointers-most)
 
 -- ---- the sum of all counts
@@ -128,28 +128,28 @@ module _ (rows cols : ℕ) where
 
 module _ (s : Shape) (fit : Fit s) (st : State) (h : isSound s st ≡ true) where
   -- the tally's third number
-  pub counts-sum : total (total countOf) (st .shelf .records) ≡ count isDirect (allPointers (st .tills))
+  pub counts-sum : total (total countOf) (st .storage .records) ≡ count isDirect (allPointers (st .tills))
   unfolding grid
   counts-sum =
       let v : Valid s st = sound-valid s st h in
-      sym (total-at (total countOf) [] (st .shelf .records) 0 (λ k. total (λ i. count (leadsTo k i) (allPointers (st .tills))) (counted (λ x. x) 0 (s .measures .segmentBlocks))) (row v))
-      ∙ grid-count (length (st .shelf .records)) (s .measures .segmentBlocks) (allPointers (st .tills)) (inside v)
+      sym (total-at (total countOf) [] (st .storage .records) 0 (λ k. total (λ i. count (leadsTo k i) (allPointers (st .tills))) (counted (λ x. x) 0 (s .measures .segmentBlocks))) (row v))
+      ∙ grid-count (length (st .storage .records)) (s .measures .segmentBlocks) (allPointers (st .tills)) (inside v)
     where
-      size : Valid s st → (k : ℕ) → k < length (st .shelf .records) → length (getD (st .shelf .records) k []) ≡ s .measures .segmentBlocks
-      size v k l = each-at (SegmentFits (s .measures)) [] (st .shelf .records) (v .fits .records) k l .size
+      size : Valid s st → (k : ℕ) → k < length (st .storage .records) → length (getD (st .storage .records) k []) ≡ s .measures .segmentBlocks
+      size v k l = each-at (SegmentFits (s .measures)) [] (st .storage .records) (v .fits .records) k l .size
 
-      row : Valid s st → (k : ℕ) → k < length (st .shelf .records)
-          → total (λ i. count (leadsTo (0 + k) i) (allPointers (st .tills))) (counted (λ x. x) 0 (s .measures .segmentBlocks)) ≡ total countOf (getD (st .shelf .records) k [])
+      row : Valid s st → (k : ℕ) → k < length (st .storage .records)
+          → total (λ i. count (leadsTo (0 + k) i) (allPointers (st .tills))) (counted (λ x. x) 0 (s .measures .segmentBlocks)) ≡ total countOf (getD (st .storage .records) k [])
       row v k l =
           ap (λ (n : ℕ). total (λ i. count (leadsTo (0 + k) i) (allPointers (st .tills))) (counted (λ x. x) 0 n)) (sym (size v k l))
-          ∙ total-at countOf nullPosition (getD (st .shelf .records) k []) 0 (λ i. count (leadsTo (0 + k) i) (allPointers (st .tills)))
+          ∙ total-at countOf nullPosition (getD (st .storage .records) k []) 0 (λ i. count (leadsTo (0 + k) i) (allPointers (st .tills)))
           (λ j q. ap₂ (λ (a b : ℕ). count (leadsTo a b) (allPointers (st .tills))) (zero-add k) (zero-add j) ∙ sym (v .counts k j))
 
-      inside : Valid s st → (k i : ℕ) → 0 < count (leadsTo k i) (allPointers (st .tills)) → (k < length (st .shelf .records)) × (i < s .measures .segmentBlocks)
+      inside : Valid s st → (k i : ℕ) → 0 < count (leadsTo k i) (allPointers (st .tills)) → (k < length (st .storage .records)) × (i < s .measures .segmentBlocks)
       inside v k i c =
-          let held : isHeld (at (st .shelf .records) k i) ≡ true = counted-held (at (st .shelf .records) k i) (omega (arith, c, v .counts k i)) in
-          let k-in : k < length (st .shelf .records) = record-in (st .shelf .records) k i held in
-          (k-in, subst (λ (n : ℕ). i < n) (size v k k-in) (held-in (getD (st .shelf .records) k []) i held))
+          let held : isHeld (at (st .storage .records) k i) ≡ true = counted-held (at (st .storage .records) k i) (omega (arith, c, v .counts k i)) in
+          let k-in : k < length (st .storage .records) = record-in (st .storage .records) k i held in
+          (k-in, subst (λ (n : ℕ). i < n) (size v k k-in) (held-in (getD (st .storage .records) k []) i held))
 
-  pub counts-most : total (total countOf) (st .shelf .records) ≤ 1048576
+  pub counts-most : total (total countOf) (st .storage .records) ≤ 1048576
   counts-most = omega (arith, counts-sum, count-most isDirect (allPointers (st .tills)), pointers-most s fit st h)

@@ -16,20 +16,20 @@ use Rattle.lists.proofs.Each.{each-upd}
 use Rattle.lists.proofs.Sets.{upd-same}
 use Rattle.lists.proofs.Tests.{all-true, clause}
 use Rattle.model.specs.Measures.{Measures}
-use Rattle.model.specs.State.{Pointer, nullPointer, blankPointer, direct, indirect, Position, nullPosition, blankPosition, held, removed, Segment, Shelf}
+use Rattle.model.specs.State.{Pointer, nullPointer, blankPointer, direct, indirect, Position, nullPosition, blankPosition, held, removed, Segment, Storage}
 use Rattle.model.specs.Records.{isHeld, isFree, isNullPosition, countOf, cellOf, cellsOf, namedCells}
 use Rattle.model.specs.Place.{oneMore}
 use Rattle.model.specs.Sweep.{oneLess, changeAt, changeAll}
-use Rattle.model.specs.Sound.{leadsTo, isCounted, areCounted, allCounted, isUsed}
+use Rattle.model.specs.Sound.{leadsTo, isCounted, areCounted, allCounted, isFreeOrHolds}
 use Rattle.laws.proofs.Sweep.{countIn}
-use Rattle.laws.specs.Shelves.{SegmentFits}
+use Rattle.laws.specs.Storage.{SegmentFits}
 
 abbrev pub at : List Segment → ℕ → ℕ → Position
 at segs k i = getD (getD segs k []) i nullPosition
 
 -- the counts are those of the pointers in the list
-abbrev pub Counted : Shelf → List Pointer → Type 0
-Counted shelf ps = (k i : ℕ) → countIn shelf k i ≡ count (leadsTo k i) ps
+abbrev pub Counted : Storage → List Pointer → Type 0
+Counted storage ps = (k i : ℕ) → countIn storage k i ≡ count (leadsTo k i) ps
 
 -- ---- from the test and back
 
@@ -55,8 +55,8 @@ records-counted ps k (seg ∷ segs) h (suc j) i e =
     records-counted ps (suc k) segs (clause _ 1 h) j i e ∙ ap (λ (x : ℕ). count (leadsTo x i) ps) (suc-add k j ∙ sym (add-suc k j))
 
 -- every direct pointer leads to a held position
-abbrev pub Led : Shelf → List Pointer → Type 0
-Led shelf ps = (k i : ℕ) → 0 < count (leadsTo k i) ps → isHeld (at (shelf .records) k i) ≡ true
+abbrev pub Led : Storage → List Pointer → Type 0
+Led storage ps = (k i : ℕ) → 0 < count (leadsTo k i) ps → isHeld (at (storage .records) k i) ≡ true
 
 unheld : (p : Position) → isHeld p ≡ false → countOf p ≡ 0
 unheld nullPosition e = refl
@@ -64,12 +64,12 @@ unheld blankPosition e = refl
 unheld (held c n) e = absurd (false≢true (sym e))
 unheld removed e = refl
 
-pub sound-counted : (shelf : Shelf) (ps : List Pointer) → allCounted ps 0 (shelf .records) ≡ true → Led shelf ps → Counted shelf ps
-sound-counted shelf ps h l k i = go (isHeld (at (shelf .records) k i)) refl
+pub sound-counted : (storage : Storage) (ps : List Pointer) → allCounted ps 0 (storage .records) ≡ true → Led storage ps → Counted storage ps
+sound-counted storage ps h l k i = go (isHeld (at (storage .records) k i)) refl
   where
-    go : (t : Bool) → isHeld (at (shelf .records) k i) ≡ t → countIn shelf k i ≡ count (leadsTo k i) ps
-    go true e = records-counted ps 0 (shelf .records) h k i e ∙ ap (λ (x : ℕ). count (leadsTo x i) ps) (zero-add k)
-    go false e = unheld (at (shelf .records) k i) e ∙ none (ltb 0 (count (leadsTo k i) ps)) refl
+    go : (t : Bool) → isHeld (at (storage .records) k i) ≡ t → countIn storage k i ≡ count (leadsTo k i) ps
+    go true e = records-counted ps 0 (storage .records) h k i e ∙ ap (λ (x : ℕ). count (leadsTo x i) ps) (zero-add k)
+    go false e = unheld (at (storage .records) k i) e ∙ none (ltb 0 (count (leadsTo k i) ps)) refl
       where
         none : (t : Bool) → ltb 0 (count (leadsTo k i) ps) ≡ t → 0 ≡ count (leadsTo k i) ps
         none true q = absurd (false≢true (sym e ∙ l k i (ltb-true 0 (count (leadsTo k i) ps) q)))
@@ -103,10 +103,10 @@ counted-records ps k (seg ∷ segs) h =
       (counted-records ps (suc k) segs (λ j i e. (h (suc j) i e .0, h (suc j) i e .1 ∙ ap (λ (x : ℕ). count (leadsTo x i) ps) (add-suc k j ∙ sym (suc-add k j)))), tt),
     )
 
-pub counted-sound : (shelf : Shelf) (ps : List Pointer) → Counted shelf ps
-    → ((k i : ℕ) → isHeld (at (shelf .records) k i) ≡ true → 0 < countIn shelf k i) → allCounted ps 0 (shelf .records) ≡ true
-counted-sound shelf ps c g =
-    counted-records ps 0 (shelf .records) (λ k i e. (g k i e, c k i ∙ ap (λ (x : ℕ). count (leadsTo x i) ps) (sym (zero-add k))))
+pub counted-sound : (storage : Storage) (ps : List Pointer) → Counted storage ps
+    → ((k i : ℕ) → isHeld (at (storage .records) k i) ≡ true → 0 < countIn storage k i) → allCounted ps 0 (storage .records) ≡ true
+counted-sound storage ps c g =
+    counted-records ps 0 (storage .records) (λ k i e. (g k i e, c k i ∙ ap (λ (x : ℕ). count (leadsTo x i) ps) (sym (zero-add k))))
 
 -- ---- counts that change
 
@@ -191,7 +191,7 @@ module _ (f : Position → Position) (c : Recount f) where
   change-all-named (p ∷ ps) segs = change-all-named ps (changeAt f segs p) ∙ change-named segs p
 
   same-fits : (m : Measures) (i : ℕ) (seg : Segment) → SegmentFits m seg → SegmentFits m (changeIn i seg)
-  unfolding changeIn isUsed
+  unfolding changeIn isFreeOrHolds
   same-fits m i seg g = record {
     size = length-set seg i (f (getD seg i nullPosition)) ∙ g .size;
     used = ap₂ (λ (a : Bool) (n : ℕ). a || ltb 0 n) (same-used seg i .0) (same-used seg i .1) ∙ g .used;

@@ -11,11 +11,11 @@ use Rattle.lists.specs.Rows.{joined}
 use Rattle.lists.proofs.Tests.{all-true, every-replicate}
 use Rattle.lists.proofs.Same.{zeros-zero}
 use Rattle.model.specs.Measures.{Measures, Capacities, Shape, inRange}
-use Rattle.model.specs.State.{Pointer, nullPosition, Shelf}
+use Rattle.model.specs.State.{Pointer, nullPosition, Storage}
 use Rattle.model.specs.Image.{zeroBlock}
 use Rattle.model.specs.Records.{freeSegment, isNullPosition, isFree, cellsOf, namedCells}
 use Rattle.model.specs.Table.{stateToBytes, stateToWords}
-use Rattle.model.specs.Sound.{isSound, isShaped, isNumbered, isTill, areTraceable, isUsed, hasCells, areCounted, allCounted, allPointers, areFilled}
+use Rattle.model.specs.Sound.{isSound, isShaped, isNumbered, isTill, areTraceable, isFreeOrHolds, hasCells, areCounted, allCounted, allPointers, areFilled}
 use Rattle.model.specs.Calls.{emptyTill, emptyState, layoutIf, layoutOf}
 
 -- a null block is zero
@@ -49,8 +49,8 @@ module _ (m : Measures) where
   none-filled c zero = refl
   none-filled c (suc n) = rw (zero-null (m .blockBytes), none-filled (suc c) n) refl
 
-  free-used : isUsed (freeSegment (m .segmentBlocks)) ≡ true
-  unfolding isUsed isFree freeSegment
+  free-used : isFreeOrHolds (freeSegment (m .segmentBlocks)) ≡ true
+  unfolding isFreeOrHolds isFree freeSegment
   free-used = rw (every-replicate isNullPosition (m .segmentBlocks) nullPosition refl) refl
 
 no-pointers : (n : ℕ) → allPointers (replicate n emptyTill) ≡ []
@@ -58,9 +58,9 @@ unfolding allPointers joined emptyTill
 no-pointers zero = refl
 no-pointers (suc n) = no-pointers n
 
-empty-till : (s : Shape) (shelf : Shelf) → isTill s shelf emptyTill ≡ true
+empty-till : (s : Shape) (storage : Storage) → isTill s storage emptyTill ≡ true
 unfolding isTill isNumbered areTraceable emptyTill
-empty-till s shelf =
+empty-till s storage =
     all-true _ (all-true _ (le-leb 0 (s .capacities .versions) zero-le, (refl, (unfold rises in refl, tt))), (refl, (refl, tt)))
 
 pub empty-sound : (s : Shape) → inRange s ≡ true → isSound s (emptyState s) ≡ true
@@ -89,7 +89,7 @@ empty-sound s h =
           (
             rw (no-cells m (c .records)) (unfold every distinct allOf in refl),
             (
-              every-replicate _ (c .tills) emptyTill (empty-till s (emptyState s .shelf)),
+              every-replicate _ (c .tills) emptyTill (empty-till s (emptyState s .storage)),
               (
                 none-counted m _ 0 (c .records),
                 (rw (no-cells m (c .records)) (none-filled m 0 (c .cells)), tt),

@@ -15,7 +15,7 @@ use Rattle.model.specs.Measures.{Measures, Shape, isWithin, inRange, partsFor}
 use Rattle.model.specs.State.{Block, Pointer, nullPointer, blankPointer, direct, indirect, nullPosition, Segment, Version, Till, staff, State}
 use Rattle.model.specs.Records.{isHeld, positionAt}
 use Rattle.model.specs.Table.{kindUnit, shapeOf, stateToWords}
-use Rattle.model.specs.Sound.{isSound, isShaped, hasLength, isNumbered, isNull, leads, nextPointers, areTraceable, isTill}
+use Rattle.model.specs.Sound.{isSound, isShaped, hasLength, isNumbered, isNull, resolves, nextPointers, areTraceable, isTill}
 use Rattle.laws.proofs.Ranges.{measured, ranges, header-back}
 
 -- ---- measures
@@ -62,10 +62,10 @@ pub record TillFits (s : Shape) (t : Till) : Type 0 where
 pub record StateFits (s : Shape) (st : State) : Type 0 where
   pub tills : Each (TillFits s) (st .tills)
   pub tillCount : length (st .tills) ≡ s .capacities .tills
-  pub records : Each (λ (seg : Segment). length seg ≡ s .measures .segmentBlocks) (st .shelf .records)
-  pub recordCount : length (st .shelf .records) ≡ s .capacities .records
-  pub cells : Each (λ (b : Block). length b ≡ s .measures .blockBytes) (st .shelf .cells)
-  pub cellCount : length (st .shelf .cells) ≡ s .capacities .cells
+  pub records : Each (λ (seg : Segment). length seg ≡ s .measures .segmentBlocks) (st .storage .records)
+  pub recordCount : length (st .storage .records) ≡ s .capacities .records
+  pub cells : Each (λ (b : Block). length b ≡ s .measures .blockBytes) (st .storage .cells)
+  pub cellCount : length (st .storage .cells) ≡ s .capacities .cells
 
 -- ---- a sound state fits
 
@@ -90,19 +90,19 @@ record Limits (s : Shape) (st : State) : Type 0 where
   block : 0 < s .measures .blockBytes
   segment : s .measures .segmentBlocks ≤ 16
   blocks : s .capacities .blocks ≤ 1024
-  recordCount : length (st .shelf .records) ≤ 4096
-  records : Each (λ (seg : Segment). length seg ≡ s .measures .segmentBlocks) (st .shelf .records)
+  recordCount : length (st .storage .records) ≤ 4096
+  records : Each (λ (seg : Segment). length seg ≡ s .measures .segmentBlocks) (st .storage .records)
 
 module _ (s : Shape) (st : State) (l : Limits s st) where
-  pointer-fits : (newer : List Pointer) → length newer ≤ s .capacities .blocks → (p : Pointer) → leads (st .shelf) newer p ≡ true → PointerFits p
+  pointer-fits : (newer : List Pointer) → length newer ≤ s .capacities .blocks → (p : Pointer) → resolves (st .storage) newer p ≡ true → PointerFits p
   unfolding positionAt
   pointer-fits newer b nullPointer h = tt
   pointer-fits newer b blankPointer h = tt
   pointer-fits newer b (direct k i) h =
-      let hk : k < length (st .shelf .records) = record-in (st .shelf .records) k i h in
-      let hi : i < length (getD (st .shelf .records) k []) = held-in (getD (st .shelf .records) k []) i h in
-      let hs : length (getD (st .shelf .records) k []) ≡ s .measures .segmentBlocks =
-      each-at (λ (seg : Segment). length seg ≡ s .measures .segmentBlocks) [] (st .shelf .records) (l .records) k hk in
+      let hk : k < length (st .storage .records) = record-in (st .storage .records) k i h in
+      let hi : i < length (getD (st .storage .records) k []) = held-in (getD (st .storage .records) k []) i h in
+      let hs : length (getD (st .storage .records) k []) ≡ s .measures .segmentBlocks =
+      each-at (λ (seg : Segment). length seg ≡ s .measures .segmentBlocks) [] (st .storage .records) (l .records) k hk in
       (omega (arith, hi, hs, l .segment), omega (arith, hi, hs, hk, l .segment, l .recordCount))
   pointer-fits newer b (indirect n) h = omega (arith, pointer-in newer n h, l .blocks)
 
@@ -119,25 +119,25 @@ module _ (s : Shape) (st : State) (l : Limits s st) where
       (omega (arith, h, l .block, suc-mul (s .capacities .blocks) (s .measures .blockBytes), mul-comm (s .capacities .blocks) (s .measures .blockBytes))))
 
   version-fits : (v : Version) (newer : List Version) → Each (VersionFits s) newer → hasLength (s .measures .blockBytes) (s .capacities .blocks) v ≡ true
-      → every (leads (st .shelf) (nextPointers newer)) (v .pointers) ≡ true → VersionFits s v
+      → every (resolves (st .storage) (nextPointers newer)) (v .pointers) ≡ true → VersionFits s v
   unfolding hasLength isWithin
   version-fits v newer a h g =
       let n : length (v .pointers) ≡ partsFor (s .measures .blockBytes) (v .length) = eqb-true _ _ (clause _ 1 h) in
       let top : v .length ≤ s .measures .blockBytes * s .capacities .blocks = leb-true _ _ (clause _ 1 (clause _ 0 h)) in
       record {
-        pointers = every-each (leads (st .shelf) (nextPointers newer)) PointerFits (pointer-fits (nextPointers newer) (next-most newer a)) (v .pointers) g;
+        pointers = every-each (resolves (st .storage) (nextPointers newer)) PointerFits (pointer-fits (nextPointers newer) (next-most newer a)) (v .pointers) g;
         blocks = n;
         most = subst (λ (k : ℕ). k ≤ s .capacities .blocks) (sym n) (parts-most (v .length) top);
       }
 
-  versions-fit : (vs : List Version) → areTraceable (s .measures .blockBytes) (s .capacities .blocks) (st .shelf) vs ≡ true → Each (VersionFits s) vs
+  versions-fit : (vs : List Version) → areTraceable (s .measures .blockBytes) (s .capacities .blocks) (st .storage) vs ≡ true → Each (VersionFits s) vs
   unfolding areTraceable
   versions-fit [] h = tt
   versions-fit (v ∷ newer) h =
       let rest = versions-fit newer (clause _ 3 h) in
       (version-fits v newer rest (clause _ 0 h) (clause _ 1 h), rest)
 
-  till-fits : (t : Till) → isTill s (st .shelf) t ≡ true → TillFits s t
+  till-fits : (t : Till) → isTill s (st .storage) t ≡ true → TillFits s t
   unfolding isTill isNumbered
   till-fits t h = record { versions = versions-fit (t .versions) (clause _ 1 h); most = leb-true _ _ (clause _ 0 (clause _ 0 h)); rights = eqb-true _ _ (clause _ 2 h) }
 
@@ -146,9 +146,9 @@ unfolding isSound isShaped
 state-fits s st hb hs h =
     let r : inRange s ≡ true = clause _ 0 h in
     let shaped : isShaped s st ≡ true = clause _ 1 h in
-    let segs : Each (λ (seg : Segment). length seg ≡ s .measures .segmentBlocks) (st .shelf .records) =
-    every-each _ (λ (seg : Segment). length seg ≡ s .measures .segmentBlocks) (λ seg e. eqb-true _ _ e) (st .shelf .records) (clause _ 2 shaped) in
-    let rc : length (st .shelf .records) ≡ s .capacities .records = eqb-true _ _ (clause _ 1 shaped) in
+    let segs : Each (λ (seg : Segment). length seg ≡ s .measures .segmentBlocks) (st .storage .records) =
+    every-each _ (λ (seg : Segment). length seg ≡ s .measures .segmentBlocks) (λ seg e. eqb-true _ _ e) (st .storage .records) (clause _ 2 shaped) in
+    let rc : length (st .storage .records) ≡ s .capacities .records = eqb-true _ _ (clause _ 1 shaped) in
     let l : Limits s st = record {
       block = hb;
       segment = hs;
@@ -157,10 +157,10 @@ state-fits s st hb hs h =
       records = segs;
     } in
     record {
-      tills = every-each (isTill s (st .shelf)) (TillFits s) (till-fits s st l) (st .tills) (clause _ 4 h);
+      tills = every-each (isTill s (st .storage)) (TillFits s) (till-fits s st l) (st .tills) (clause _ 4 h);
       tillCount = eqb-true _ _ (clause _ 0 shaped);
       records = segs;
       recordCount = rc;
-      cells = every-each _ (λ (b : Block). length b ≡ s .measures .blockBytes) (λ b e. eqb-true _ _ e) (st .shelf .cells) (clause _ 4 shaped);
+      cells = every-each _ (λ (b : Block). length b ≡ s .measures .blockBytes) (λ b e. eqb-true _ _ e) (st .storage .cells) (clause _ 4 shaped);
       cellCount = eqb-true _ _ (clause _ 3 shaped);
     }

@@ -18,7 +18,7 @@ use Rattle.model.specs.State.{Block}
 use Rattle.model.specs.Image.{zeroBlock, blockFrom, blocksFrom, imageBlocks, segmentsFrom, imageSegments}
 use Rattle.laws.proofs.Fits.{Proper}
 use Rattle.laws.proofs.Measures.{parts-enough, parts-some, parts-least, before-last}
-use Rattle.laws.proofs.Clean.{Whole}
+use Rattle.laws.proofs.Clean.{HasBytes}
 use Rattle.laws.proofs.Segments.{SegmentOk}
 
 -- ---- blocks from a place on
@@ -74,7 +74,7 @@ module _ (bytes : ℕ) (image : List ℕ) where
       ∙ sym (fill-add bytes (n * bytes) (drop at image))
       ∙ ap (λ (i : ℕ). fill i (drop at image)) (let z : bytes + n * bytes ≡ suc n * bytes = omega (arith, suc-mul n bytes) in z)
 
-blocks-each : (m : Measures) (image : List ℕ) (at n : ℕ) → Each (Whole m) (blocksFrom (m .blockBytes) image at n)
+blocks-each : (m : Measures) (image : List ℕ) (at n : ℕ) → Each (HasBytes m) (blocksFrom (m .blockBytes) image at n)
 unfolding blocksFrom
 blocks-each m image at zero = tt
 blocks-each m image at (suc n) = (length-block (m .blockBytes) image at, blocks-each m image (at + m .blockBytes) n)
@@ -86,7 +86,7 @@ module _ (m : Measures) (pr : Proper m) where
   unfolding imageBlocks
   blocks-length image = length-blocks (m .blockBytes) image 0 (partsFor (m .blockBytes) (length image))
 
-  pub blocks-whole : (image : List ℕ) → Each (Whole m) (imageBlocks (m .blockBytes) image)
+  pub blocks-whole : (image : List ℕ) → Each (HasBytes m) (imageBlocks (m .blockBytes) image)
   unfolding imageBlocks
   blocks-whole image = blocks-each m image 0 (partsFor (m .blockBytes) (length image))
 
@@ -169,7 +169,7 @@ module _ (m : Measures) (pr : Proper m) where
   -- ---- blocks cut at a length and filled up again
 
   -- blocks whose last is zero after the length `l` are those of their first `l` bytes
-  pub cut-again : (l : ℕ) (bs : List Block) → 0 < l → length bs ≡ partsFor (m .blockBytes) l → Each (Whole m) bs
+  pub cut-again : (l : ℕ) (bs : List Block) → 0 < l → length bs ≡ partsFor (m .blockBytes) l → Each (HasBytes m) bs
       → allZero (drop (l - m .blockBytes * (length bs - 1)) (getD bs (length bs - 1) [])) ≡ true → imageBlocks (m .blockBytes) (take l (joined bs)) ≡ bs
   unfolding imageBlocks
   cut-again l [] hl n r z = absurd (not-suc-le-zero (subst (λ (i : ℕ). 0 < i) (sym n) (parts-some (m .blockBytes) l (pr .bytes) hl)))

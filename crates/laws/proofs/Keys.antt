@@ -21,7 +21,7 @@ use Rattle.laws.proofs.Retire.{passed, theAfter}
 -- what an accepted change of rights did
 pub record RightsSet (s : Shape) (st : State) (subject t : ℕ) (r : Rights) (a : After) : Type 0 where
   pub there : t < length (st .tills)
-  pub state : a .state ≡ withTill st t (withRights (tillOf st t) subject r) (st .shelf)
+  pub state : a .state ≡ withTill st t (withRights (tillOf st t) subject r) (st .storage)
   pub bytes : stateToBytes st ≡ stateToBytes (a .state)
   pub sound : isSound s (a .state) ≡ true
 
@@ -36,13 +36,13 @@ module _ (s : Shape) (st : State) (h : isSound s st ≡ true) (subject t : ℕ) 
   abbrev new : Till
   new = withRights (tillOf st t) subject r
 
-  good-till : isTill s (st .shelf) new ≡ true
+  good-till : isTill s (st .storage) new ≡ true
   unfolding withRights isTill isNumbered isSound tillOf
   good-till =
-      let old : isTill s (st .shelf) (tillOf st t) ≡ true = every-at (isTill s (st .shelf)) emptyTill (st .tills) (clause _ 4 h) t ht in
+      let old : isTill s (st .storage) (tillOf st t) ≡ true = every-at (isTill s (st .storage)) emptyTill (st .tills) (clause _ 4 h) t ht in
       all-true _ (clause _ 0 old, (clause _ 1 old, (ap (λ (n : ℕ). eqb n staff) (length-set (tillOf st t .rights) (subject - 1) r) ∙ clause _ 2 old, tt)))
 
-  set-sound : isSound s (withTill st t new (st .shelf)) ≡ true
+  set-sound : isSound s (withTill st t new (st .storage)) ≡ true
   unfolding isSound isShaped withTill
   set-sound =
       all-true _ (
@@ -54,9 +54,9 @@ module _ (s : Shape) (st : State) (h : isSound s st ≡ true) (subject t : ℕ) 
             (
               clause _ 3 h,
               (
-                every-set (isTill s (st .shelf)) (st .tills) t new (clause _ 4 h) good-till,
+                every-set (isTill s (st .storage)) (st .tills) t new (clause _ 4 h) good-till,
                 (
-                  ap (λ (ps : List Pointer). allCounted ps 0 (st .shelf .records)) (same-pointers (st .tills) t new (unfold withRights tillOf in refl)) ∙ clause _ 5 h,
+                  ap (λ (ps : List Pointer). allCounted ps 0 (st .storage .records)) (same-pointers (st .tills) t new (unfold withRights tillOf in refl)) ∙ clause _ 5 h,
                   (clause _ 6 h, tt),
                 ),
               ),
@@ -72,7 +72,7 @@ rights-set s st user subject t r a h e =
     let (e₂, r₂) = passed (ltb staff user || (eqb subject 0 || ltb staff subject)) 22 _ a r₁ in
     let (e₃, r₃) = passed (ltb 0 user) 23 _ a r₂ in
     let ht : t < length (st .tills) = omega (arith, leb-false (s .capacities .tills) t e₁, sound-valid s st h .tillCount) in
-    let is : withTill st t (withRights (tillOf st t) subject r) (st .shelf) ≡ a .state = unfold theAfter in ap (λ (o : Outcome After). theAfter a o .state) r₃ in
+    let is : withTill st t (withRights (tillOf st t) subject r) (st .storage) ≡ a .state = unfold theAfter in ap (λ (o : Outcome After). theAfter a o .state) r₃ in
     record {
       there = ht;
       state = sym is;

@@ -29,5 +29,5 @@ pub mod Keys
 pub mod Stores
 pub mod Tills
 pub mod Calls
-pub mod Left
+pub mod Remaining
 pub mod Unless

@@ -1,4 +1,4 @@
--- A segment that shares a record or fills a free one: the shelf keeps what it has, the new pointers are counted, and they lead to the segment's
+-- A segment that shares a record or fills a free one: the storage keeps what it has, the new pointers are counted, and they lead to the segment's
 -- blocks.
 use mathlib.Core.Path.{_≡_, refl, sym, ap, ap₂, _∙_, subst}
 use mathlib.Core.Logic.{_⊎_, inl, inr}
@@ -16,18 +16,18 @@ use Rattle.lists.specs.Lists.{sameNumbers, counted, every, allOf, keep, count, 
 use Rattle.lists.specs.Rows.{joined}
 use Rattle.lists.specs.Each.{Each}
 use Rattle.model.specs.Measures.{Measures}
-use Rattle.model.specs.State.{Block, Pointer, nullPointer, direct, Position, nullPosition, blankPosition, held, removed, Segment, Shelf}
+use Rattle.model.specs.State.{Block, Pointer, nullPointer, direct, Position, nullPosition, blankPosition, held, removed, Segment, Storage}
 use Rattle.model.specs.Image.{Era, withBlanks, isBlank, isBare}
 use Rattle.model.specs.Records.{isFree, isHeld, countOf, cellOf, cellsOf, namedCells, cellAt, positionAt, holds, equals}
 use Rattle.model.specs.Runs.{Run}
 use Rattle.model.specs.Place.{barePointer, barePosition, pointersTo, oneMore, newPositions, stored, share, write}
 use Rattle.model.specs.Trace.{blockAt}
-use Rattle.model.specs.Sound.{isUsed, isNull, leadsTo}
+use Rattle.model.specs.Sound.{isFreeOrHolds, isNull, leadsTo}
 use Rattle.laws.proofs.Uses.{named-set}
-use Rattle.laws.specs.Shelves.{bit, Exact, SegmentFits, ShelfFits}
+use Rattle.laws.specs.Storage.{filledBit, Exact, SegmentFits, StorageFits}
 use Rattle.laws.proofs.Runs.{RunOk, Free}
 use Rattle.laws.proofs.Sweep.{countIn, blockIn, named-one}
-use Rattle.laws.proofs.Clean.{Whole, used-by}
+use Rattle.laws.proofs.Clean.{HasBytes, used-by}
 use Rattle.laws.proofs.Counts.{at}
 use Rattle.laws.proofs.Bare.{null-bare, blank-bare, full-stored, stored-full, bare-eq, isIndirect, isBarePointer, bare-leads, bare-plain, bare-bare, bare-null, by-bare-position}
 use Rattle.lists.proofs.Each.{each-at, each-set, each-sets}
@@ -105,8 +105,8 @@ pointers-plain era k (x ∷ seg) i₀ (suc j) = pointers-plain era k seg (suc i�
 
 -- ---- what placing a segment does
 
-pub record PlacedOk (era : Era) (m : Measures) (a b : Shelf) (seg : List Block) (new : List Pointer) : Type 0 where
-  pub fits : ShelfFits m b
+pub record PlacedOk (era : Era) (m : Measures) (a b : Storage) (seg : List Block) (new : List Pointer) : Type 0 where
+  pub fits : StorageFits m b
   pub exact : Exact b
   pub counts : (k i : ℕ) → countIn b k i ≡ countIn a k i + count (leadsTo k i) new
   pub blocks : (k i : ℕ) → 0 < countIn a k i → blockIn b k i ≡ blockIn a k i
@@ -130,15 +130,15 @@ bare-pointer k i b true = bare-bare b
 bare-pointer k i b false = refl
 
 -- A new record at k: its counts are the old ones and one for each block that is neither null nor blank, and it holds the blocks.
-module _ (era : Era) (m : Measures) (a : Shelf) (seg : List Block) (w : Each (Whole m) seg) (k : ℕ) (hk : k < length (a .records)) (s : Segment) (cells : List Block)
-    (fits : ShelfFits m (record { records = set (a .records) k s; cells = cells }))
+module _ (era : Era) (m : Measures) (a : Storage) (seg : List Block) (w : Each (HasBytes m) seg) (k : ℕ) (hk : k < length (a .records)) (s : Segment) (cells : List Block)
+    (fits : StorageFits m (record { records = set (a .records) k s; cells = cells }))
     (exact : Exact (record { records = set (a .records) k s; cells = cells }))
     (cellCount : length cells ≡ length (a .cells))
     (counts : (i : ℕ) → countOf (getD s i nullPosition) ≡ countIn a k i + untick (isBare era (getD seg i [])))
     (here : (i : ℕ) → 0 < countIn a k i → getD cells (cellOf (getD s i nullPosition)) [] ≡ blockIn a k i)
     (other : (j i : ℕ) → (j ≡ k → ⊥) → 0 < countIn a j i → getD cells (cellOf (at (a .records) j i)) [] ≡ blockIn a j i)
     (holds : (i : ℕ) → i < length seg → isBare era (getD seg i []) ≡ false → getD cells (cellOf (getD s i nullPosition)) [] ≡ getD seg i []) where
-  b : Shelf
+  b : Storage
   b = record { records = set (a .records) k s; cells = cells }
 
   at-k : getD (set (a .records) k s) k [] ≡ s
@@ -174,7 +174,7 @@ module _ (era : Era) (m : Measures) (a : Shelf) (seg : List Block) (w : Each (Wh
       ∙ go (isBare era (getD seg j [])) refl
     where
       go : (z : Bool) → isBare era (getD seg j []) ≡ z → blockAt (m .blockBytes) b (cond z (barePointer (getD seg j [])) (direct k (0 + j))) ≡ getD seg j []
-      go true e = bare-eq era m b (getD seg j []) e (each-at (Whole m) [] seg w j h)
+      go true e = bare-eq era m b (getD seg j []) e (each-at (HasBytes m) [] seg w j h)
       go false e = rw (zero-add j, at-k) (holds j h e)
 
   pub placed-by : PlacedOk era m a (record { records = set (a .records) k s; cells = cells }) seg (pointersTo era k 0 seg)
@@ -195,7 +195,7 @@ module _ (era : Era) (m : Measures) (a : Shelf) (seg : List Block) (w : Each (Wh
 
 -- ---- a record that is equal serves
 
-pub equal-all : (era : Era) (a : Shelf) (seg : List Block) (ps : Segment) → equals era a seg ps ≡ true → (i : ℕ) → holds era a (getD ps i nullPosition) (getD seg i []) ≡ true
+pub equal-all : (era : Era) (a : Storage) (seg : List Block) (ps : Segment) → equals era a seg ps ≡ true → (i : ℕ) → holds era a (getD ps i nullPosition) (getD seg i []) ≡ true
 unfolding equals
 equal-all era a [] [] h i = unfold allZero every in refl
 equal-all era a [] (p ∷ ps) h i = absurd (false≢true h)
@@ -204,7 +204,7 @@ equal-all era a (b ∷ seg) (p ∷ ps) h zero = cond-true (holds era a p b) (equ
 equal-all era a (b ∷ seg) (p ∷ ps) h (suc i) = equal-all era a seg ps (cond-true (holds era a p b) (equals era a seg ps) h .1) i
 
 -- a held position holds no blank block
-held-holds : (era : Era) (a : Shelf) (c n : ℕ) (b : Block) → holds era a (held c n) b ≡ true → (isBlank era b ≡ false) × (getD (a .cells) c [] ≡ b)
+held-holds : (era : Era) (a : Storage) (c n : ℕ) (b : Block) → holds era a (held c n) b ≡ true → (isBlank era b ≡ false) × (getD (a .cells) c [] ≡ b)
 unfolding cellAt
 held-holds era a c n b = go (isBlank era b)
   where
@@ -213,7 +213,7 @@ held-holds era a c n b = go (isBlank era b)
     go false h = (refl, same-eq (getD (a .cells) c []) b h)
 
 -- a record with an occupied cell of 255s equals no segment
-pub blank-unmatched : (a : Shelf) (seg : List Block) (ps : Segment) (i : ℕ) → isHeld (getD ps i nullPosition) ≡ true
+pub blank-unmatched : (a : Storage) (seg : List Block) (ps : Segment) (i : ℕ) → isHeld (getD ps i nullPosition) ≡ true
     → isBlank withBlanks (cellAt a (cellOf (getD ps i nullPosition))) ≡ true → equals withBlanks a seg ps ≡ false
 blank-unmatched a seg ps i h f = go (equals withBlanks a seg ps) refl
   where
@@ -241,8 +241,8 @@ held-named (held c n ∷ seg) (suc i) h = omega (arith, held-named seg i h)
 held-named (removed ∷ seg) zero h = absurd (false≢true h)
 held-named (removed ∷ seg) (suc i) h = held-named seg i h
 
-pub bit-one : (b : Block) → 0 < bit b → allZero b ≡ false
-unfolding bit
+pub bit-one : (b : Block) → 0 < filledBit b → allZero b ≡ false
+unfolding filledBit
 bit-one b h = go (allZero b) refl
   where
     go : (z : Bool) → allZero b ≡ z → allZero b ≡ false
@@ -278,12 +278,12 @@ more-cell (held c n) = refl
 more-cell removed = refl
 
 -- a record that serves again names what it named
-pub share-exact : (era : Era) (a : Shelf) → Exact a → (seg : List Block) (k : ℕ) → Exact (share era a seg k .shelf)
+pub share-exact : (era : Era) (a : Storage) → Exact a → (seg : List Block) (k : ℕ) → Exact (share era a seg k .storage)
 unfolding share namedCells
 share-exact era a x seg k c =
     ap (λ (l : List (List ℕ)). uses c (joined l)) (map-set-same cellsOf (a .records) k (map oneMore (getD (a .records) k [])) [] (more-cells (getD (a .records) k []))) ∙ x c
 
-module _ (era : Era) (m : Measures) (a : Shelf) (f : ShelfFits m a) (x : Exact a) (seg : List Block) (w : Each (Whole m) seg) (k : ℕ) (hk : k < length (a .records))
+module _ (era : Era) (m : Measures) (a : Storage) (f : StorageFits m a) (x : Exact a) (seg : List Block) (w : Each (HasBytes m) seg) (k : ℕ) (hk : k < length (a .records))
     (q : equals era a seg (getD (a .records) k []) ≡ true) where
   rec : Segment
   rec = getD (a .records) k []
@@ -322,7 +322,7 @@ module _ (era : Era) (m : Measures) (a : Shelf) (f : ShelfFits m a) (x : Exact a
       go removed h = absurd (false≢true h)
 
   share-fits : SegmentFits m (map oneMore rec)
-  unfolding rec isUsed
+  unfolding rec isFreeOrHolds
   share-fits =
       let g : SegmentFits m rec = each-at (SegmentFits m) [] (a .records) (f .records) k hk in
       record {
@@ -330,7 +330,7 @@ module _ (era : Era) (m : Measures) (a : Shelf) (f : ShelfFits m a) (x : Exact a
         used = ap₂ (λ (t : Bool) (n : ℕ). t || ltb 0 n) (more-used rec .0) (more-used rec .1) ∙ g .used;
       }
 
-  pub share-ok : PlacedOk era m a (share era a seg k .shelf) seg (share era a seg k .pointers)
+  pub share-ok : PlacedOk era m a (share era a seg k .storage) seg (share era a seg k .pointers)
   unfolding share rec
   share-ok =
       placed-by era m a seg w k hk (map oneMore rec) (a .cells)
@@ -413,22 +413,22 @@ new-blocks era cells (b ∷ seg) c g i h e = go (isBare era b) refl g i h e (λ 
     go false z g (suc i) h e r =
         r (suc c) (λ j l. ap (λ (n : ℕ). getD cells n []) (suc-add c j ∙ sym (add-suc c j)) ∙ g (suc j) (suc-le-suc l)) i (le-of-suc-le-suc h) e
 
-stored-bit : (era : Era) (seg : List Block) (j : ℕ) → j < length (stored era seg) → bit (getD (stored era seg) j []) ≡ 1
-unfolding stored keep bit
+stored-bit : (era : Era) (seg : List Block) (j : ℕ) → j < length (stored era seg) → filledBit (getD (stored era seg) j []) ≡ 1
+unfolding stored keep filledBit
 stored-bit era [] j h = absurd (not-suc-le-zero h)
 stored-bit era (b ∷ seg) j h = go (isBare era b) refl j h (λ i l. stored-bit era seg i l)
   where
     go : (z : Bool) → isBare era b ≡ z → (j : ℕ) → j < length (cond (not z) (b ∷ stored era seg) (stored era seg))
-        → ((i : ℕ) → i < length (stored era seg) → bit (getD (stored era seg) i []) ≡ 1) → bit (getD (cond (not z) (b ∷ stored era seg) (stored era seg)) j []) ≡ 1
+        → ((i : ℕ) → i < length (stored era seg) → filledBit (getD (stored era seg) i []) ≡ 1) → filledBit (getD (cond (not z) (b ∷ stored era seg) (stored era seg)) j []) ≡ 1
     go true e j h r = r j h
     go false e zero h r = ap {B = ℕ} (λ (t : Bool). cond t 0 1) (stored-full era b e)
     go false e (suc j) h r = r j (le-of-suc-le-suc h)
 
-stored-whole : (era : Era) (m : Measures) (seg : List Block) → Each (Whole m) seg → Each (Whole m) (stored era seg)
+stored-whole : (era : Era) (m : Measures) (seg : List Block) → Each (HasBytes m) seg → Each (HasBytes m) (stored era seg)
 unfolding stored keep
 stored-whole era m [] h = tt
 stored-whole era m (b ∷ seg) h =
-    by-test (Each (Whole m)) (not (isBare era b)) (λ e. (h .0, stored-whole era m seg (h .1))) (λ e. stored-whole era m seg (h .1))
+    by-test (Each (HasBytes m)) (not (isBare era b)) (λ e. (h .0, stored-whole era m seg (h .1))) (λ e. stored-whole era m seg (h .1))
 
 stored-some : (era : Era) (seg : List Block) → every (isBare era) seg ≡ false → 0 < length (stored era seg)
 unfolding stored keep every
@@ -441,7 +441,7 @@ stored-some era (b ∷ seg) h = go (isBare era b) h (λ e. stored-some era seg e
     go false e r = zero-lt-suc (length (stored era seg))
 
 -- a free record that is filled names its run's cells
-module _ (era : Era) (a : Shelf) (x : Exact a) (seg : List Block) (k : ℕ) (hk : k < length (a .records)) (fr : isFree (getD (a .records) k []) ≡ true)
+module _ (era : Era) (a : Storage) (x : Exact a) (seg : List Block) (k : ℕ) (hk : k < length (a .records)) (fr : isFree (getD (a .records) k []) ≡ true)
     (run : Run) (ok : RunOk (Free a) (length (stored era seg)) run) where
   n₁ : ℕ
   n₁ = length (stored era seg)
@@ -470,7 +470,7 @@ module _ (era : Era) (a : Shelf) (x : Exact a) (seg : List Block) (k : ℕ) (hk 
       go (inr (inr t)) =
           absurd (not-suc-le-zero (subst (λ (y : ℕ). 0 < y) (ap (λ (y : ℕ). uses y (namedCells (a .records))) (t .1) ∙ run-free (t .0) (t .2) .unnamed) u))
 
-  pub write-exact : Exact (write era a seg k run .shelf)
+  pub write-exact : Exact (write era a seg k run .storage)
   unfolding write cells′ n₁
   write-exact c = go (within-run c (run .start) n₁)
     where
@@ -483,13 +483,13 @@ module _ (era : Era) (a : Shelf) (x : Exact a) (seg : List Block) (k : ℕ) (hk 
       none : uses c (cellsOf (getD (a .records) k [])) ≡ 0
       none = free-cells c (getD (a .records) k []) fr
 
-      go : (c < run .start) ⊎ ((run .start + n₁ ≤ c) ⊎ ((j : ℕ) × (c ≡ run .start + j) × (j < n₁))) → new ≡ bit (getD cells′ c [])
+      go : (c < run .start) ⊎ ((run .start + n₁ ≤ c) ⊎ ((j : ℕ) × (c ≡ run .start + j) × (j < n₁))) → new ≡ filledBit (getD cells′ c [])
       go (inl b) =
           (let z : new ≡ uses c (namedCells (a .records)) = omega (arith, sum, none, uses-low n₁ (run .start) c b) in z) ∙ x c
-          ∙ ap bit (sym (sets-before [] (stored era seg) (a .cells) (run .start) c b))
+          ∙ ap filledBit (sym (sets-before [] (stored era seg) (a .cells) (run .start) c b))
       go (inr (inl b)) =
           (let z : new ≡ uses c (namedCells (a .records)) = omega (arith, sum, none, uses-high n₁ (run .start) c b) in z) ∙ x c
-          ∙ ap bit (sym (sets-after [] (stored era seg) (a .cells) (run .start) c b))
+          ∙ ap filledBit (sym (sets-after [] (stored era seg) (a .cells) (run .start) c b))
       go (inr (inr t)) =
           (let z : new ≡ 1 =
           omega (
@@ -501,12 +501,12 @@ module _ (era : Era) (a : Shelf) (x : Exact a) (seg : List Block) (k : ℕ) (hk 
             ap (λ (y : ℕ). uses y (namedCells (a .records))) (t .1),
             run-free (t .0) (t .2) .unnamed,
           ) in z)
-          ∙ sym (ap (λ (y : ℕ). bit (getD cells′ y [])) (t .1) ∙ ap bit (run-cells (t .0) (t .2)) ∙ stored-bit era seg (t .0) (t .2))
+          ∙ sym (ap (λ (y : ℕ). filledBit (getD cells′ y [])) (t .1) ∙ ap filledBit (run-cells (t .0) (t .2)) ∙ stored-bit era seg (t .0) (t .2))
 
-module _ (era : Era) (m : Measures) (a : Shelf) (f : ShelfFits m a) (x : Exact a) (seg : List Block) (w : Each (Whole m) seg) (sz : length seg ≡ m .segmentBlocks)
+module _ (era : Era) (m : Measures) (a : Storage) (f : StorageFits m a) (x : Exact a) (seg : List Block) (w : Each (HasBytes m) seg) (sz : length seg ≡ m .segmentBlocks)
     (k : ℕ) (hk : k < length (a .records)) (fr : isFree (getD (a .records) k []) ≡ true) (ne : every (isBare era) seg ≡ false)
     (run : Run) (ok : RunOk (Free a) (length (stored era seg)) run) where
-  pub fill-ok : PlacedOk era m a (write era a seg k run .shelf) seg (write era a seg k run .pointers)
+  pub fill-ok : PlacedOk era m a (write era a seg k run .storage) seg (write era a seg k run .pointers)
   unfolding write cells′ n₁
   fill-ok =
       placed-by era m a seg w k hk (newPositions era (run .start) seg) (sets (a .cells) (run .start) (stored era seg))
@@ -517,7 +517,7 @@ module _ (era : Era) (m : Measures) (a : Shelf) (f : ShelfFits m a) (x : Exact a
               size = new-length era seg (run .start) ∙ sz;
               used = used-by (newPositions era (run .start) seg) (omega (arith, new-held era seg (run .start), stored-some era seg ne));
             });
-        cells = each-sets (Whole m) (stored era seg) (a .cells) (run .start) (f .cells) (stored-whole era m seg w);
+        cells = each-sets (HasBytes m) (stored era seg) (a .cells) (run .start) (f .cells) (stored-whole era m seg w);
       })
       (unfold write in write-exact era a x seg k hk fr run ok) (length-sets (a .cells) (run .start) (stored era seg))
       (λ i. new-counts era seg (run .start) i ∙ sym (ap (λ (n : ℕ). n + untick (isBare era (getD seg i []))) (free-none (getD (a .records) k []) fr i) ∙ zero-add (untick (isBare era (getD seg i [])))))

@@ -1,4 +1,4 @@
--- Counts fall and the shelf is swept, for a backup and a retire; what an accepted retire did, and that it keeps the state sound.
+-- Counts fall and the storage is swept, for a backup and a retire; what an accepted retire did, and that it keeps the state sound.
 use mathlib.Core.Path.{_≡_, refl, sym, ap, _∙_, subst}
 use mathlib.Core.Bool.{Bool, true, false, cond, false≢true}
 use mathlib.Core.List.{List, [], _∷_, _++_, map, map-append}
@@ -14,14 +14,14 @@ use Rattle.lists.proofs.Counts.{count-append}
 use Rattle.lists.proofs.Rises.{rises-without}
 use Rattle.lists.proofs.Tests.{all-true, clause, every-at, every-set}
 use Rattle.model.specs.Measures.{Measures, Shape}
-use Rattle.model.specs.State.{Pointer, Shelf, Version, Rights, Till, State, Outcome, refused, done}
+use Rattle.model.specs.State.{Pointer, Storage, Version, Rights, Till, State, Outcome, refused, done}
 use Rattle.model.specs.Records.{isHeld}
 use Rattle.model.specs.Place.{oneMore}
 use Rattle.model.specs.Sweep.{oneLess, release, claim, sweep}
 use Rattle.model.specs.Sound.{isSound, isNumbered, isTill, leadsTo, allPointers}
 use Rattle.model.specs.Calls.{emptyTill, tillOf, heldFrom, heldBefore, withTill, newestPointers, takeOver, taken, closeUp, retireFrom, retire, After, firstOf, notHeld, lookUp}
 use Rattle.laws.proofs.Sweep.{Keeps, countIn, blockIn, sweep-keeps}
-use Rattle.laws.specs.Shelves.{Exact, ShelfFits}
+use Rattle.laws.specs.Storage.{Exact, StorageFits}
 use Rattle.laws.proofs.Clean.{Cleared, sweep-clears, clean-held}
 use Rattle.laws.proofs.Counts.{at, Counted, falls, grows, lower-count, raise-count, change-cell, change-all-named, change-all-fits, change-all-length}
 use Rattle.laws.proofs.Fits.{record-in}
@@ -32,9 +32,9 @@ use Rattle.laws.proofs.Takeover.{between, taken-gone, close-count, clos
 
 -- ---- release and sweep, for a backup and a retire
 
--- `rs` are let go and `ps` stay, of the pointers that the shelf `a` counts
-pub record Finished (m : Measures) (a b : Shelf) (ps : List Pointer) : Type 0 where
-  pub fits : ShelfFits m b
+-- `rs` are let go and `ps` stay, of the pointers that the storage `a` counts
+pub record Finished (m : Measures) (a b : Storage) (ps : List Pointer) : Type 0 where
+  pub fits : StorageFits m b
   pub exact : Exact b
   pub counts : Counted b ps
   pub positive : (k i : ℕ) → isHeld (at (b .records) k i) ≡ true → 0 < countIn b k i
@@ -42,41 +42,41 @@ pub record Finished (m : Measures) (a b : Shelf) (ps : List Pointer) : Type 0 wh
   pub recordCount : length (b .records) ≡ length (a .records)
   pub cellCount : length (b .cells) ≡ length (a .cells)
 
-module _ (m : Measures) (a : Shelf) (qs rs ps : List Pointer) (f : ShelfFits m a) (x : Exact a) (c : Counted a qs)
+module _ (m : Measures) (a : Storage) (qs rs ps : List Pointer) (f : StorageFits m a) (x : Exact a) (c : Counted a qs)
     (e : (k i : ℕ) → count (leadsTo k i) qs ≡ count (leadsTo k i) rs + count (leadsTo k i) ps) where
-  let-go : Shelf
-  let-go = release a rs
+  release-and-sweep : Storage
+  release-and-sweep = release a rs
 
-  after : Shelf
-  after = sweep m let-go
+  after : Storage
+  after = sweep m release-and-sweep
 
-  go-exact : Exact let-go
-  unfolding let-go release
+  go-exact : Exact release-and-sweep
+  unfolding release-and-sweep release
   go-exact n = ap (uses n) (change-all-named oneLess falls rs (a .records)) ∙ x n
 
-  go-fits : ShelfFits m let-go
-  unfolding let-go release
+  go-fits : StorageFits m release-and-sweep
+  unfolding release-and-sweep release
   go-fits = record { records = change-all-fits oneLess falls m rs (a .records) (f .records); cells = f .cells }
 
-  go-counts : Counted let-go ps
-  unfolding let-go release
+  go-counts : Counted release-and-sweep ps
+  unfolding release-and-sweep release
   go-counts k i =
       lower-count rs (a .records) k i
       ∙ (let z : countIn a k i - count (leadsTo k i) rs ≡ count (leadsTo k i) ps = omega (arith, c k i, e k i) in z)
 
-  kept : Keeps let-go after
+  kept : Keeps release-and-sweep after
   unfolding after
-  kept = sweep-keeps m let-go go-exact
+  kept = sweep-keeps m release-and-sweep go-exact
 
-  cleared : Cleared m let-go after 0 (length (let-go .records))
+  cleared : Cleared m release-and-sweep after 0 (length (release-and-sweep .records))
   unfolding after
-  cleared = sweep-clears m let-go go-fits go-exact
+  cleared = sweep-clears m release-and-sweep go-fits go-exact
 
   after-counts : Counted after ps
   after-counts k i = kept .counts k i ∙ go-counts k i
 
   after-blocks : (k i : ℕ) → 0 < count (leadsTo k i) ps → blockIn after k i ≡ blockIn a k i
-  unfolding let-go release
+  unfolding release-and-sweep release
   after-blocks k i p =
       kept .blocks k i (subst (λ (n : ℕ). 0 < n) (sym (go-counts k i)) p) ∙ ap (λ (n : ℕ). getD (a .cells) n []) (change-cell oneLess falls rs (a .records) k i)
 
@@ -86,7 +86,7 @@ module _ (m : Measures) (a : Shelf) (qs rs ps : List Pointer) (f : ShelfFits m a
       (cleared .clean k zero-le (omega (arith, record-in (after .records) k i h, cleared .recordCount))) i h
 
   pub finish : Finished m a (sweep m (release a rs)) ps
-  unfolding after let-go release
+  unfolding after release-and-sweep release
   finish = record {
     fits = cleared .fits;
     exact = kept .exact;
@@ -121,13 +121,13 @@ pointers-set k i (x ∷ ts) (suc t) y h =
 -- ---- pointers that are claimed
 
 -- the counts rise by the pointers claimed, of which each is to a held position, and all else stays
-module _ (m : Measures) (a : Shelf) (qs ps : List Pointer) (f : ShelfFits m a) (x : Exact a) (c : Counted a qs)
+module _ (m : Measures) (a : Storage) (qs ps : List Pointer) (f : StorageFits m a) (x : Exact a) (c : Counted a qs)
     (g : (k i : ℕ) → 0 < count (leadsTo k i) ps → 0 < count (leadsTo k i) qs) where
   pub claim-exact : Exact (claim a ps)
   unfolding claim
   claim-exact n = ap (uses n) (change-all-named oneMore grows ps (a .records)) ∙ x n
 
-  pub claim-fits : ShelfFits m (claim a ps)
+  pub claim-fits : StorageFits m (claim a ps)
   unfolding claim
   claim-fits = record { records = change-all-fits oneMore grows m ps (a .records) (f .records); cells = f .cells }
 
@@ -145,7 +145,7 @@ module _ (m : Measures) (a : Shelf) (qs ps : List Pointer) (f : ShelfFits m a) (
   unfolding claim
   claim-length = change-all-length oneMore grows ps (a .records)
 
-  -- pointers `ps` are claimed, `rs` let go, and the shelf is swept: `us` stay
+  -- pointers `ps` are claimed, `rs` let go, and the storage is swept: `us` stay
   pub exchange : (rs us : List Pointer) → ((k i : ℕ) → count (leadsTo k i) (qs ++ ps) ≡ count (leadsTo k i) rs + count (leadsTo k i) us)
       → Finished m a (sweep m (release (claim a ps) rs)) us
   exchange rs us e =
@@ -161,7 +161,7 @@ module _ (m : Measures) (a : Shelf) (qs ps : List Pointer) (f : ShelfFits m a) (
       }
 
 -- a till without a version
-closed-till : (s : Shape) (a : Shelf) (last : ℕ) (rights : List Rights) (older : List Version) (v : Version) (newer : List Version)
+closed-till : (s : Shape) (a : Storage) (last : ℕ) (rights : List Rights) (older : List Version) (v : Version) (newer : List Version)
     → isTill s a (record { last = last; rights = rights; versions = older ++ (v ∷ newer) }) ≡ true
     → isTill s a (record { last = last; rights = rights; versions = closeUp older v newer }) ≡ true
 unfolding isTill isNumbered
@@ -206,7 +206,7 @@ pub passed : (b : Bool) (n : ℕ) (o : Outcome After) (a : After) → cond b (re
 passed true n o a e = absurd (no-refusal n a e)
 passed false n o a e = (refl, e)
 
--- What an accepted retire of version `v` at till `t` of `st` did: that version went from between the others, and the shelf was swept.
+-- What an accepted retire of version `v` at till `t` of `st` did: that version went from between the others, and the storage was swept.
 pub record Retired (s : Shape) (st : State) (t v : ℕ) (a : After) : Type 0 where
   pub there : t < length (st .tills)
   pub version : Version
@@ -215,7 +215,7 @@ pub record Retired (s : Shape) (st : State) (t v : ℕ) (a : After) : Type 0 whe
   pub answer : a .answer ≡ version .length
   pub tills : a .state .tills ≡ set (st .tills) t (record { last = tillOf st t .last; rights = tillOf st t .rights; versions = closeUp (heldBefore v (tillOf st t .versions)) version newer })
   -- the sweep keeps what all pointers lead to
-  pub swept : Serves (s .measures) (st .shelf) (a .state .shelf) (allPointers (a .state .tills))
+  pub swept : Serves (s .measures) (st .storage) (a .state .storage) (allPointers (a .state .tills))
   pub sound : isSound s (a .state) ≡ true
 
 module _ (s : Shape) (st : State) (t v : ℕ) (ht : t < length (st .tills)) (h : isSound s st ≡ true) (w : Version) (newer : List Version)
@@ -261,17 +261,17 @@ module _ (s : Shape) (st : State) (t v : ℕ) (ht : t < length (st .tills)) (h :
   unfolding ts tillOf
   claimed k i l = omega (arith, taken-gone (w .pointers) k i (newestPointers older) l, all-count k i, till-among k i (st .tills) t)
 
-  left : Shelf
-  left = sweep (s .measures) (release (claim (st .shelf) ts) (w .pointers))
+  left : Storage
+  left = sweep (s .measures) (release (claim (st .storage) ts) (w .pointers))
 
-  fin : Finished (s .measures) (st .shelf) left ps
+  fin : Finished (s .measures) (st .storage) left ps
   unfolding left
-  fin = exchange (s .measures) (st .shelf) (allPointers (st .tills)) ts (valid .fits) (valid .exact) (valid .counts) claimed (w .pointers) ps shared
+  fin = exchange (s .measures) (st .storage) (allPointers (st .tills)) ts (valid .fits) (valid .exact) (valid .counts) claimed (w .pointers) ps shared
 
-  old : isTill s (st .shelf) (record { last = tillOf st t .last; rights = tillOf st t .rights; versions = older ++ (w ∷ newer) }) ≡ true
+  old : isTill s (st .storage) (record { last = tillOf st t .last; rights = tillOf st t .rights; versions = older ++ (w ∷ newer) }) ≡ true
   old =
-      ap (λ (vs : List Version). isTill s (st .shelf) (record { last = tillOf st t .last; rights = tillOf st t .rights; versions = vs })) (sym split)
-      ∙ (unfold tillOf in every-at (isTill s (st .shelf)) emptyTill (st .tills) (valid .tills) t ht)
+      ap (λ (vs : List Version). isTill s (st .storage) (record { last = tillOf st t .last; rights = tillOf st t .rights; versions = vs })) (sym split)
+      ∙ (unfold tillOf in every-at (isTill s (st .storage)) emptyTill (st .tills) (valid .tills) t ht)
 
   closed-sound : isSound s (withTill st t till left) ≡ true
   unfolding withTill ps till
@@ -285,8 +285,8 @@ module _ (s : Shape) (st : State) (t v : ℕ) (ht : t < length (st .tills)) (h :
         fits = fin .fits;
         exact = fin .exact;
         tills =
-            tills-again s (st .shelf) left ps (fin .serves) (set (st .tills) t till)
-            (every-set (isTill s (st .shelf)) (st .tills) t till (valid .tills) (closed-till s (st .shelf) (tillOf st t .last) (tillOf st t .rights) older w newer old))
+            tills-again s (st .storage) left ps (fin .serves) (set (st .tills) t till)
+            (every-set (isTill s (st .storage)) (st .tills) t till (valid .tills) (closed-till s (st .storage) (tillOf st t .last) (tillOf st t .rights) older w newer old))
             (λ k i. le-refl (count (leadsTo k i) ps));
         counts = fin .counts;
       })
@@ -295,7 +295,7 @@ module _ (s : Shape) (st : State) (t v : ℕ) (ht : t < length (st .tills)) (h :
   closed : Retired s st t v (record {
     state =
         withTill st t (record { last = tillOf st t .last; rights = tillOf st t .rights; versions = closeUp (heldBefore v (tillOf st t .versions)) w newer })
-        (sweep (s .measures) (release (claim (st .shelf) (map (taken (w .pointers)) (newestPointers (heldBefore v (tillOf st t .versions))))) (w .pointers)));
+        (sweep (s .measures) (release (claim (st .storage) (map (taken (w .pointers)) (newestPointers (heldBefore v (tillOf st t .versions))))) (w .pointers)));
     answer = w .length;
   })
   unfolding withTill till left ps ts older

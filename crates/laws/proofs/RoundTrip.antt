@@ -22,7 +22,7 @@ use Rattle.lists.proofs.Masks.{half, odd}
 use Rattle.model.specs.Measures.{Shape, slotWords, tillWords, recordWords, tableWords, poolBytes, partsFor, inRange}
 use Rattle.model.specs.State.{Pointer, nullPointer, blankPointer, direct, indirect, Position, nullPosition, blankPosition, held, removed, Segment, Version, Till, staff, State}
 use Rattle.model.specs.Records.{isHeld, isRemoved, isBlankPosition, cellOf, countOf, freeSegment}
-use Rattle.model.specs.Table.{kindUnit, pointerWord, recordToWords, versionToWords, tillToWords, headerToWords, stateToWords, stateToBytes, shapeOf, pointerOf, wordToPointer, positionOf, positionsIn, segmentIn, recordsIn, cellsIn, shelfIn, versionIn, versionsIn, tillIn, tillsIn, tillsPart, recordsPart, stateIn}
+use Rattle.model.specs.Table.{kindUnit, pointerWord, recordToWords, versionToWords, tillToWords, headerToWords, stateToWords, stateToBytes, shapeOf, pointerOf, wordToPointer, positionOf, positionsIn, segmentIn, recordsIn, cellsIn, storageIn, versionIn, versionsIn, tillIn, tillsIn, tillsPart, recordsPart, stateIn}
 use Rattle.model.specs.Sound.{isSound, Store, ifSound, hasLengths, storeAs, storeOf}
 use Rattle.laws.proofs.Rights.{rights-back}
 use Rattle.laws.proofs.Fits.{Fit, range-fit, PointerFits, VersionFits, TillFits, StateFits, state-fits}
@@ -184,13 +184,13 @@ module _ (s : Shape) (st : State) (f : StateFits s st) where
       length-rows (tillToWords (s .capacities .versions) (s .capacities .blocks)) (tillWords (s .capacities .versions) (s .capacities .blocks)) (st .tills) tills-wide
       ∙ ap (λ (n : ℕ). n * tillWords (s .capacities .versions) (s .capacities .blocks)) (f .tillCount)
 
-  records-wide : Each (λ (seg : Segment). length (recordToWords seg) ≡ recordWords (s .measures .segmentBlocks)) (st .shelf .records)
+  records-wide : Each (λ (seg : Segment). length (recordToWords seg) ≡ recordWords (s .measures .segmentBlocks)) (st .storage .records)
   records-wide =
-      each-weaken (λ (seg : Segment). length seg ≡ s .measures .segmentBlocks) _ (length-record (s .measures .segmentBlocks)) (st .shelf .records) (f .records)
+      each-weaken (λ (seg : Segment). length seg ≡ s .measures .segmentBlocks) _ (length-record (s .measures .segmentBlocks)) (st .storage .records) (f .records)
 
-  records-length : length (rows recordToWords (st .shelf .records)) ≡ s .capacities .records * recordWords (s .measures .segmentBlocks)
+  records-length : length (rows recordToWords (st .storage .records)) ≡ s .capacities .records * recordWords (s .measures .segmentBlocks)
   records-length =
-      length-rows recordToWords (recordWords (s .measures .segmentBlocks)) (st .shelf .records) records-wide
+      length-rows recordToWords (recordWords (s .measures .segmentBlocks)) (st .storage .records) records-wide
       ∙ ap (λ (n : ℕ). n * recordWords (s .measures .segmentBlocks)) (f .recordCount)
 
   pub table-length : length (stateToWords s st) ≡ tableWords s
@@ -198,25 +198,25 @@ module _ (s : Shape) (st : State) (f : StateFits s st) where
   table-length =
       omega (
         arith,
-        length-append (rows (tillToWords (s .capacities .versions) (s .capacities .blocks)) (st .tills)) (rows recordToWords (st .shelf .records)),
+        length-append (rows (tillToWords (s .capacities .versions) (s .capacities .blocks)) (st .tills)) (rows recordToWords (st .storage .records)),
         tills-length,
         records-length,
       )
 
   pub pool-length : length (stateToBytes st) ≡ poolBytes s
   unfolding stateToBytes poolBytes
-  pool-length = length-joined (s .measures .blockBytes) (st .shelf .cells) (f .cells) ∙ ap (λ (n : ℕ). n * s .measures .blockBytes) (f .cellCount)
+  pool-length = length-joined (s .measures .blockBytes) (st .storage .cells) (f .cells) ∙ ap (λ (n : ℕ). n * s .measures .blockBytes) (f .cellCount)
 
   -- the two parts behind the header
   pub tills-part : tillsPart (s .capacities) (stateToWords s st) ≡ rows (tillToWords (s .capacities .versions) (s .capacities .blocks)) (st .tills)
   unfolding stateToWords headerToWords
-  tills-part = take-at (rows (tillToWords (s .capacities .versions) (s .capacities .blocks)) (st .tills)) (rows recordToWords (st .shelf .records)) _ tills-length
+  tills-part = take-at (rows (tillToWords (s .capacities .versions) (s .capacities .blocks)) (st .tills)) (rows recordToWords (st .storage .records)) _ tills-length
 
-  pub records-part : recordsPart (s .capacities) (stateToWords s st) ≡ rows recordToWords (st .shelf .records)
+  pub records-part : recordsPart (s .capacities) (stateToWords s st) ≡ rows recordToWords (st .storage .records)
   unfolding stateToWords headerToWords
   records-part =
       sym (drop-drop (s .capacities .tills * tillWords (s .capacities .versions) (s .capacities .blocks)) 8 (stateToWords s st))
-      ∙ drop-at (rows (tillToWords (s .capacities .versions) (s .capacities .blocks)) (st .tills)) (rows recordToWords (st .shelf .records)) _ tills-length
+      ∙ drop-at (rows (tillToWords (s .capacities .versions) (s .capacities .blocks)) (st .tills)) (rows recordToWords (st .storage .records)) _ tills-length
 
   module _ (hb : 0 < s .measures .blockBytes) where
     tills-back : tillsIn (s .measures .blockBytes) (s .capacities .versions) (s .capacities .blocks) (rows (tillToWords (s .capacities .versions) (s .capacities .blocks)) (st .tills)) ≡ st .tills
@@ -226,19 +226,19 @@ module _ (s : Shape) (st : State) (f : StateFits s st) where
         (tillWords (s .capacities .versions) (s .capacities .blocks)) (st .tills) tills-wide
         (each-weaken (TillFits s) _ (till-back s) (st .tills) (f .tills)) (omega arith)
 
-    records-back : recordsIn (s .measures .segmentBlocks) (rows recordToWords (st .shelf .records)) ≡ st .shelf .records
+    records-back : recordsIn (s .measures .segmentBlocks) (rows recordToWords (st .storage .records)) ≡ st .storage .records
     unfolding recordsIn
     records-back =
-        chunks-rows recordToWords (segmentIn (s .measures .segmentBlocks)) (recordWords (s .measures .segmentBlocks)) (st .shelf .records) records-wide
-        (each-weaken (λ (seg : Segment). length seg ≡ s .measures .segmentBlocks) _ (segment-back (s .measures .segmentBlocks)) (st .shelf .records) (f .records)) (omega arith)
+        chunks-rows recordToWords (segmentIn (s .measures .segmentBlocks)) (recordWords (s .measures .segmentBlocks)) (st .storage .records) records-wide
+        (each-weaken (λ (seg : Segment). length seg ≡ s .measures .segmentBlocks) _ (segment-back (s .measures .segmentBlocks)) (st .storage .records) (f .records)) (omega arith)
 
     pub state-back : stateIn s (stateToBytes st) (stateToWords s st) ≡ st
-    unfolding stateIn shelfIn cellsIn stateToBytes
+    unfolding stateIn storageIn cellsIn stateToBytes
     state-back = λ i. record {
       tills = (ap (tillsIn (s .measures .blockBytes) (s .capacities .versions) (s .capacities .blocks)) tills-part ∙ tills-back) i;
-      shelf = record {
+      storage = record {
         records = (ap (recordsIn (s .measures .segmentBlocks)) records-part ∙ records-back) i;
-        cells = chunks-joined (s .measures .blockBytes) (st .shelf .cells) (f .cells) hb i;
+        cells = chunks-joined (s .measures .blockBytes) (st .storage .cells) (f .cells) hb i;
       };
     }
 
@@ -286,7 +286,7 @@ module _ (pool table : List ℕ) where
 
   read-found : hasLengths (shapeOf table) pool table ≡ true → allOf (sameNumbers (stateToWords (shapeOf table) read) table ∷ isSound (shapeOf table) read ∷ []) ≡ true
       → Found pool table (record { shape = shapeOf table; state = read })
-  unfolding read hasLengths stateToBytes stateIn shelfIn cellsIn poolBytes
+  unfolding read hasLengths stateToBytes stateIn storageIn cellsIn poolBytes
   read-found l t = record {
     shape = refl;
     sound = clause _ 1 t;

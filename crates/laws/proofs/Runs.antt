@@ -10,7 +10,7 @@ use lib.ListN.{length, getD}
 use lib.Dec.{eqb, leb, ltb}
 use borrow.Author.Tests.{leb-true, ltb-true, ltb-false}
 use Rattle.lists.specs.Lists.{counted, isIn, uses}
-use Rattle.model.specs.State.{Shelf}
+use Rattle.model.specs.State.{Storage}
 use Rattle.model.specs.Records.{namedCells}
 use Rattle.model.specs.Runs.{Run, freeCells, better, scan, findRun}
 use Rattle.lists.proofs.Counted.{counted-at, length-counted}
@@ -57,29 +57,29 @@ module _ (F : ℕ → Type 0) (need : ℕ) where
       (λ j b t. subst F (add-suc i j ∙ sym (suc-add i j)) (g (suc j) (suc-le-suc b) t)) (better-ok a i k best e f o)
 
 -- a cell that no position names
-pub record Free (shelf : Shelf) (c : ℕ) : Type 0 where
-  pub unnamed : uses c (namedCells (shelf .records)) ≡ 0
-  pub inside : c < length (shelf .cells)
+pub record Free (storage : Storage) (c : ℕ) : Type 0 where
+  pub unnamed : uses c (namedCells (storage .records)) ≡ 0
+  pub inside : c < length (storage .cells)
 
-pub find-ok : (shelf : Shelf) (need : ℕ) → FoundOk (Free shelf) need (findRun shelf need)
+pub find-ok : (storage : Storage) (need : ℕ) → FoundOk (Free storage) need (findRun storage need)
 unfolding findRun freeCells
-find-ok shelf need =
-    scan-ok (Free shelf) need (counted f 0 n) 0 0 0 none refl (λ j b. absurd (not-suc-le-zero b)) free tt
+find-ok storage need =
+    scan-ok (Free storage) need (counted f 0 n) 0 0 0 none refl (λ j b. absurd (not-suc-le-zero b)) free tt
   where
     n : ℕ
-    n = length (shelf .cells)
+    n = length (storage .cells)
 
     f : ℕ → Bool
-    f c = not (isIn c (namedCells (shelf .records)))
+    f c = not (isIn c (namedCells (storage .records)))
 
-    unn : (c : ℕ) (b : Bool) → isIn c (namedCells (shelf .records)) ≡ b → not b ≡ true → uses c (namedCells (shelf .records)) ≡ 0
+    unn : (c : ℕ) (b : Bool) → isIn c (namedCells (storage .records)) ≡ b → not b ≡ true → uses c (namedCells (storage .records)) ≡ 0
     unn c true e t = absurd (false≢true t)
-    unn c false e t = not-in c (namedCells (shelf .records)) e
+    unn c false e t = not-in c (namedCells (storage .records)) e
 
-    free : (j : ℕ) → j < length (counted f 0 n) → getD (counted f 0 n) j false ≡ true → Free shelf (0 + j)
+    free : (j : ℕ) → j < length (counted f 0 n) → getD (counted f 0 n) j false ≡ true → Free storage (0 + j)
     free j b t =
         let b′ : j < n = subst (λ (x : ℕ). j < x) (length-counted f 0 n) b in
         record {
-          unnamed = unn (0 + j) (isIn (0 + j) (namedCells (shelf .records))) refl (sym (counted-at f 0 n j false b′) ∙ t);
+          unnamed = unn (0 + j) (isIn (0 + j) (namedCells (storage .records))) refl (sym (counted-at f 0 n j false b′) ∙ t);
           inside = subst (λ (x : ℕ). x < n) (sym (zero-add j)) b′;
         }

@@ -20,7 +20,7 @@ use Rattle.lists.proofs.Puts.{first-found}
 use Rattle.lists.proofs.Sets.{map-at}
 use Rattle.lists.proofs.Tests.{by-test, every-at}
 use Rattle.model.specs.Measures.{Measures}
-use Rattle.model.specs.State.{Block, Pointer, nullPointer, blankPointer, direct, indirect, Shelf, Outcome, refused, done}
+use Rattle.model.specs.State.{Block, Pointer, nullPointer, blankPointer, direct, indirect, Storage, Outcome, refused, done}
 use Rattle.model.specs.Image.{Era, isBare}
 use Rattle.model.specs.Records.{isFree, cellAt, positionAt, equals}
 use Rattle.model.specs.Runs.{Run, findRun}
@@ -29,8 +29,8 @@ use Rattle.model.specs.Trace.{blockAt}
 use Rattle.model.specs.Sound.{isNull, leadsTo}
 use Rattle.laws.proofs.Runs.{RunOk, FoundOk, Free, find-ok}
 use Rattle.laws.proofs.Sweep.{countIn, blockIn}
-use Rattle.laws.specs.Shelves.{Exact, ShelfFits}
-use Rattle.laws.proofs.Clean.{Whole}
+use Rattle.laws.specs.Storage.{Exact, StorageFits}
+use Rattle.laws.proofs.Clean.{HasBytes}
 use Rattle.laws.proofs.Bare.{bare-eq, isIndirect, isBarePointer, bare-leads, bare-plain, bare-bare, bare-null}
 use Rattle.laws.proofs.Place.{PlacedOk, share-ok, fill-ok}
 use Rattle.laws.proofs.Counts.{leads-itself, pointer-counted}
@@ -43,8 +43,8 @@ IfDone P (refused n) = Unit {0}
 IfDone P (done p) = P p
 
 -- what holds where no record is needed, where one serves and where a free one is filled holds of what is placed
-module _ (era : Era) (P : Placed → Type 0) (a : Shelf) (seg : List Block)
-    (bare : every (isBare era) seg ≡ true → P (record { shelf = a; pointers = map barePointer seg }))
+module _ (era : Era) (P : Placed → Type 0) (a : Storage) (seg : List Block)
+    (bare : every (isBare era) seg ≡ true → P (record { storage = a; pointers = map barePointer seg }))
     (shared : every (isBare era) seg ≡ false → (k : ℕ) → firstFrom (equals era a seg) 0 (a .records) ≡ some k → P (share era a seg k))
     (filled : every (isBare era) seg ≡ false → (k : ℕ) → firstFrom isFree 0 (a .records) ≡ some k → (run : Run) → findRun a (length (stored era seg)) ≡ some run → P (write era a seg k run)) where
   module _ (ne : every (isBare era) seg ≡ false) where
@@ -68,7 +68,7 @@ module _ (era : Era) (P : Placed → Type 0) (a : Shelf) (seg : List Block)
   segment-cases = by-test (IfDone P) (every (isBare era) seg) bare (λ ne. by-match ne (firstFrom (equals era a seg) 0 (a .records)) refl)
 
 -- a run that is found is free and long enough
-pub run-found : (a : Shelf) (need : ℕ) (run : Run) → findRun a need ≡ some run → RunOk (Free a) need run
+pub run-found : (a : Storage) (need : ℕ) (run : Run) → findRun a need ≡ some run → RunOk (Free a) need run
 run-found a need run e = subst (FoundOk (Free a) need) e (find-ok a need)
 
 -- ---- one segment
@@ -78,17 +78,17 @@ unfolding count
 bare-count k i [] = refl
 bare-count k i (b ∷ bs) = ap₂ (λ (t : Bool) (n : ℕ). cond t 1 0 + n) (bare-leads b k i) (bare-count k i bs)
 
-abbrev pub PlaceOk : (era : Era) (m : Measures) (a : Shelf) (seg : List Block) → Outcome Placed → Type 0
-PlaceOk era m a seg = IfDone (λ p. PlacedOk era m a (p .shelf) seg (p .pointers))
+abbrev pub PlaceOk : (era : Era) (m : Measures) (a : Storage) (seg : List Block) → Outcome Placed → Type 0
+PlaceOk era m a seg = IfDone (λ p. PlacedOk era m a (p .storage) seg (p .pointers))
 
-module _ (era : Era) (m : Measures) (a : Shelf) (f : ShelfFits m a) (x : Exact a) (seg : List Block) (w : Each (Whole m) seg) (sz : length seg ≡ m .segmentBlocks) where
+module _ (era : Era) (m : Measures) (a : Storage) (f : StorageFits m a) (x : Exact a) (seg : List Block) (w : Each (HasBytes m) seg) (sz : length seg ≡ m .segmentBlocks) where
   bare-ok : every (isBare era) seg ≡ true → PlacedOk era m a a seg (map barePointer seg)
   bare-ok z = record {
     fits = f;
     exact = x;
     counts = λ k i. sym (ap (λ (n : ℕ). countIn a k i + n) (bare-count k i seg) ∙ add-zero (countIn a k i));
     blocks = λ k i p. refl;
-    traced = λ j h. ap (blockAt (m .blockBytes) a) (bare-at j h) ∙ bare-eq era m a (getD seg j []) (here j h) (each-at (Whole m) [] seg w j h);
+    traced = λ j h. ap (blockAt (m .blockBytes) a) (bare-at j h) ∙ bare-eq era m a (getD seg j []) (here j h) (each-at (HasBytes m) [] seg w j h);
     nulls = λ j h. ap isNull (bare-at j h) ∙ bare-null (getD seg j []);
     bares = λ j h. ap isBarePointer (bare-at j h) ∙ bare-bare (getD seg j []) ∙ sym (here j h);
     plain = plain seg;
@@ -110,14 +110,14 @@ module _ (era : Era) (m : Measures) (a : Shelf) (f : ShelfFits m a) (x : Exact a
 
   pub segment-ok : PlaceOk era m a seg (placeSegment era a seg)
   segment-ok =
-      segment-cases era (λ p. PlacedOk era m a (p .shelf) seg (p .pointers)) a seg bare-ok
+      segment-cases era (λ p. PlacedOk era m a (p .storage) seg (p .pointers)) a seg bare-ok
       (λ ne k e. let (hk, q) = first-found [] (equals era a seg) (a .records) k e in share-ok era m a f x seg w k hk q)
       (λ ne k e run r.
       let (hk, fr) = first-found [] isFree (a .records) k e in fill-ok era m a f x seg w sz k hk fr ne run (run-found a (length (stored era seg)) run r))
 
 -- ---- all segments
 
-pub block-kept : (m : Measures) (a b : Shelf) (p : Pointer) → ((k i : ℕ) → leadsTo k i p ≡ true → blockIn b k i ≡ blockIn a k i) → blockAt (m .blockBytes) b p ≡ blockAt (m .blockBytes) a p
+pub block-kept : (m : Measures) (a b : Storage) (p : Pointer) → ((k i : ℕ) → leadsTo k i p ≡ true → blockIn b k i ≡ blockIn a k i) → blockAt (m .blockBytes) b p ≡ blockAt (m .blockBytes) a p
 unfolding blockAt cellAt positionAt
 block-kept m a b nullPointer h = refl
 block-kept m a b blankPointer h = refl
@@ -130,7 +130,7 @@ both-plain [] qs f g j = g j
 both-plain (p ∷ ps) qs f g zero = f 0
 both-plain (p ∷ ps) qs f g (suc j) = both-plain ps qs (λ i. f (suc i)) g j
 
-module _ (era : Era) (m : Measures) (a b c : Shelf) (bs cs : List Block) (ps qs : List Pointer) (f : PlacedOk era m a b bs ps) (g : PlacedOk era m b c cs qs) where
+module _ (era : Era) (m : Measures) (a b c : Storage) (bs cs : List Block) (ps qs : List Pointer) (f : PlacedOk era m a b bs ps) (g : PlacedOk era m b c cs qs) where
   split : (j : ℕ) → j < length (bs ++ cs) → (j < length bs) ⊎ ((i : ℕ) × (j ≡ length bs + i) × (i < length cs))
   split j h = go (ltb j (length bs)) refl
     where
@@ -188,20 +188,20 @@ module _ (era : Era) (m : Measures) (a b c : Shelf) (bs cs : List Block) (ps qs 
 
 -- segments of whole blocks
 pub record SegmentOk (m : Measures) (seg : List Block) : Type 0 where
-  pub whole : Each (Whole m) seg
+  pub whole : Each (HasBytes m) seg
   pub size : length seg ≡ m .segmentBlocks
 
-next-ok : (era : Era) (m : Measures) (a : Shelf) (bs seg : List Block) → SegmentOk m seg → (o : Outcome Placed) → PlaceOk era m a bs o → PlaceOk era m a (bs ++ seg) (placeNext era o seg)
+next-ok : (era : Era) (m : Measures) (a : Storage) (bs seg : List Block) → SegmentOk m seg → (o : Outcome Placed) → PlaceOk era m a bs o → PlaceOk era m a (bs ++ seg) (placeNext era o seg)
 unfolding placeNext
 next-ok era m a bs seg w (refused n) h = tt
 next-ok era m a bs seg w (done p) h =
-    go (placeSegment era (p .shelf) seg) (segment-ok era m (p .shelf) (h .fits) (h .exact) seg (w .whole) (w .size))
+    go (placeSegment era (p .storage) seg) (segment-ok era m (p .storage) (h .fits) (h .exact) seg (w .whole) (w .size))
   where
-    go : (o : Outcome Placed) → PlaceOk era m (p .shelf) seg o → PlaceOk era m a (bs ++ seg) (afterSome (p .pointers) o)
+    go : (o : Outcome Placed) → PlaceOk era m (p .storage) seg o → PlaceOk era m a (bs ++ seg) (afterSome (p .pointers) o)
     go (refused n) g = unfold afterSome in tt
-    go (done q) g = unfold afterSome in placed-both era m a (p .shelf) (q .shelf) bs seg (p .pointers) (q .pointers) h g
+    go (done q) g = unfold afterSome in placed-both era m a (p .storage) (q .storage) bs seg (p .pointers) (q .pointers) h g
 
-all-ok : (era : Era) (m : Measures) (a : Shelf) (segs : List (List Block)) (bs : List Block) → Each (SegmentOk m) segs → (o : Outcome Placed) → PlaceOk era m a bs o
+all-ok : (era : Era) (m : Measures) (a : Storage) (segs : List (List Block)) (bs : List Block) → Each (SegmentOk m) segs → (o : Outcome Placed) → PlaceOk era m a bs o
     → PlaceOk era m a (bs ++ joined segs) (placeAll era o segs)
 unfolding placeAll joined
 all-ok era m a [] bs w o h = subst (λ (l : List Block). PlaceOk era m a l o) (sym (append-nil bs)) h
@@ -210,9 +210,9 @@ all-ok era m a (seg ∷ segs) bs w o h =
     (all-ok era m a segs (bs ++ seg) (w .1) (placeNext era o seg) (next-ok era m a bs seg (w .0) o h))
 
 -- Step 1 of a backup.
-pub place-ok : (era : Era) (m : Measures) (a : Shelf) (segs : List (List Block)) → ShelfFits m a → Exact a → Each (SegmentOk m) segs
-    → PlaceOk era m a (joined segs) (placeAll era (done (record { shelf = a; pointers = [] })) segs)
-place-ok era m a segs f x w = all-ok era m a segs [] w (done (record { shelf = a; pointers = [] })) start
+pub place-ok : (era : Era) (m : Measures) (a : Storage) (segs : List (List Block)) → StorageFits m a → Exact a → Each (SegmentOk m) segs
+    → PlaceOk era m a (joined segs) (placeAll era (done (record { storage = a; pointers = [] })) segs)
+place-ok era m a segs f x w = all-ok era m a segs [] w (done (record { storage = a; pointers = [] })) start
   where
     start : PlacedOk era m a a [] []
     start = record {

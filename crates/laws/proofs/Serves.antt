@@ -1,4 +1,4 @@
--- Versions read on another shelf, which keeps what their pointers lead to; and the equations of a sound state.
+-- Versions read on another storage, which keeps what their pointers lead to; and the equations of a sound state.
 use mathlib.Core.Path.{_≡_, refl, ap, ap₂, _∙_}
 use mathlib.Core.Bool.{Bool, true, false, cond, false≢true}
 use mathlib.Core.List.{List, [], _∷_, _++_, map}
@@ -14,14 +14,14 @@ use Rattle.lists.proofs.Counts.{count-append}
 use Rattle.lists.proofs.Each.{each-every, every-each₂}
 use Rattle.lists.proofs.Tests.{all-true, clause, every-head, every-tail}
 use Rattle.model.specs.Measures.{Measures, Shape, inRange}
-use Rattle.model.specs.State.{Block, Pointer, nullPointer, blankPointer, direct, indirect, Shelf, Version, Till, State, staff}
+use Rattle.model.specs.State.{Block, Pointer, nullPointer, blankPointer, direct, indirect, Storage, Version, Till, State, staff}
 use Rattle.model.specs.Records.{isHeld, cellAt, positionAt}
 use Rattle.model.specs.Trace.{endVia, endOf, blockAt, tracedBlock}
-use Rattle.model.specs.Sound.{isSound, isShaped, isNumbered, leads, nextPointers, endsZero, areTraceable, isTill, isUsed, leadsTo, allPointers}
+use Rattle.model.specs.Sound.{isSound, isShaped, isNumbered, resolves, nextPointers, endsZero, areTraceable, isTill, isFreeOrHolds, leadsTo, allPointers}
 use Rattle.model.specs.Calls.{emptyTill}
 use Rattle.laws.proofs.Sweep.{countIn, blockIn}
-use Rattle.laws.specs.Shelves.{Exact, SegmentFits, ShelfFits}
-use Rattle.laws.proofs.Clean.{Whole}
+use Rattle.laws.specs.Storage.{Exact, SegmentFits, StorageFits}
+use Rattle.laws.proofs.Clean.{HasBytes}
 use Rattle.laws.proofs.Valid.{sound-exact, exact-sound}
 use Rattle.laws.proofs.Counts.{at, Counted, Led, sound-counted, counted-sound, leads-itself, pointer-counted}
 
@@ -52,24 +52,24 @@ till-among k i [] t = le-refl _
 till-among k i (x ∷ ts) zero = omega (arith, count-append (leadsTo k i) (pointersOf (x .versions)) (allPointers ts))
 till-among k i (x ∷ ts) (suc t) = omega (arith, till-among k i ts t, count-append (leadsTo k i) (pointersOf (x .versions)) (allPointers ts))
 
--- ---- versions that are read on another shelf, which keeps what the pointers of a list lead to
+-- ---- versions that are read on another storage, which keeps what the pointers of a list lead to
 
-pub record Serves (m : Measures) (a b : Shelf) (ps : List Pointer) : Type 0 where
+pub record Serves (m : Measures) (a b : Storage) (ps : List Pointer) : Type 0 where
   pub holds : (k i : ℕ) → 0 < count (leadsTo k i) ps → isHeld (at (b .records) k i) ≡ true
   pub blocks : (k i : ℕ) → 0 < count (leadsTo k i) ps → blockIn b k i ≡ blockIn a k i
 
-module _ (s : Shape) (a b : Shelf) (ps : List Pointer) (sv : Serves (s .measures) a b ps) where
+module _ (s : Shape) (a b : Storage) (ps : List Pointer) (sv : Serves (s .measures) a b ps) where
   abbrev Among : List Pointer → Type 0
   Among qs = (k i : ℕ) → count (leadsTo k i) qs ≤ count (leadsTo k i) ps
 
-  pub leads-again : (next qs : List Pointer) → every (leads a next) qs ≡ true → Among qs → every (leads b next) qs ≡ true
+  pub leads-again : (next qs : List Pointer) → every (resolves a next) qs ≡ true → Among qs → every (resolves b next) qs ≡ true
   unfolding every count
   leads-again next [] h g = refl
   leads-again next (q ∷ qs) h g =
-      rw (one q (every-head (leads a next) q qs h) (λ k i e. sv .holds k i (omega (arith, g k i, ap {B = ℕ} (λ (t : Bool). cond t 1 0) e))))
-      (leads-again next qs (every-tail (leads a next) q qs h) (λ k i. omega (arith, g k i)))
+      rw (one q (every-head (resolves a next) q qs h) (λ k i e. sv .holds k i (omega (arith, g k i, ap {B = ℕ} (λ (t : Bool). cond t 1 0) e))))
+      (leads-again next qs (every-tail (resolves a next) q qs h) (λ k i. omega (arith, g k i)))
     where
-      one : (q : Pointer) → leads a next q ≡ true → ((k i : ℕ) → leadsTo k i q ≡ true → isHeld (at (b .records) k i) ≡ true) → leads b next q ≡ true
+      one : (q : Pointer) → resolves a next q ≡ true → ((k i : ℕ) → leadsTo k i q ≡ true → isHeld (at (b .records) k i) ≡ true) → resolves b next q ≡ true
       one nullPointer h r = refl
       one blankPointer h r = refl
       one (direct k i) h r = unfold positionAt in r k i (leads-itself k i)
@@ -116,12 +116,12 @@ module _ (s : Shape) (a b : Shelf) (ps : List Pointer) (sv : Serves (s .measures
 
 -- ---- what a sound state has
 
-led-list : (a : Shelf) (next qs : List Pointer) → every (leads a next) qs ≡ true → (k i : ℕ) → 0 < count (leadsTo k i) qs → isHeld (at (a .records) k i) ≡ true
+led-list : (a : Storage) (next qs : List Pointer) → every (resolves a next) qs ≡ true → (k i : ℕ) → 0 < count (leadsTo k i) qs → isHeld (at (a .records) k i) ≡ true
 unfolding count positionAt
 led-list a next [] h k i c = absurd (not-suc-le-zero c)
-led-list a next (q ∷ qs) h k i c = go (leadsTo k i q) refl (λ n. led-list a next qs (every-tail (leads a next) q qs h) k i n)
+led-list a next (q ∷ qs) h k i c = go (leadsTo k i q) refl (λ n. led-list a next qs (every-tail (resolves a next) q qs h) k i n)
   where
-    one : (q : Pointer) → leads a next q ≡ true → leadsTo k i q ≡ true → isHeld (at (a .records) k i) ≡ true
+    one : (q : Pointer) → resolves a next q ≡ true → leadsTo k i q ≡ true → isHeld (at (a .records) k i) ≡ true
     one nullPointer l e = absurd (false≢true e)
     one blankPointer l e = absurd (false≢true e)
     one (direct k′ i′) l e =
@@ -129,10 +129,10 @@ led-list a next (q ∷ qs) h k i c = go (leadsTo k i q) refl (λ n. led-list a n
     one (indirect n) l e = absurd (false≢true e)
 
     go : (t : Bool) → leadsTo k i q ≡ t → (0 < count (leadsTo k i) qs → isHeld (at (a .records) k i) ≡ true) → isHeld (at (a .records) k i) ≡ true
-    go true e r = one q (every-head (leads a next) q qs h) e
+    go true e r = one q (every-head (resolves a next) q qs h) e
     go false e r = r (omega (arith, c, ap {B = ℕ} (λ (t : Bool). cond t 1 0) e))
 
-led-versions : (s : Shape) (a : Shelf) (vs : List Version) → areTraceable (s .measures .blockBytes) (s .capacities .blocks) a vs ≡ true → (k i : ℕ) → 0 < count (leadsTo k i) (pointersOf vs) → isHeld (at (a .records) k i) ≡ true
+led-versions : (s : Shape) (a : Storage) (vs : List Version) → areTraceable (s .measures .blockBytes) (s .capacities .blocks) a vs ≡ true → (k i : ℕ) → 0 < count (leadsTo k i) (pointersOf vs) → isHeld (at (a .records) k i) ≡ true
 unfolding areTraceable joined
 led-versions s a [] h k i c = unfold count in absurd (not-suc-le-zero c)
 led-versions s a (v ∷ newer) h k i c = go (ltb 0 (count (leadsTo k i) (v .pointers))) refl (λ n. led-versions s a newer (clause _ 3 h) k i n)
@@ -143,7 +143,7 @@ led-versions s a (v ∷ newer) h k i c = go (ltb 0 (count (leadsTo k i) (v .poin
     go false e r =
         r (omega (arith, c, ltb-false 0 (count (leadsTo k i) (v .pointers)) e, count-append (leadsTo k i) (v .pointers) (pointersOf newer)))
 
-led-tills : (s : Shape) (a : Shelf) (ts : List Till) → every (isTill s a) ts ≡ true → Led a (allPointers ts)
+led-tills : (s : Shape) (a : Storage) (ts : List Till) → every (isTill s a) ts ≡ true → Led a (allPointers ts)
 unfolding isTill allPointers joined
 led-tills s a [] h k i c = unfold count in absurd (not-suc-le-zero c)
 led-tills s a (t ∷ ts) h k i c = go (ltb 0 (count (leadsTo k i) (pointersOf (t .versions)))) refl (λ n. led-tills s a ts (every-tail (isTill s a) t ts h) k i n)
@@ -158,12 +158,12 @@ led-tills s a (t ∷ ts) h k i c = go (ltb 0 (count (leadsTo k i) (pointersOf (t
 pub record Valid (s : Shape) (st : State) : Type 0 where
   pub range : inRange s ≡ true
   pub tillCount : length (st .tills) ≡ s .capacities .tills
-  pub recordCount : length (st .shelf .records) ≡ s .capacities .records
-  pub cellCount : length (st .shelf .cells) ≡ s .capacities .cells
-  pub fits : ShelfFits (s .measures) (st .shelf)
-  pub exact : Exact (st .shelf)
-  pub tills : every (isTill s (st .shelf)) (st .tills) ≡ true
-  pub counts : Counted (st .shelf) (allPointers (st .tills))
+  pub recordCount : length (st .storage .records) ≡ s .capacities .records
+  pub cellCount : length (st .storage .cells) ≡ s .capacities .cells
+  pub fits : StorageFits (s .measures) (st .storage)
+  pub exact : Exact (st .storage)
+  pub tills : every (isTill s (st .storage)) (st .tills) ≡ true
+  pub counts : Counted (st .storage) (allPointers (st .tills))
 
 pub sound-valid : (s : Shape) (st : State) → isSound s st ≡ true → Valid s st
 unfolding isSound isShaped
@@ -175,19 +175,19 @@ sound-valid s st h =
       recordCount = eqb-true _ _ (clause _ 1 sh);
       cellCount = eqb-true _ _ (clause _ 3 sh);
       fits = record {
-        records = every-each₂ (SegmentFits (s .measures)) _ isUsed (λ seg e u. record { size = eqb-true _ _ e; used = u }) (st .shelf .records) (clause _ 2 sh) (clause _ 2 h);
-        cells = every-each₂ (Whole (s .measures)) _ _ (λ b e u. eqb-true _ _ e) (st .shelf .cells) (clause _ 4 sh) (clause _ 4 sh);
+        records = every-each₂ (SegmentFits (s .measures)) _ isFreeOrHolds (λ seg e u. record { size = eqb-true _ _ e; used = u }) (st .storage .records) (clause _ 2 sh) (clause _ 2 h);
+        cells = every-each₂ (HasBytes (s .measures)) _ _ (λ b e u. eqb-true _ _ e) (st .storage .cells) (clause _ 4 sh) (clause _ 4 sh);
       };
-      exact = sound-exact (st .shelf) (clause _ 3 h) (clause _ 6 h);
+      exact = sound-exact (st .storage) (clause _ 3 h) (clause _ 6 h);
       tills = clause _ 4 h;
-      counts = sound-counted (st .shelf) (allPointers (st .tills)) (clause _ 5 h) (led-tills s (st .shelf) (st .tills) (clause _ 4 h));
+      counts = sound-counted (st .storage) (allPointers (st .tills)) (clause _ 5 h) (led-tills s (st .storage) (st .tills) (clause _ 4 h));
     }
 
 pub valid-sound : (s : Shape) (st : State) → Valid s st
-    → ((k i : ℕ) → isHeld (at (st .shelf .records) k i) ≡ true → 0 < countIn (st .shelf) k i) → isSound s st ≡ true
+    → ((k i : ℕ) → isHeld (at (st .storage .records) k i) ≡ true → 0 < countIn (st .storage) k i) → isSound s st ≡ true
 unfolding isSound isShaped
 valid-sound s st v g =
-    let e = exact-sound (st .shelf) (v .exact) in
+    let e = exact-sound (st .storage) (v .exact) in
     all-true _ (
       v .range,
       (
@@ -196,14 +196,14 @@ valid-sound s st v g =
           (
             eq-eqb _ _ (v .recordCount),
             (
-              each-every (SegmentFits (s .measures)) _ (λ seg f. eq-eqb _ _ (f .size)) (st .shelf .records) (v .fits .records),
-              (eq-eqb _ _ (v .cellCount), (each-every (Whole (s .measures)) _ (λ b f. eq-eqb _ _ f) (st .shelf .cells) (v .fits .cells), tt)),
+              each-every (SegmentFits (s .measures)) _ (λ seg f. eq-eqb _ _ (f .size)) (st .storage .records) (v .fits .records),
+              (eq-eqb _ _ (v .cellCount), (each-every (HasBytes (s .measures)) _ (λ b f. eq-eqb _ _ f) (st .storage .cells) (v .fits .cells), tt)),
             ),
           ),
         ),
         (
-          each-every (SegmentFits (s .measures)) isUsed (λ seg f. f .used) (st .shelf .records) (v .fits .records),
-          (e .0, (v .tills, (counted-sound (st .shelf) (allPointers (st .tills)) (v .counts) g, (e .1, tt)))),
+          each-every (SegmentFits (s .measures)) isFreeOrHolds (λ seg f. f .used) (st .storage .records) (v .fits .records),
+          (e .0, (v .tills, (counted-sound (st .storage) (allPointers (st .tills)) (v .counts) g, (e .1, tt)))),
         ),
       ),
     )

@@ -21,7 +21,7 @@ use Rattle.model.specs.Table.{recordToWords, tillToWords, headerToWords, stateT
 use Rattle.model.specs.Sound.{isSound, ifSound, hasLengths, Store, storeAs, storeOf}
 use Rattle.model.specs.Calls.{emptyTill, tillOf}
 use Rattle.laws.specs.Ranges.{Ranges}
-use Rattle.laws.specs.Stores.{tillAt, recordsFrom, storeRead, Sound, Header}
+use Rattle.laws.specs.Stores.{tillAt, recordsFrom, storeRead, Sound, HeaderRanges}
 use Rattle.laws.proofs.Measures.{sizes}
 use Rattle.laws.proofs.Ranges.{ranges}
 use Rattle.laws.proofs.Fits.{Fit, range-fit, StateFits, state-fits}
@@ -35,9 +35,9 @@ module _ (s : Shape) (st : State) where
   unfolding stateToWords
   tillsOf = record {
     get = st .tills;
-    put = λ ts. record { tills = ts; shelf = st .shelf };
+    put = λ ts. record { tills = ts; storage = st .storage };
     before = headerToWords s;
-    after = rows recordToWords (st .shelf .records);
+    after = rows recordToWords (st .storage .records);
     same = refl;
     words = λ ts n. refl;
   }
@@ -71,13 +71,13 @@ module _ (s : Shape) (st : State) where
 
     pub till-put : (till : Till)
         → take (tillAt s t) (stateToWords s st) ++ (tillToWords (s .capacities .versions) (s .capacities .blocks) till ++ drop (tillWords (s .capacities .versions) (s .capacities .blocks)) (drop (tillAt s t) (stateToWords s st)))
-        ≡ stateToWords s (record { tills = set (st .tills) t till; shelf = st .shelf })
+        ≡ stateToWords s (record { tills = set (st .tills) t till; storage = st .storage })
     unfolding ofTill tillsOf
     till-put till = returned ofTill (stateToWords s st) refl (tillAt s t) _ front (length-till _ _ (getD (st .tills) t emptyTill)) till (length-till _ _ till)
 
   -- the records', which go to the end
   module _ (n : length (st .tills) ≡ s .capacities .tills) where
-    words-split : (rs : List Segment) (cells : List Block) → stateToWords s (record { tills = st .tills; shelf = record { records = rs; cells = cells } })
+    words-split : (rs : List Segment) (cells : List Block) → stateToWords s (record { tills = st .tills; storage = record { records = rs; cells = cells } })
         ≡ (headerToWords s ++ rows (tillToWords (s .capacities .versions) (s .capacities .blocks)) (st .tills)) ++ rows recordToWords rs
     unfolding stateToWords
     words-split rs cells = sym (append-assoc (headerToWords s) (rows (tillToWords (s .capacities .versions) (s .capacities .blocks)) (st .tills)) (rows recordToWords rs))
@@ -85,14 +85,14 @@ module _ (s : Shape) (st : State) where
     records-front : length (headerToWords s ++ rows (tillToWords (s .capacities .versions) (s .capacities .blocks)) (st .tills)) ≡ (recordsFrom s)
     records-front = tills-front (st .tills) ∙ ap (λ (k : ℕ). 8 + k * tillWords (s .capacities .versions) (s .capacities .blocks)) n
 
-    pub records-is : take (length (stateToWords s st) - (recordsFrom s)) (drop (recordsFrom s) (stateToWords s st)) ≡ rows recordToWords (st .shelf .records)
-    records-is = tail-is (headerToWords s ++ rows (tillToWords (s .capacities .versions) (s .capacities .blocks)) (st .tills)) (rows recordToWords (st .shelf .records)) (stateToWords s st) (recordsFrom s) (words-split (st .shelf .records) (st .shelf .cells)) records-front
+    pub records-is : take (length (stateToWords s st) - (recordsFrom s)) (drop (recordsFrom s) (stateToWords s st)) ≡ rows recordToWords (st .storage .records)
+    records-is = tail-is (headerToWords s ++ rows (tillToWords (s .capacities .versions) (s .capacities .blocks)) (st .tills)) (rows recordToWords (st .storage .records)) (stateToWords s st) (recordsFrom s) (words-split (st .storage .records) (st .storage .cells)) records-front
 
     pub records-put : (rs : List Segment) (cells : List Block)
         → take (recordsFrom s) (stateToWords s st) ++ (rows recordToWords rs ++ drop (length (stateToWords s st) - (recordsFrom s)) (drop (recordsFrom s) (stateToWords s st)))
-        ≡ stateToWords s (record { tills = st .tills; shelf = record { records = rs; cells = cells } })
+        ≡ stateToWords s (record { tills = st .tills; storage = record { records = rs; cells = cells } })
     records-put rs cells =
-        tail-put (headerToWords s ++ rows (tillToWords (s .capacities .versions) (s .capacities .blocks)) (st .tills)) (rows recordToWords (st .shelf .records)) (stateToWords s st) (recordsFrom s) (words-split (st .shelf .records) (st .shelf .cells)) records-front (rows recordToWords rs)
+        tail-put (headerToWords s ++ rows (tillToWords (s .capacities .versions) (s .capacities .blocks)) (st .tills)) (rows recordToWords (st .storage .records)) (stateToWords s st) (recordsFrom s) (words-split (st .storage .records) (st .storage .cells)) records-front (rows recordToWords rs)
         ∙ sym (words-split rs cells)
 
 -- ---- a sound store
@@ -139,7 +139,7 @@ module _ {pool table : List ℕ} (h : Sound pool table) where
   pub long : length table ≡ tableWords (shapeOf table)
   long = ap length (sym (found .words)) ∙ table-length (shapeOf table) (stateIn (shapeOf table) pool table) fits
 
-  pub header : Header table
+  pub header : HeaderRanges table
   unfolding shapeOf tableWords
   header =
       let r : Ranges (shapeOf table) = ranges (shapeOf table) (valid .range) in

@@ -14,25 +14,25 @@ use borrow.Author.Tests.{eqb-true, eqb-false, ltb-true, ltb-false, leb-true, leb
 use Rattle.lists.specs.Lists.{every, keep, count, allZero, uses}
 use Rattle.lists.specs.Rows.{joined}
 use Rattle.model.specs.Measures.{Measures}
-use Rattle.model.specs.State.{Block, Position, nullPosition, blankPosition, held, removed, Segment, Shelf}
+use Rattle.model.specs.State.{Block, Position, nullPosition, blankPosition, held, removed, Segment, Storage}
 use Rattle.model.specs.Records.{freeSegment, cellsOf, namedCells, isHeld, cellOf, countOf, cellAt}
 use Rattle.model.specs.Runs.{Run, findRun}
-use Rattle.model.specs.Sweep.{clearCells, goes, stays, struck, moved, freeRecord, strikeOnly, compact, removeFrom, sweepRecord, sweepFrom, sweep}
-use Rattle.laws.proofs.Uses.{named-set, clear-in, clear-out, staying, going, uses-split, struck-cells, moved-cells, staying-count}
-use Rattle.laws.specs.Shelves.{bit, Exact}
+use Rattle.model.specs.Sweep.{clearCells, isUnreferenced, isReferenced, struck, moved, freeRecord, strikeOnly, compact, removeFrom, sweepRecord, sweepFrom, sweep}
+use Rattle.laws.proofs.Uses.{named-set, clear-in, clear-out, referenced, unreferenced, uses-split, struck-cells, moved-cells, staying-count}
+use Rattle.laws.specs.Storage.{filledBit, Exact}
 use Rattle.laws.proofs.Runs.{RunOk, FoundOk, Free, find-ok}
 use Rattle.lists.proofs.Sets.{map-at, within-run, sets-after, sets-before, sets-in}
 use Rattle.lists.proofs.Tests.{by-test}
 use Rattle.lists.proofs.Uses.{numbers, uses-append, uses-at, uses-here, uses-high, uses-low, uses-within}
 
 -- the block that a position holds
-abbrev pub blockIn : Shelf → ℕ → ℕ → Block
-blockIn shelf k i = getD (shelf .cells) (cellOf (getD (getD (shelf .records) k []) i nullPosition)) []
+abbrev pub blockIn : Storage → ℕ → ℕ → Block
+blockIn storage k i = getD (storage .cells) (cellOf (getD (getD (storage .records) k []) i nullPosition)) []
 
-abbrev pub countIn : Shelf → ℕ → ℕ → ℕ
-countIn shelf k i = countOf (getD (getD (shelf .records) k []) i nullPosition)
+abbrev pub countIn : Storage → ℕ → ℕ → ℕ
+countIn storage k i = countOf (getD (getD (storage .records) k []) i nullPosition)
 
-pub record Keeps (a b : Shelf) : Type 0 where
+pub record Keeps (a b : Storage) : Type 0 where
   pub counts : (k i : ℕ) → countIn b k i ≡ countIn a k i
   pub blocks : (k i : ℕ) → 0 < countIn a k i → blockIn b k i ≡ blockIn a k i
   pub exact : Exact b
@@ -40,8 +40,8 @@ pub record Keeps (a b : Shelf) : Type 0 where
 
 -- ---- naming
 
-pub bit-most : (b : Block) → bit b ≤ 1
-unfolding bit
+pub bit-most : (b : Block) → filledBit b ≤ 1
+unfolding filledBit
 bit-most b = by-test (λ (n : ℕ). n ≤ 1) (allZero b) (λ e. zero-le) (λ e. le-refl 1)
 
 pub named-one : (c : ℕ) (segs : List Segment) (k : ℕ) → uses c (cellsOf (getD segs k [])) ≤ uses c (namedCells segs)
@@ -61,8 +61,8 @@ named-two c (s ∷ segs) (suc j) (suc k) h =
     omega (arith, named-two c segs j k (λ e. h (ap suc e)), uses-append c (cellsOf s) (joined (map cellsOf segs)))
 
 -- a position with a count names its cell, among those that stay
-stays-named : (seg : Segment) (i : ℕ) → 0 < countOf (getD seg i nullPosition) → 0 < uses (cellOf (getD seg i nullPosition)) (staying seg)
-unfolding staying keep cellsOf uses count
+stays-named : (seg : Segment) (i : ℕ) → 0 < countOf (getD seg i nullPosition) → 0 < uses (cellOf (getD seg i nullPosition)) (referenced seg)
+unfolding referenced keep cellsOf uses count
 stays-named [] i h = absurd (not-suc-le-zero h)
 stays-named (nullPosition ∷ seg) zero h = absurd (not-suc-le-zero h)
 stays-named (blankPosition ∷ seg) zero h = absurd (not-suc-le-zero h)
@@ -70,25 +70,25 @@ stays-named (nullPosition ∷ seg) (suc i) h = stays-named seg i h
 stays-named (blankPosition ∷ seg) (suc i) h = stays-named seg i h
 stays-named (held b zero ∷ seg) zero h = absurd (not-suc-le-zero h)
 stays-named (held b zero ∷ seg) (suc i) h = stays-named seg i h
-stays-named (held b (suc n) ∷ seg) zero h = omega (arith, uses-here b (staying seg))
+stays-named (held b (suc n) ∷ seg) zero h = omega (arith, uses-here b (referenced seg))
 stays-named (held b (suc n) ∷ seg) (suc i) h = omega (arith, stays-named seg i h)
 stays-named (removed ∷ seg) zero h = absurd (not-suc-le-zero h)
 stays-named (removed ∷ seg) (suc i) h = stays-named seg i h
 
 -- ---- one record in place of another, and other cells
 
-module _ (a : Shelf) (x : Exact a) (k : ℕ) (hk : k < length (a .records)) (seg : Segment) (cells : List Block)
+module _ (a : Storage) (x : Exact a) (k : ℕ) (hk : k < length (a .records)) (seg : Segment) (cells : List Block)
     (hc : (i : ℕ) → countOf (getD seg i nullPosition) ≡ countIn a k i)
     (here : (i : ℕ) → 0 < countIn a k i → getD cells (cellOf (getD seg i nullPosition)) [] ≡ blockIn a k i)
     (other : (c : ℕ) → uses c (cellsOf (getD (a .records) k [])) ≡ 0 → 0 < uses c (namedCells (a .records)) → getD cells c [] ≡ getD (a .cells) c [])
-    (exact : (c : ℕ) → uses c (namedCells (set (a .records) k seg)) ≡ bit (getD cells c [])) where
+    (exact : (c : ℕ) → uses c (namedCells (set (a .records) k seg)) ≡ filledBit (getD cells c [])) where
   at-k : getD (set (a .records) k seg) k [] ≡ seg
   at-k = getD-set-same (a .records) k seg [] hk
 
   at-other : (j : ℕ) → (j ≡ k → ⊥) → getD (set (a .records) k seg) j [] ≡ getD (a .records) j []
   at-other j h = getD-set-other (a .records) k j seg [] h
 
-  b : Shelf
+  b : Storage
   b = record { records = set (a .records) k seg; cells = cells }
 
   counts-kept : (j i : ℕ) → countIn b j i ≡ countIn a j i
@@ -107,7 +107,7 @@ module _ (a : Shelf) (x : Exact a) (k : ℕ) (hk : k < length (a .records)) (seg
       go true e = rw (eqb-true j k e, at-k) (here i (rw (eqb-true j k e) at p))
       go false e =
           let c : ℕ = cellOf (getD (getD (a .records) j []) i nullPosition) in
-          let u : 0 < uses c (staying (getD (a .records) j [])) = stays-named (getD (a .records) j []) i p in
+          let u : 0 < uses c (referenced (getD (a .records) j [])) = stays-named (getD (a .records) j []) i p in
           let q = eqb-false j k e in
           rw (at-other j q)
           (other c (omega (arith, u, uses-split c (getD (a .records) j []), named-two c (a .records) j k q, x c, bit-most (getD (a .cells) c [])))
@@ -149,9 +149,9 @@ moved-count (removed ∷ seg) at (suc i) = moved-count seg at i
 
 -- the cell of a position that stays is one of the new run, and holds what the old one did
 moved-block : (f : ℕ → Block) (cells : List Block) (seg : Segment) (at : ℕ)
-    → ((j : ℕ) → j < length (staying seg) → getD cells (at + j) [] ≡ f (getD (staying seg) j 0))
+    → ((j : ℕ) → j < length (referenced seg) → getD cells (at + j) [] ≡ f (getD (referenced seg) j 0))
     → (i : ℕ) → 0 < countOf (getD seg i nullPosition) → getD cells (cellOf (getD (moved at seg) i nullPosition)) [] ≡ f (cellOf (getD seg i nullPosition))
-unfolding moved staying keep cellsOf
+unfolding moved referenced keep cellsOf
 moved-block f cells [] at g i h = absurd (not-suc-le-zero h)
 moved-block f cells (nullPosition ∷ seg) at g zero h = absurd (not-suc-le-zero h)
 moved-block f cells (blankPosition ∷ seg) at g zero h = absurd (not-suc-le-zero h)
@@ -159,15 +159,15 @@ moved-block f cells (nullPosition ∷ seg) at g (suc i) h = moved-block f cells 
 moved-block f cells (blankPosition ∷ seg) at g (suc i) h = moved-block f cells seg at g i h
 moved-block f cells (held b zero ∷ seg) at g zero h = absurd (not-suc-le-zero h)
 moved-block f cells (held b zero ∷ seg) at g (suc i) h = moved-block f cells seg at g i h
-moved-block f cells (held b (suc n) ∷ seg) at g zero h = ap (λ (x : ℕ). getD cells x []) (sym (add-zero at)) ∙ g 0 (zero-lt-suc (length (staying seg)))
+moved-block f cells (held b (suc n) ∷ seg) at g zero h = ap (λ (x : ℕ). getD cells x []) (sym (add-zero at)) ∙ g 0 (zero-lt-suc (length (referenced seg)))
 moved-block f cells (held b (suc n) ∷ seg) at g (suc i) h =
     moved-block f cells seg (suc at) (λ j l. ap (λ (x : ℕ). getD cells x []) (suc-add at j ∙ sym (add-suc at j)) ∙ g (suc j) (suc-le-suc l)) i h
 moved-block f cells (removed ∷ seg) at g zero h = absurd (not-suc-le-zero h)
 moved-block f cells (removed ∷ seg) at g (suc i) h = moved-block f cells seg at g i h
 
 -- where nothing stays, no position has a count
-none-stays : (seg : Segment) → length (staying seg) ≡ 0 → (i : ℕ) → countOf (getD seg i nullPosition) ≡ 0
-unfolding staying keep cellsOf
+none-stays : (seg : Segment) → length (referenced seg) ≡ 0 → (i : ℕ) → countOf (getD seg i nullPosition) ≡ 0
+unfolding referenced keep cellsOf
 none-stays [] e i = refl
 none-stays (nullPosition ∷ seg) e zero = refl
 none-stays (blankPosition ∷ seg) e zero = refl
@@ -175,7 +175,7 @@ none-stays (nullPosition ∷ seg) e (suc i) = none-stays seg e i
 none-stays (blankPosition ∷ seg) e (suc i) = none-stays seg e i
 none-stays (held b zero ∷ seg) e zero = refl
 none-stays (held b zero ∷ seg) e (suc i) = none-stays seg e i
-none-stays (held b (suc n) ∷ seg) e i = absurd (suc-ne-zero (length (staying seg)) e)
+none-stays (held b (suc n) ∷ seg) e i = absurd (suc-ne-zero (length (referenced seg)) e)
 none-stays (removed ∷ seg) e zero = refl
 none-stays (removed ∷ seg) e (suc i) = none-stays seg e i
 
@@ -191,41 +191,41 @@ free-uses c (suc n) = free-uses c n
 
 -- ---- the ways of removal
 
-module _ (m : Measures) (a : Shelf) (x : Exact a) (k : ℕ) (hk : k < length (a .records)) where
+module _ (m : Measures) (a : Storage) (x : Exact a) (k : ℕ) (hk : k < length (a .records)) where
   seg : Segment
   seg = getD (a .records) k []
 
   strike-keeps : Keeps a (strikeOnly m a k seg)
-  unfolding strikeOnly seg going
+  unfolding strikeOnly seg unreferenced
   strike-keeps =
-      keeps-by a x k hk (map struck seg) (clearCells (m .blockBytes) (a .cells) (cellsOf (keep goes seg)))
+      keeps-by a x k hk (map struck seg) (clearCells (m .blockBytes) (a .cells) (cellsOf (keep isUnreferenced seg)))
       (λ i. ap countOf (List·getD-map struck seg i nullPosition) ∙ struck-count (getD seg i nullPosition))
       (λ i p.
       let c : ℕ = cellOf (getD seg i nullPosition) in
-      ap (λ (q : Position). getD (clearCells (m .blockBytes) (a .cells) (going seg)) (cellOf q) []) (List·getD-map struck seg i nullPosition)
-      ∙ ap (λ (y : ℕ). getD (clearCells (m .blockBytes) (a .cells) (going seg)) y []) (struck-cell (getD seg i nullPosition) p)
-      ∙ clear-out m (going seg) (a .cells) c
+      ap (λ (q : Position). getD (clearCells (m .blockBytes) (a .cells) (unreferenced seg)) (cellOf q) []) (List·getD-map struck seg i nullPosition)
+      ∙ ap (λ (y : ℕ). getD (clearCells (m .blockBytes) (a .cells) (unreferenced seg)) y []) (struck-cell (getD seg i nullPosition) p)
+      ∙ clear-out m (unreferenced seg) (a .cells) c
       (omega (arith, stays-named seg i p, uses-split c seg, named-one c (a .records) k, x c, bit-most (getD (a .cells) c []))))
-      (λ c u n. clear-out m (going seg) (a .cells) c (omega (arith, u, uses-split c seg)))
+      (λ c u n. clear-out m (unreferenced seg) (a .cells) c (omega (arith, u, uses-split c seg)))
       exact
     where
-      exact : (c : ℕ) → uses c (namedCells (set (a .records) k (map struck seg))) ≡ bit (getD (clearCells (m .blockBytes) (a .cells) (going seg)) c [])
-      exact c = go (ltb 0 (uses c (going seg))) refl
+      exact : (c : ℕ) → uses c (namedCells (set (a .records) k (map struck seg))) ≡ filledBit (getD (clearCells (m .blockBytes) (a .cells) (unreferenced seg)) c [])
+      exact c = go (ltb 0 (uses c (unreferenced seg))) refl
         where
-          sum : uses c (namedCells (set (a .records) k (map struck seg))) + uses c (cellsOf seg) ≡ uses c (namedCells (a .records)) + uses c (staying seg)
+          sum : uses c (namedCells (set (a .records) k (map struck seg))) + uses c (cellsOf seg) ≡ uses c (namedCells (a .records)) + uses c (referenced seg)
           sum = named-set c (a .records) k (map struck seg) hk ∙ ap (λ (l : List ℕ). uses c (namedCells (a .records)) + uses c l) (struck-cells seg)
 
-          go : (t : Bool) → ltb 0 (uses c (going seg)) ≡ t
-              → uses c (namedCells (set (a .records) k (map struck seg))) ≡ bit (getD (clearCells (m .blockBytes) (a .cells) (going seg)) c [])
+          go : (t : Bool) → ltb 0 (uses c (unreferenced seg)) ≡ t
+              → uses c (namedCells (set (a .records) k (map struck seg))) ≡ filledBit (getD (clearCells (m .blockBytes) (a .cells) (unreferenced seg)) c [])
           go true t =
-              let g : 0 < uses c (going seg) = ltb-true 0 (uses c (going seg)) t in
+              let g : 0 < uses c (unreferenced seg) = ltb-true 0 (uses c (unreferenced seg)) t in
               (let z : uses c (namedCells (set (a .records) k (map struck seg))) ≡ 0 =
               omega (arith, g, sum, uses-split c seg, named-one c (a .records) k, x c, bit-most (getD (a .cells) c [])) in z)
-              ∙ sym (clear-in m (going seg) (a .cells) c g)
+              ∙ sym (clear-in m (unreferenced seg) (a .cells) c g)
           go false t =
-              let g : uses c (going seg) ≡ 0 = omega (arith, ltb-false 0 (uses c (going seg)) t) in
+              let g : uses c (unreferenced seg) ≡ 0 = omega (arith, ltb-false 0 (uses c (unreferenced seg)) t) in
               (let z : uses c (namedCells (set (a .records) k (map struck seg))) ≡ uses c (namedCells (a .records)) = omega (arith, g, sum, uses-split c seg) in z)
-              ∙ x c ∙ ap bit (sym (clear-out m (going seg) (a .cells) c g))
+              ∙ x c ∙ ap filledBit (sym (clear-out m (unreferenced seg) (a .cells) c g))
 
   -- a record that is freed names nothing, and its cells are cleared
   pub free-exact : Exact (freeRecord m a k (getD (a .records) k []))
@@ -238,16 +238,16 @@ module _ (m : Measures) (a : Shelf) (x : Exact a) (k : ℕ) (hk : k < length (a 
       sum : new + uses c (cellsOf seg) ≡ uses c (namedCells (a .records)) + 0
       sum = named-set c (a .records) k (replicate (m .segmentBlocks) nullPosition) hk ∙ ap (λ (n : ℕ). uses c (namedCells (a .records)) + n) (free-uses c (m .segmentBlocks))
 
-      go : (t : Bool) → ltb 0 (uses c (cellsOf seg)) ≡ t → new ≡ bit (getD (clearCells (m .blockBytes) (a .cells) (cellsOf seg)) c [])
+      go : (t : Bool) → ltb 0 (uses c (cellsOf seg)) ≡ t → new ≡ filledBit (getD (clearCells (m .blockBytes) (a .cells) (cellsOf seg)) c [])
       go true t =
           let g : 0 < uses c (cellsOf seg) = ltb-true 0 (uses c (cellsOf seg)) t in
           (let z : new ≡ 0 = omega (arith, g, sum, named-one c (a .records) k, x c, bit-most (getD (a .cells) c [])) in z)
           ∙ sym (clear-in m (cellsOf seg) (a .cells) c g)
       go false t =
           let g : uses c (cellsOf seg) ≡ 0 = omega (arith, ltb-false 0 (uses c (cellsOf seg)) t) in
-          (let z : new ≡ uses c (namedCells (a .records)) = omega (arith, g, sum) in z) ∙ x c ∙ ap bit (sym (clear-out m (cellsOf seg) (a .cells) c g))
+          (let z : new ≡ uses c (namedCells (a .records)) = omega (arith, g, sum) in z) ∙ x c ∙ ap filledBit (sym (clear-out m (cellsOf seg) (a .cells) c g))
 
-  free-keeps : length (staying seg) ≡ 0 → Keeps a (freeRecord m a k seg)
+  free-keeps : length (referenced seg) ≡ 0 → Keeps a (freeRecord m a k seg)
   unfolding freeRecord freeSegment seg
   free-keeps e =
       keeps-by a x k hk (replicate (m .segmentBlocks) nullPosition) (clearCells (m .blockBytes) (a .cells) (cellsOf seg))
@@ -256,12 +256,12 @@ module _ (m : Measures) (a : Shelf) (x : Exact a) (k : ℕ) (hk : k < length (a 
       (λ c u n. clear-out m (cellsOf seg) (a .cells) c u)
       free-exact
 
-  module _ (run : Run) (ok : RunOk (Free a) (length (staying seg)) run) where
+  module _ (run : Run) (ok : RunOk (Free a) (length (referenced seg)) run) where
     n : ℕ
-    n = length (staying seg)
+    n = length (referenced seg)
 
     cells₁ : List Block
-    cells₁ = sets (a .cells) (run .start) (map (cellAt a) (staying seg))
+    cells₁ = sets (a .cells) (run .start) (map (cellAt a) (referenced seg))
 
     cells₂ : List Block
     cells₂ = clearCells (m .blockBytes) cells₁ (cellsOf seg)
@@ -273,12 +273,12 @@ module _ (m : Measures) (a : Shelf) (x : Exact a) (k : ℕ) (hk : k < length (a 
     fits : (j : ℕ) → j < n → run .start + n ≤ length (a .cells)
     fits j h = omega (arith, h, in-run (n - 1) (omega (arith, h)) .inside)
 
-    run-block : (j : ℕ) → j < n → getD cells₁ (run .start + j) [] ≡ getD (a .cells) (getD (staying seg) j 0) []
+    run-block : (j : ℕ) → j < n → getD cells₁ (run .start + j) [] ≡ getD (a .cells) (getD (referenced seg) j 0) []
     unfolding cells₁ n cellAt
     run-block j h =
-        let l : length (map (cellAt a) (staying seg)) ≡ n = length-map (staying seg) (cellAt a) in
-        sets-in [] (map (cellAt a) (staying seg)) (a .cells) (run .start) j (omega (arith, h, l)) (omega (arith, fits j h, l))
-        ∙ map-at (cellAt a) (staying seg) j 0 [] h
+        let l : length (map (cellAt a) (referenced seg)) ≡ n = length-map (referenced seg) (cellAt a) in
+        sets-in [] (map (cellAt a) (referenced seg)) (a .cells) (run .start) j (omega (arith, h, l)) (omega (arith, fits j h, l))
+        ∙ map-at (cellAt a) (referenced seg) j 0 [] h
 
     run-clear : (j : ℕ) → j < n → getD cells₂ (run .start + j) [] ≡ getD cells₁ (run .start + j) []
     unfolding cells₂ seg
@@ -291,9 +291,9 @@ module _ (m : Measures) (a : Shelf) (x : Exact a) (k : ℕ) (hk : k < length (a 
       where
         go : (c < run .start) ⊎ ((run .start + n ≤ c) ⊎ ((j : ℕ) × (c ≡ run .start + j) × (j < n)))
             → (getD cells₁ c [] ≡ getD (a .cells) c []) × (uses c (numbers (run .start) n) ≡ 0)
-        go (inl b) = (sets-before [] (map (cellAt a) (staying seg)) (a .cells) (run .start) c b, uses-low n (run .start) c b)
+        go (inl b) = (sets-before [] (map (cellAt a) (referenced seg)) (a .cells) (run .start) c b, uses-low n (run .start) c b)
         go (inr (inl b)) = (
-          sets-after [] (map (cellAt a) (staying seg)) (a .cells) (run .start) c (omega (arith, b, length-map (staying seg) (cellAt a))),
+          sets-after [] (map (cellAt a) (referenced seg)) (a .cells) (run .start) c (omega (arith, b, length-map (referenced seg) (cellAt a))),
           uses-high n (run .start) c b,
         )
         go (inr (inr w)) =
@@ -306,7 +306,7 @@ module _ (m : Measures) (a : Shelf) (x : Exact a) (k : ℕ) (hk : k < length (a 
     unfolding new n seg
     sum c = named-set c (a .records) k (moved (run .start) seg) hk ∙ ap (λ (l : List ℕ). uses c (namedCells (a .records)) + uses c l) (moved-cells seg (run .start))
 
-    exact-in : (c : ℕ) → 0 < uses c (cellsOf seg) → new c ≡ bit (getD cells₂ c [])
+    exact-in : (c : ℕ) → 0 < uses c (cellsOf seg) → new c ≡ filledBit (getD cells₂ c [])
     unfolding cells₂ seg
     exact-in c g =
         let u : 0 < uses c (namedCells (a .records)) = omega (arith, g, named-one c (a .records) k) in
@@ -314,39 +314,39 @@ module _ (m : Measures) (a : Shelf) (x : Exact a) (k : ℕ) (hk : k < length (a 
         ∙ sym (clear-in m (cellsOf seg) cells₁ c g)
 
     -- a copied block is not zero
-    run-bit : (j : ℕ) → j < n → bit (getD (a .cells) (getD (staying seg) j 0) []) ≡ 1
+    run-bit : (j : ℕ) → j < n → filledBit (getD (a .cells) (getD (referenced seg) j 0) []) ≡ 1
     unfolding n seg
     run-bit j h =
-        let c : ℕ = getD (staying seg) j 0 in
-        let u : 0 < uses c (staying seg) = uses-at c (staying seg) j h refl in
+        let c : ℕ = getD (referenced seg) j 0 in
+        let u : 0 < uses c (referenced seg) = uses-at c (referenced seg) j h refl in
         omega (arith, u, uses-split c seg, named-one c (a .records) k, x c, bit-most (getD (a .cells) c []))
 
     exact-out : (c : ℕ) → uses c (cellsOf seg) ≡ 0 → (c < run .start) ⊎ ((run .start + n ≤ c) ⊎ ((j : ℕ) × (c ≡ run .start + j) × (j < n)))
-        → new c ≡ bit (getD cells₂ c [])
+        → new c ≡ filledBit (getD cells₂ c [])
     unfolding cells₂ cells₁
     exact-out c g (inl b) =
         (let z : new c ≡ uses c (namedCells (a .records)) = omega (arith, g, sum c, uses-low n (run .start) c b) in z) ∙ x c
-        ∙ ap bit (sym (clear-out m (cellsOf seg) cells₁ c g ∙ sets-before [] (map (cellAt a) (staying seg)) (a .cells) (run .start) c b))
+        ∙ ap filledBit (sym (clear-out m (cellsOf seg) cells₁ c g ∙ sets-before [] (map (cellAt a) (referenced seg)) (a .cells) (run .start) c b))
     exact-out c g (inr (inl b)) =
         (let z : new c ≡ uses c (namedCells (a .records)) = omega (arith, g, sum c, uses-high n (run .start) c b) in z) ∙ x c
-        ∙ ap bit (sym (clear-out m (cellsOf seg) cells₁ c g
-        ∙ sets-after [] (map (cellAt a) (staying seg)) (a .cells) (run .start) c (unfold n in omega (arith, b, length-map (staying seg) (cellAt a)))))
+        ∙ ap filledBit (sym (clear-out m (cellsOf seg) cells₁ c g
+        ∙ sets-after [] (map (cellAt a) (referenced seg)) (a .cells) (run .start) c (unfold n in omega (arith, b, length-map (referenced seg) (cellAt a)))))
     exact-out c g (inr (inr w)) =
         let j : ℕ = w .0 in
         let at : ℕ = run .start + j in
         ap new (w .1)
         ∙ (let z : new at ≡ 1 = omega (arith, sum at, uses-within n (run .start) j (w .2), in-run j (w .2) .unnamed, named-one at (a .records) k, ap (λ (y : ℕ). uses y (cellsOf seg)) (sym (w .1)), g) in z)
-        ∙ sym (ap (λ (y : ℕ). bit (getD cells₂ y [])) (w .1) ∙ ap bit (run-clear j (w .2) ∙ run-block j (w .2)) ∙ run-bit j (w .2))
+        ∙ sym (ap (λ (y : ℕ). filledBit (getD cells₂ y [])) (w .1) ∙ ap filledBit (run-clear j (w .2) ∙ run-block j (w .2)) ∙ run-bit j (w .2))
 
-    exact : (c : ℕ) → new c ≡ bit (getD cells₂ c [])
+    exact : (c : ℕ) → new c ≡ filledBit (getD cells₂ c [])
     exact c = go (ltb 0 (uses c (cellsOf seg))) refl
       where
-        go : (t : Bool) → ltb 0 (uses c (cellsOf seg)) ≡ t → new c ≡ bit (getD cells₂ c [])
+        go : (t : Bool) → ltb 0 (uses c (cellsOf seg)) ≡ t → new c ≡ filledBit (getD cells₂ c [])
         go true t = exact-in c (ltb-true 0 (uses c (cellsOf seg)) t)
         go false t = exact-out c (omega (arith, ltb-false 0 (uses c (cellsOf seg)) t)) (within-run c (run .start) n)
 
     compact-keeps : Keeps a (compact m a k seg (some run))
-    unfolding compact seg staying new cells₁ cells₂ n
+    unfolding compact seg referenced new cells₁ cells₂ n
     compact-keeps =
         keeps-by a x k hk (moved (run .start) seg) cells₂
         (λ i. moved-count seg (run .start) i)
@@ -354,14 +354,14 @@ module _ (m : Measures) (a : Shelf) (x : Exact a) (k : ℕ) (hk : k < length (a 
         (λ c u nz. clear-out m (cellsOf seg) cells₁ c u ∙ off-run c nz .0)
         exact
 
-  compact-any : (need : ℕ) → need ≡ length (staying seg) → (o : Option Run) → FoundOk (Free a) need o → Keeps a (compact m a k seg o)
+  compact-any : (need : ℕ) → need ≡ length (referenced seg) → (o : Option Run) → FoundOk (Free a) need o → Keeps a (compact m a k seg o)
   compact-any need e none h = unfold compact in strike-keeps
   compact-any need e (some run) h = compact-keeps run (subst (λ (x : ℕ). RunOk (Free a) x run) e h)
 
-  remove-keeps : Keeps a (removeFrom m a k seg (count goes seg) (count isHeld seg))
+  remove-keeps : Keeps a (removeFrom m a k seg (count isUnreferenced seg) (count isHeld seg))
   unfolding removeFrom
   remove-keeps =
-      let r = count goes seg in let s = count isHeld seg in
+      let r = count isUnreferenced seg in let s = count isHeld seg in
       by-test (Keeps a) (eqb r 0)
       (λ e. record { counts = λ j i. refl; blocks = λ j i p. refl; exact = x; recordCount = refl })
       (λ e. by-test (Keeps a) (eqb r s)
@@ -370,7 +370,7 @@ module _ (m : Measures) (a : Shelf) (x : Exact a) (k : ℕ) (hk : k < length (a 
       (λ t. strike-keeps)
       (λ t. compact-any (s - r) (omega (arith, staying-count seg)) (findRun a (s - r)) (find-ok a (s - r)))))
 
-keeps-trans : (a b c : Shelf) → Keeps a b → Keeps b c → Keeps a c
+keeps-trans : (a b c : Storage) → Keeps a b → Keeps b c → Keeps a c
 keeps-trans a b c f g = record {
   counts = λ k i. g .counts k i ∙ f .counts k i;
   blocks = λ k i p. g .blocks k i (subst (λ (n : ℕ). 0 < n) (sym (f .counts k i)) p) ∙ f .blocks k i p;
@@ -378,11 +378,11 @@ keeps-trans a b c f g = record {
   recordCount = g .recordCount ∙ f .recordCount;
 }
 
-pub record-keeps : (m : Measures) (a : Shelf) → Exact a → (k : ℕ) → k < length (a .records) → Keeps a (sweepRecord m a k)
+pub record-keeps : (m : Measures) (a : Storage) → Exact a → (k : ℕ) → k < length (a .records) → Keeps a (sweepRecord m a k)
 unfolding sweepRecord seg
 record-keeps m a x k h = remove-keeps m a x k h
 
-pub sweep-from-keeps : (m : Measures) (a : Shelf) (k n : ℕ) → Exact a → k + n ≤ length (a .records) → Keeps a (sweepFrom m a k n)
+pub sweep-from-keeps : (m : Measures) (a : Storage) (k n : ℕ) → Exact a → k + n ≤ length (a .records) → Keeps a (sweepFrom m a k n)
 unfolding sweepFrom
 sweep-from-keeps m a k zero x h = record { counts = λ j i. refl; blocks = λ j i p. refl; exact = x; recordCount = refl }
 sweep-from-keeps m a k (suc n) x h =
@@ -391,6 +391,6 @@ sweep-from-keeps m a k (suc n) x h =
     (sweep-from-keeps m (sweepRecord m a k) (suc k) n (f .exact) (omega (arith, h, f .recordCount)))
 
 -- Step 3 of a backup keeps every count, every block that has a count, and the cells exact.
-pub sweep-keeps : (m : Measures) (a : Shelf) → Exact a → Keeps a (sweep m a)
+pub sweep-keeps : (m : Measures) (a : Storage) → Exact a → Keeps a (sweep m a)
 unfolding sweep
 sweep-keeps m a x = sweep-from-keeps m a 0 (length (a .records)) x (omega arith)

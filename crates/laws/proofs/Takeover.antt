@@ -12,9 +12,9 @@ use Rattle.lists.specs.Rows.{joined}
 use Rattle.lists.specs.Each.{Each}
 use Rattle.lists.proofs.Tests.{all-true, clause}
 use Rattle.model.specs.Measures.{Shape, partsFor}
-use Rattle.model.specs.State.{Pointer, nullPointer, blankPointer, direct, indirect, Shelf, Version, withPointers}
+use Rattle.model.specs.State.{Pointer, nullPointer, blankPointer, direct, indirect, Storage, Version, withPointers}
 use Rattle.model.specs.Trace.{endVia, endOf, blockAt, tracedBlock}
-use Rattle.model.specs.Sound.{isNull, leads, leadsTo, nextPointers, hasLength, areTraceable}
+use Rattle.model.specs.Sound.{isNull, resolves, leadsTo, nextPointers, hasLength, areTraceable}
 use Rattle.model.specs.Calls.{heldFrom, heldBefore, newestPointers, withNewestPointers, takeOver, taken, closeUp}
 use Rattle.laws.proofs.Counts.{pointer-counted}
 use Rattle.laws.proofs.Serves.{pointersOf}
@@ -71,13 +71,13 @@ module _ (gone : List Pointer) where
   take-end (direct k i) f = refl
   take-end (indirect n) f = refl
 
-  take-leads : (a : Shelf) (next : List Pointer) → every (leads a next) gone ≡ true → (p : Pointer) → leads a gone p ≡ true → leads a next (takeOver gone p) ≡ true
+  take-leads : (a : Storage) (next : List Pointer) → every (resolves a next) gone ≡ true → (p : Pointer) → resolves a gone p ≡ true → resolves a next (takeOver gone p) ≡ true
   take-leads a next h nullPointer l = refl
   take-leads a next h blankPointer l = refl
   take-leads a next h (direct k i) l = l
   take-leads a next h (indirect n) l = lead-at a next gone h n
 
-  take-null : (a : Shelf) (p : Pointer) → leads a gone p ≡ true → isNull (takeOver gone p) ≡ isNull p
+  take-null : (a : Storage) (p : Pointer) → resolves a gone p ≡ true → isNull (takeOver gone p) ≡ isNull p
   take-null a nullPointer l = refl
   take-null a blankPointer l = refl
   take-null a (direct k i) l = refl
@@ -133,7 +133,7 @@ module _ (v : Version) (newer : List Version) where
   close-ends u (w ∷ older) n =
       end-same (getD (u .pointers) n nullPointer) (λ b. endOf (closeUp (w ∷ older) v newer) b) (λ b. endOf (w ∷ (older ++ (v ∷ newer))) b) (close-ends w older)
 
-  pub close-traced : (bytes : ℕ) (a : Shelf) (u : Version) (older : List Version) (n : ℕ)
+  pub close-traced : (bytes : ℕ) (a : Storage) (u : Version) (older : List Version) (n : ℕ)
       → tracedBlock bytes a (closeUp (u ∷ older) v newer) n ≡ tracedBlock bytes a (u ∷ (older ++ (v ∷ newer))) n
   unfolding tracedBlock
   close-traced bytes a u older n = ap (blockAt bytes a) (close-ends u older n)
@@ -151,7 +151,7 @@ module _ (v : Version) (newer : List Version) where
         take-count (v .pointers) k i (newestPointers (u ∷ older)),
       )
 
-  module _ (s : Shape) (a : Shelf) where
+  module _ (s : Shape) (a : Storage) where
     next-null : (u : Version) (older : List Version) → areTraceable (s .measures .blockBytes) (s .capacities .blocks) a (u ∷ (older ++ (v ∷ newer))) ≡ true → (n : ℕ)
         → isNull (getD (nextPointers (closeUp (u ∷ older) v newer)) n nullPointer) ≡ isNull (getD (u .pointers) n nullPointer)
     unfolding closeUp withNewestPointers newestPointers nextPointers areTraceable

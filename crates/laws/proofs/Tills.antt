@@ -93,7 +93,7 @@ module _ {pool table : List ℕ} (h : Sound pool table) (t : ℕ) (in-table : t 
       → getD table (tillAt (shapeOf table) t + j) 0 ≡ getD (take (tillWords (getD table 1 0) (getD table 2 0)) (drop (tillAt (shapeOf table) t) table)) j 0
   word-at j b = sym (getD-take (tillWords (getD table 1 0) (getD table 2 0)) (drop (tillAt (shapeOf table) t) table) j 0 b ∙ getD-drop (tillAt (shapeOf table) t) table j 0)
 
-  pub is-till : isTill (shapeOf table) (stateIn (shapeOf table) pool table .shelf) till ≡ true
+  pub is-till : isTill (shapeOf table) (stateIn (shapeOf table) pool table .storage) till ≡ true
   unfolding tillOf
   is-till = every-at _ emptyTill (stateIn (shapeOf table) pool table .tills) (valid h .tills) t there
 

@@ -12,16 +12,16 @@ use borrow.Author.Tests.{ltb-true, ltb-false}
 use Rattle.lists.specs.Lists.{every, keep, count, firstFrom, sameNumbers, allZero, isSome}
 use Rattle.lists.specs.Each.{Each}
 use Rattle.model.specs.Measures.{Measures, Shape, partsFor}
-use Rattle.model.specs.State.{Block, Pointer, nullPointer, blankPointer, direct, indirect, Shelf, Version, withPointers}
+use Rattle.model.specs.State.{Block, Pointer, nullPointer, blankPointer, direct, indirect, Storage, Version, withPointers}
 use Rattle.model.specs.Image.{Era, isBlank, isBare}
 use Rattle.model.specs.Records.{isHeld, cellOf, cellAt, positionAt}
 use Rattle.model.specs.Turn.{indirectAt, turnsTo, target, foundOr, turn, turning}
 use Rattle.model.specs.Trace.{endVia, endOf, blockAt, tracedBlock}
-use Rattle.model.specs.Sound.{isNull, leads, leadsTo, nextPointers, endsZero, hasLength, areTraceable}
+use Rattle.model.specs.Sound.{isNull, resolves, leadsTo, nextPointers, endsZero, hasLength, areTraceable}
 use Rattle.model.specs.Calls.{newestPointers, withNewestPointers}
 use Rattle.laws.proofs.Sweep.{blockIn, named-one}
-use Rattle.laws.specs.Shelves.{Exact}
-use Rattle.laws.proofs.Clean.{Whole}
+use Rattle.laws.specs.Storage.{Exact}
+use Rattle.laws.proofs.Clean.{HasBytes}
 use Rattle.laws.proofs.Counts.{at}
 use Rattle.laws.proofs.Bare.{blank-eq, isIndirect, isBarePointer}
 use Rattle.laws.proofs.Place.{held-named, bit-one}
@@ -30,15 +30,15 @@ use Rattle.lists.proofs.First.{Lowest, first-lowest}
 use Rattle.lists.proofs.Same.{same-eq}
 use Rattle.lists.proofs.Tests.{by-test, all-true, clause, every-head, every-tail}
 
--- the new version's pointers, on the shelf with its segments placed
-pub record NewOk (era : Era) (m : Measures) (p : Shelf) (bs : List Block) (new : List Pointer) : Type 0 where
+-- the new version's pointers, on the storage with its segments placed
+pub record NewOk (era : Era) (m : Measures) (p : Storage) (bs : List Block) (new : List Pointer) : Type 0 where
   pub traced : (j : ℕ) → j < length bs → blockAt (m .blockBytes) p (getD new j nullPointer) ≡ getD bs j []
   pub nulls : (j : ℕ) → j < length bs → isNull (getD new j nullPointer) ≡ allZero (getD bs j [])
   pub bares : (j : ℕ) → j < length bs → isBarePointer (getD new j nullPointer) ≡ isBare era (getD bs j [])
   pub plain : (j : ℕ) → isIndirect (getD new j nullPointer) ≡ false
-  pub cells : Each (Whole m) (p .cells)
+  pub cells : Each (HasBytes m) (p .cells)
 
-module _ (era : Era) (m : Measures) (p : Shelf) (x : Exact p) (bs : List Block) where
+module _ (era : Era) (m : Measures) (p : Storage) (x : Exact p) (bs : List Block) where
   -- what a pointer at a block turns into: blank, as the block is, or indirect to an equal one
   abbrev TurnOk : Block → Option Pointer → Type 0
   TurnOk b none = Unit {0}
@@ -110,26 +110,26 @@ module _ (era : Era) (m : Measures) (p : Shelf) (x : Exact p) (bs : List Block) 
       let c : ℕ = cellOf (at (p .records) k i) in
       bit-one (getD (p .cells) c []) (omega (arith, x c, held-named (getD (p .records) k []) i h, named-one c (p .records) k))
 
-  held-whole : Each (Whole m) (p .cells) → (k i : ℕ) → isHeld (at (p .records) k i) ≡ true → Whole m (blockIn p k i)
+  held-whole : Each (HasBytes m) (p .cells) → (k i : ℕ) → isHeld (at (p .records) k i) ≡ true → HasBytes m (blockIn p k i)
   held-whole w k i h = go (ltb c (length (p .cells))) refl
     where
       c : ℕ
       c = cellOf (at (p .records) k i)
 
-      go : (t : Bool) → ltb c (length (p .cells)) ≡ t → Whole m (getD (p .cells) c [])
-      go true e = each-at (Whole m) [] (p .cells) w c (ltb-true c (length (p .cells)) e)
+      go : (t : Bool) → ltb c (length (p .cells)) ≡ t → HasBytes m (getD (p .cells) c [])
+      go true e = each-at (HasBytes m) [] (p .cells) w c (ltb-true c (length (p .cells)) e)
       go false e =
           absurd (false≢true (sym (held-full k i h)
           ∙ ap allZero (List·getD-eq-default (p .cells) [] (ltb-false c (length (p .cells)) e)) ∙ (unfold allZero every in refl)))
 
   -- what leads from the newest version leads from it when it is the previous one
-  turned-leads : (new : List Pointer) → NewOk era m p bs new → (q : Pointer) → leads p [] q ≡ true → leads p new (turned q) ≡ true
+  turned-leads : (new : List Pointer) → NewOk era m p bs new → (q : Pointer) → resolves p [] q ≡ true → resolves p new (turned q) ≡ true
   unfolding turned target positionAt
   turned-leads new ok nullPointer h = refl
   turned-leads new ok blankPointer h = refl
   turned-leads new ok (direct k i) h = go (target era p bs (direct k i)) (target-ok (direct k i))
     where
-      go : (o : Option Pointer) → TurnOk (blockAt (m .blockBytes) p (direct k i)) o → leads p new (foundOr (direct k i) o) ≡ true
+      go : (o : Option Pointer) → TurnOk (blockAt (m .blockBytes) p (direct k i)) o → resolves p new (foundOr (direct k i) o) ≡ true
       go none t = h
       go (some nullPointer) t = absurd t
       go (some blankPointer) t = refl
@@ -138,7 +138,7 @@ module _ (era : Era) (m : Measures) (p : Shelf) (x : Exact p) (bs : List Block) 
   turned-leads new ok (indirect n) h = absurd (false≢true h)
 
   -- a turned pointer of the newest version ends at the same block
-  turned-block : (new : List Pointer) → NewOk era m p bs new → (f : ℕ → Pointer) → ((j : ℕ) → f j ≡ getD new j nullPointer) → (q : Pointer) → leads p [] q ≡ true
+  turned-block : (new : List Pointer) → NewOk era m p bs new → (f : ℕ → Pointer) → ((j : ℕ) → f j ≡ getD new j nullPointer) → (q : Pointer) → resolves p [] q ≡ true
       → blockAt (m .blockBytes) p (endVia (turned q) f) ≡ blockAt (m .blockBytes) p q
   unfolding turned target endVia
   turned-block new ok f g nullPointer h = refl
@@ -156,16 +156,16 @@ module _ (era : Era) (m : Measures) (p : Shelf) (x : Exact p) (bs : List Block) 
 
 -- ---- the till's versions with the new one
 
-pub turn-length : (era : Era) (p : Shelf) (bs : List Block) (ps : List Pointer) → length (turn era p bs ps) ≡ length ps
+pub turn-length : (era : Era) (p : Storage) (bs : List Block) (ps : List Pointer) → length (turn era p bs ps) ≡ length ps
 unfolding turn
 turn-length era p bs ps = length-map ps (λ q. foundOr q (target era p bs q))
 
 -- a pointer of the newest version is not indirect
-pub last-plain : (shelf : Shelf) (q : Pointer) → leads shelf [] q ≡ true → isIndirect q ≡ false
-last-plain shelf nullPointer e = refl
-last-plain shelf blankPointer e = refl
-last-plain shelf (direct k i) e = refl
-last-plain shelf (indirect b) e = absurd (false≢true e)
+pub last-plain : (storage : Storage) (q : Pointer) → resolves storage [] q ≡ true → isIndirect q ≡ false
+last-plain storage nullPointer e = refl
+last-plain storage blankPointer e = refl
+last-plain storage (direct k i) e = refl
+last-plain storage (indirect b) e = absurd (false≢true e)
 
 pub plain-end : (q : Pointer) (f : ℕ → Pointer) → isIndirect q ≡ false → endVia q f ≡ q
 unfolding endVia
@@ -174,45 +174,45 @@ plain-end blankPointer f h = refl
 plain-end (direct k i) f h = refl
 plain-end (indirect n) f h = absurd (false≢true (sym h))
 
-pub lead-at : (p : Shelf) (next ps : List Pointer) → every (leads p next) ps ≡ true → (n : ℕ) → leads p next (getD ps n nullPointer) ≡ true
+pub lead-at : (p : Storage) (next ps : List Pointer) → every (resolves p next) ps ≡ true → (n : ℕ) → resolves p next (getD ps n nullPointer) ≡ true
 lead-at p next [] h n = refl
-lead-at p next (q ∷ ps) h zero = every-head (leads p next) q ps h
-lead-at p next (q ∷ ps) h (suc n) = lead-at p next ps (every-tail (leads p next) q ps h) n
+lead-at p next (q ∷ ps) h zero = every-head (resolves p next) q ps h
+lead-at p next (q ∷ ps) h (suc n) = lead-at p next ps (every-tail (resolves p next) q ps h) n
 
-pub every-map : (p : Shelf) (f : Pointer → Pointer) (next next′ : List Pointer) → ((q : Pointer) → leads p next q ≡ true → leads p next′ (f q) ≡ true)
-    → (ps : List Pointer) → every (leads p next) ps ≡ true → every (leads p next′) (map f ps) ≡ true
+pub every-map : (p : Storage) (f : Pointer → Pointer) (next next′ : List Pointer) → ((q : Pointer) → resolves p next q ≡ true → resolves p next′ (f q) ≡ true)
+    → (ps : List Pointer) → every (resolves p next) ps ≡ true → every (resolves p next′) (map f ps) ≡ true
 unfolding every
 every-map p f next next′ g [] h = refl
-every-map p f next next′ g (q ∷ ps) h = rw (g q (every-head (leads p next) q ps h)) (every-map p f next next′ g ps (every-tail (leads p next) q ps h))
+every-map p f next next′ g (q ∷ ps) h = rw (g q (every-head (resolves p next) q ps h)) (every-map p f next next′ g ps (every-tail (resolves p next) q ps h))
 
-pub every-same : (p : Shelf) (next next′ : List Pointer) → ((n : ℕ) → isNull (getD next′ n nullPointer) ≡ isNull (getD next n nullPointer))
-    → (ps : List Pointer) → every (leads p next) ps ≡ true → every (leads p next′) ps ≡ true
+pub every-same : (p : Storage) (next next′ : List Pointer) → ((n : ℕ) → isNull (getD next′ n nullPointer) ≡ isNull (getD next n nullPointer))
+    → (ps : List Pointer) → every (resolves p next) ps ≡ true → every (resolves p next′) ps ≡ true
 unfolding every
 every-same p next next′ g [] h = refl
 every-same p next next′ g (q ∷ ps) h =
-    rw (one q (every-head (leads p next) q ps h)) (every-same p next next′ g ps (every-tail (leads p next) q ps h))
+    rw (one q (every-head (resolves p next) q ps h)) (every-same p next next′ g ps (every-tail (resolves p next) q ps h))
   where
-    one : (q : Pointer) → leads p next q ≡ true → leads p next′ q ≡ true
+    one : (q : Pointer) → resolves p next q ≡ true → resolves p next′ q ≡ true
     one nullPointer e = refl
     one blankPointer e = refl
     one (direct k i) e = e
     one (indirect n) e = ap not (g n) ∙ e
 
-same-ends : (m : Measures) (p : Shelf) (q : Pointer) (f g : ℕ → Pointer) → ((j : ℕ) → blockAt (m .blockBytes) p (f j) ≡ blockAt (m .blockBytes) p (g j)) → blockAt (m .blockBytes) p (endVia q f) ≡ blockAt (m .blockBytes) p (endVia q g)
+same-ends : (m : Measures) (p : Storage) (q : Pointer) (f g : ℕ → Pointer) → ((j : ℕ) → blockAt (m .blockBytes) p (f j) ≡ blockAt (m .blockBytes) p (g j)) → blockAt (m .blockBytes) p (endVia q f) ≡ blockAt (m .blockBytes) p (endVia q g)
 unfolding endVia
 same-ends m p nullPointer f g h = refl
 same-ends m p blankPointer f g h = refl
 same-ends m p (direct k i) f g h = refl
 same-ends m p (indirect n) f g h = h n
 
-pub ends-same : (m : Measures) (p : Shelf) (v v′ : Version) (newer newer′ : List Version) → v′ .length ≡ v .length → length (v′ .pointers) ≡ length (v .pointers)
+pub ends-same : (m : Measures) (p : Storage) (v v′ : Version) (newer newer′ : List Version) → v′ .length ≡ v .length → length (v′ .pointers) ≡ length (v .pointers)
     → ((n : ℕ) → tracedBlock (m .blockBytes) p (v′ ∷ newer′) n ≡ tracedBlock (m .blockBytes) p (v ∷ newer) n) → endsZero (m .blockBytes) p v newer ≡ true → endsZero (m .blockBytes) p v′ newer′ ≡ true
 unfolding endsZero
 ends-same m p v v′ newer newer′ l n t h =
     ap₂ (λ (a b : ℕ). allZero (drop (a - m .blockBytes * (b - 1)) (tracedBlock (m .blockBytes) p (v′ ∷ newer′) (b - 1)))) l n
     ∙ ap (λ (b : Block). allZero (drop (v .length - m .blockBytes * (length (v .pointers) - 1)) b)) (t (length (v .pointers) - 1)) ∙ h
 
-module _ (era : Era) (s : Shape) (p : Shelf) (x : Exact p) (bs : List Block) (newV : Version) (ok : NewOk era (s .measures) p bs (newV .pointers)) where
+module _ (era : Era) (s : Shape) (p : Storage) (x : Exact p) (bs : List Block) (newV : Version) (ok : NewOk era (s .measures) p bs (newV .pointers)) where
   unfoldable pub extended : List Version → List Version
   extended vs = withNewestPointers vs (turn era p bs (newestPointers vs)) ++ (newV ∷ [])
 
@@ -225,7 +225,7 @@ module _ (era : Era) (s : Shape) (p : Shelf) (x : Exact p) (bs : List Block) (ne
   unfolding extended withNewestPointers newestPointers endOf areTraceable nextPointers
   traced-same v [] h n =
       let q : Pointer = getD (v .pointers) n nullPointer in
-      let l : leads p [] q ≡ true = lead-at p [] (v .pointers) (clause _ 1 h) n in
+      let l : resolves p [] q ≡ true = lead-at p [] (v .pointers) (clause _ 1 h) n in
       ap (λ (r : Pointer). blockAt (s .measures .blockBytes) p (endVia r (λ b. endOf (newV ∷ []) b))) (turn-at era (s .measures) p x bs (v .pointers) n)
       ∙ turned-block era (s .measures) p x bs (newV .pointers) ok (λ b. endOf (newV ∷ []) b) new-end q l
       ∙ ap (blockAt (s .measures .blockBytes) p) (sym (plain-end q _ (last-plain p q l)))
@@ -238,7 +238,7 @@ module _ (era : Era) (s : Shape) (p : Shelf) (x : Exact p) (bs : List Block) (ne
   next-null v [] n = ap isNull (turn-at era (s .measures) p x bs (v .pointers) n) ∙ turned-null era (s .measures) p x bs (getD (v .pointers) n nullPointer)
   next-null v (w ∷ vs) n = refl
 
-  module _ (len : hasLength (s .measures .blockBytes) (s .capacities .blocks) newV ≡ true) (lead : every (leads p []) (newV .pointers) ≡ true) (end : endsZero (s .measures .blockBytes) p newV [] ≡ true) where
+  module _ (len : hasLength (s .measures .blockBytes) (s .capacities .blocks) newV ≡ true) (lead : every (resolves p []) (newV .pointers) ≡ true) (end : endsZero (s .measures .blockBytes) p newV [] ≡ true) where
     pub extended-traceable : (vs : List Version) → areTraceable (s .measures .blockBytes) (s .capacities .blocks) p vs ≡ true → areTraceable (s .measures .blockBytes) (s .capacities .blocks) p (extended vs) ≡ true
     unfolding extended withNewestPointers newestPointers areTraceable nextPointers hasLength turn turned tracedBlock
     extended-traceable [] h = all-true _ (len, (lead, (end, (refl, tt))))

@@ -14,9 +14,9 @@ use Rattle.lists.specs.Rows.{joined}
 use Rattle.model.specs.Measures.{Measures}
 use Rattle.model.specs.State.{Block, nullPosition, blankPosition, held, removed, Segment}
 use Rattle.model.specs.Image.{zeroBlock}
-use Rattle.laws.specs.Shelves.{bit}
+use Rattle.laws.specs.Storage.{filledBit}
 use Rattle.model.specs.Records.{cellsOf, namedCells, isHeld}
-use Rattle.model.specs.Sweep.{clearCells, goes, stays, struck, moved}
+use Rattle.model.specs.Sweep.{clearCells, isUnreferenced, isReferenced, struck, moved}
 use Rattle.lists.proofs.Uses.{numbers, uses-append, uses-here, uses-other}
 use Rattle.lists.proofs.Same.{zeros-zero}
 
@@ -32,43 +32,43 @@ named-set c (s ∷ segs) (suc k) seg h =
 
 -- ---- cells that are cleared
 
-zero-bit : (m : Measures) → bit (zeroBlock (m .blockBytes)) ≡ 0
-unfolding bit zeroBlock
+zero-bit : (m : Measures) → filledBit (zeroBlock (m .blockBytes)) ≡ 0
+unfolding filledBit zeroBlock
 zero-bit m = ap (λ (b : Bool). cond b 0 1) (zeros-zero (m .blockBytes))
 
-pub nothing-bit : bit [] ≡ 0
-unfolding bit allZero every
+pub nothing-bit : filledBit [] ≡ 0
+unfolding filledBit allZero every
 nothing-bit = refl
 
 -- a store of zeros leaves a zero cell zero
-set-zero : (m : Measures) (cells : List Block) (x c : ℕ) → bit (getD cells c []) ≡ 0 → bit (getD (set cells x (zeroBlock (m .blockBytes))) c []) ≡ 0
+set-zero : (m : Measures) (cells : List Block) (x c : ℕ) → filledBit (getD cells c []) ≡ 0 → filledBit (getD (set cells x (zeroBlock (m .blockBytes))) c []) ≡ 0
 set-zero m [] x c h = h
 set-zero m (b ∷ cells) zero zero h = zero-bit m
 set-zero m (b ∷ cells) zero (suc c) h = h
 set-zero m (b ∷ cells) (suc x) zero h = h
 set-zero m (b ∷ cells) (suc x) (suc c) h = set-zero m cells x c h
 
-set-same-zero : (m : Measures) (cells : List Block) (c : ℕ) → bit (getD (set cells c (zeroBlock (m .blockBytes))) c []) ≡ 0
+set-same-zero : (m : Measures) (cells : List Block) (c : ℕ) → filledBit (getD (set cells c (zeroBlock (m .blockBytes))) c []) ≡ 0
 set-same-zero m [] c = nothing-bit
 set-same-zero m (b ∷ cells) zero = zero-bit m
 set-same-zero m (b ∷ cells) (suc c) = set-same-zero m cells c
 
-clear-zero : (m : Measures) (cs : List ℕ) (cells : List Block) (c : ℕ) → bit (getD cells c []) ≡ 0 → bit (getD (clearCells (m .blockBytes) cells cs) c []) ≡ 0
+clear-zero : (m : Measures) (cs : List ℕ) (cells : List Block) (c : ℕ) → filledBit (getD cells c []) ≡ 0 → filledBit (getD (clearCells (m .blockBytes) cells cs) c []) ≡ 0
 unfolding clearCells
 clear-zero m [] cells c h = h
 clear-zero m (x ∷ cs) cells c h = clear-zero m cs (set cells x (zeroBlock (m .blockBytes))) c (set-zero m cells x c h)
 
 -- a cell of the list is zero afterwards, and any other is as it was
-pub clear-in : (m : Measures) (cs : List ℕ) (cells : List Block) (c : ℕ) → 0 < uses c cs → bit (getD (clearCells (m .blockBytes) cells cs) c []) ≡ 0
+pub clear-in : (m : Measures) (cs : List ℕ) (cells : List Block) (c : ℕ) → 0 < uses c cs → filledBit (getD (clearCells (m .blockBytes) cells cs) c []) ≡ 0
 unfolding clearCells uses count
 clear-in m [] cells c h = absurd (not-suc-le-zero h)
 clear-in m (x ∷ cs) cells c h = go (eqb c x) refl (λ b. clear-in m cs (set cells x (zeroBlock (m .blockBytes))) c b)
   where
-    go : (b : Bool) → eqb c x ≡ b → (0 < uses c cs → bit (getD (clearCells (m .blockBytes) (set cells x (zeroBlock (m .blockBytes))) cs) c []) ≡ 0)
-        → bit (getD (clearCells (m .blockBytes) (set cells x (zeroBlock (m .blockBytes))) cs) c []) ≡ 0
+    go : (b : Bool) → eqb c x ≡ b → (0 < uses c cs → filledBit (getD (clearCells (m .blockBytes) (set cells x (zeroBlock (m .blockBytes))) cs) c []) ≡ 0)
+        → filledBit (getD (clearCells (m .blockBytes) (set cells x (zeroBlock (m .blockBytes))) cs) c []) ≡ 0
     go true e r =
         clear-zero m cs (set cells x (zeroBlock (m .blockBytes))) c
-        (subst (λ (y : ℕ). bit (getD (set cells y (zeroBlock (m .blockBytes))) c []) ≡ 0) (eqb-true c x e) (set-same-zero m cells c))
+        (subst (λ (y : ℕ). filledBit (getD (set cells y (zeroBlock (m .blockBytes))) c []) ≡ 0) (eqb-true c x e) (set-same-zero m cells c))
     go false e r = r (subst (λ (n : ℕ). 0 < n) (uses-other c x cs (eqb-false c x e)) h)
 
 pub clear-out : (m : Measures) (cs : List ℕ) (cells : List Block) (c : ℕ) → uses c cs ≡ 0 → getD (clearCells (m .blockBytes) cells cs) c [] ≡ getD cells c []
@@ -87,14 +87,14 @@ clear-out m (x ∷ cs) cells c h = go (eqb c x) refl (λ e. clear-out m cs (set 
 
 -- ---- the cells of a record that go and that stay
 
-unfoldable pub staying : Segment → List ℕ
-staying seg = cellsOf (keep stays seg)
+unfoldable pub referenced : Segment → List ℕ
+referenced seg = cellsOf (keep isReferenced seg)
 
-unfoldable pub going : Segment → List ℕ
-going seg = cellsOf (keep goes seg)
+unfoldable pub unreferenced : Segment → List ℕ
+unreferenced seg = cellsOf (keep isUnreferenced seg)
 
-pub uses-split : (c : ℕ) (seg : Segment) → uses c (cellsOf seg) ≡ uses c (going seg) + uses c (staying seg)
-unfolding uses count staying going cellsOf keep
+pub uses-split : (c : ℕ) (seg : Segment) → uses c (cellsOf seg) ≡ uses c (unreferenced seg) + uses c (referenced seg)
+unfolding uses count referenced unreferenced cellsOf keep
 uses-split c [] = refl
 uses-split c (nullPosition ∷ seg) = uses-split c seg
 uses-split c (blankPosition ∷ seg) = uses-split c seg
@@ -102,8 +102,8 @@ uses-split c (held b zero ∷ seg) = omega (arith, uses-split c seg)
 uses-split c (held b (suc n) ∷ seg) = omega (arith, uses-split c seg)
 uses-split c (removed ∷ seg) = uses-split c seg
 
-pub struck-cells : (seg : Segment) → cellsOf (map struck seg) ≡ staying seg
-unfolding staying cellsOf keep
+pub struck-cells : (seg : Segment) → cellsOf (map struck seg) ≡ referenced seg
+unfolding referenced cellsOf keep
 struck-cells [] = refl
 struck-cells (nullPosition ∷ seg) = struck-cells seg
 struck-cells (blankPosition ∷ seg) = struck-cells seg
@@ -111,8 +111,8 @@ struck-cells (held b zero ∷ seg) = struck-cells seg
 struck-cells (held b (suc n) ∷ seg) = ap {B = List ℕ} (λ r. b ∷ r) (struck-cells seg)
 struck-cells (removed ∷ seg) = struck-cells seg
 
-pub moved-cells : (seg : Segment) (at : ℕ) → cellsOf (moved at seg) ≡ numbers at (length (staying seg))
-unfolding staying cellsOf keep moved numbers counted
+pub moved-cells : (seg : Segment) (at : ℕ) → cellsOf (moved at seg) ≡ numbers at (length (referenced seg))
+unfolding referenced cellsOf keep moved numbers counted
 moved-cells [] at = refl
 moved-cells (nullPosition ∷ seg) at = moved-cells seg at
 moved-cells (blankPosition ∷ seg) at = moved-cells seg at
@@ -120,8 +120,8 @@ moved-cells (held b zero ∷ seg) at = moved-cells seg at
 moved-cells (held b (suc n) ∷ seg) at = ap {B = List ℕ} (λ r. at ∷ r) (moved-cells seg (suc at))
 moved-cells (removed ∷ seg) at = moved-cells seg at
 
-pub staying-count : (seg : Segment) → count goes seg + length (staying seg) ≡ count isHeld seg
-unfolding staying cellsOf keep count
+pub staying-count : (seg : Segment) → count isUnreferenced seg + length (referenced seg) ≡ count isHeld seg
+unfolding referenced cellsOf keep count
 staying-count [] = refl
 staying-count (nullPosition ∷ seg) = omega (arith, staying-count seg)
 staying-count (blankPosition ∷ seg) = omega (arith, staying-count seg)

@@ -9,11 +9,11 @@ use lib.ListN.{length, getD, List·getD-eq-default}
 use lib.Dec.{eqb, ltb}
 use borrow.Author.Tests.{eqb-true, lt-ltb, ltb-true, ltb-false}
 use Rattle.lists.specs.Lists.{every, isIn, distinct, allZero, uses}
-use Rattle.model.specs.State.{Block, Shelf}
+use Rattle.model.specs.State.{Block, Storage}
 use Rattle.model.specs.Records.{namedCells}
 use Rattle.model.specs.Sound.{hasCells, areFilled}
 use Rattle.laws.proofs.Uses.{nothing-bit}
-use Rattle.laws.specs.Shelves.{bit, Exact}
+use Rattle.laws.specs.Storage.{filledBit, Exact}
 use Rattle.laws.proofs.Sweep.{bit-most}
 use Rattle.lists.proofs.Tests.{all-true, clause}
 use Rattle.lists.proofs.Uses.{all-below, below-all, beq-by, distinct-most, exact-at, in-uses, most-distinct, not-in, uses-in, uses-not-in}
@@ -45,40 +45,40 @@ at-filled named i (x ∷ cells) h =
 
 -- ---- the cells are exact
 
-pub sound-exact : (shelf : Shelf) → hasCells shelf ≡ true → areFilled (namedCells (shelf .records)) 0 (shelf .cells) ≡ true → Exact shelf
-unfolding hasCells bit
-sound-exact shelf h g c = go (ltb c (length (shelf .cells))) refl
+pub sound-exact : (storage : Storage) → hasCells storage ≡ true → areFilled (namedCells (storage .records)) 0 (storage .cells) ≡ true → Exact storage
+unfolding hasCells filledBit
+sound-exact storage h g c = go (ltb c (length (storage .cells))) refl
   where
     named : List ℕ
-    named = namedCells (shelf .records)
+    named = namedCells (storage .records)
 
-    go : (t : Bool) → ltb c (length (shelf .cells)) ≡ t → uses c named ≡ cond (allZero (getD (shelf .cells) c [])) 0 1
+    go : (t : Bool) → ltb c (length (storage .cells)) ≡ t → uses c named ≡ cond (allZero (getD (storage .cells) c [])) 0 1
     go true e =
-        exact-at (uses c named) (isIn c named) (allZero (getD (shelf .cells) c [])) (in-uses c named) (not-in c named) (distinct-most c named (clause _ 1 h))
-        (ap (λ (n : ℕ). Bool·beq (isIn n named) (not (allZero (getD (shelf .cells) c [])))) (sym (zero-add c))
-        ∙ filled-at named 0 (shelf .cells) g c (ltb-true c (length (shelf .cells)) e))
+        exact-at (uses c named) (isIn c named) (allZero (getD (storage .cells) c [])) (in-uses c named) (not-in c named) (distinct-most c named (clause _ 1 h))
+        (ap (λ (n : ℕ). Bool·beq (isIn n named) (not (allZero (getD (storage .cells) c [])))) (sym (zero-add c))
+        ∙ filled-at named 0 (storage .cells) g c (ltb-true c (length (storage .cells)) e))
     go false e =
         (let z : uses c named ≡ 0 = none (ltb 0 (uses c named)) refl in z)
-        ∙ sym (ap bit (List·getD-eq-default (shelf .cells) [] (ltb-false c (length (shelf .cells)) e)) ∙ nothing-bit)
+        ∙ sym (ap filledBit (List·getD-eq-default (storage .cells) [] (ltb-false c (length (storage .cells)) e)) ∙ nothing-bit)
       where
         none : (t : Bool) → ltb 0 (uses c named) ≡ t → uses c named ≡ 0
-        none true q = absurd (not-suc-le-zero (let z : 1 ≤ 0 = omega (arith, below-all (length (shelf .cells)) named (clause _ 0 h) c (ltb-true 0 (uses c named) q), ltb-false c (length (shelf .cells)) e) in z))
+        none true q = absurd (not-suc-le-zero (let z : 1 ≤ 0 = omega (arith, below-all (length (storage .cells)) named (clause _ 0 h) c (ltb-true 0 (uses c named) q), ltb-false c (length (storage .cells)) e) in z))
         none false q = omega (arith, ltb-false 0 (uses c named) q)
 
-pub exact-sound : (shelf : Shelf) → Exact shelf → (hasCells shelf ≡ true) × (areFilled (namedCells (shelf .records)) 0 (shelf .cells) ≡ true)
-unfolding hasCells bit
-exact-sound shelf x = (
-  all-true _ (all-below n named inside, (most-distinct named (λ c. omega (arith, x c, bit-most (getD (shelf .cells) c []))), tt)),
-  at-filled named 0 (shelf .cells) (λ j b.
-      ap (λ (k : ℕ). Bool·beq (isIn k named) (not (allZero (getD (shelf .cells) j [])))) (zero-add j)
-      ∙ beq-by (uses j named) (isIn j named) (allZero (getD (shelf .cells) j [])) (uses-in j named) (uses-not-in j named) (x j)),
+pub exact-sound : (storage : Storage) → Exact storage → (hasCells storage ≡ true) × (areFilled (namedCells (storage .records)) 0 (storage .cells) ≡ true)
+unfolding hasCells filledBit
+exact-sound storage x = (
+  all-true _ (all-below n named inside, (most-distinct named (λ c. omega (arith, x c, bit-most (getD (storage .cells) c []))), tt)),
+  at-filled named 0 (storage .cells) (λ j b.
+      ap (λ (k : ℕ). Bool·beq (isIn k named) (not (allZero (getD (storage .cells) j [])))) (zero-add j)
+      ∙ beq-by (uses j named) (isIn j named) (allZero (getD (storage .cells) j [])) (uses-in j named) (uses-not-in j named) (x j)),
 )
   where
     n : ℕ
-    n = length (shelf .cells)
+    n = length (storage .cells)
 
     named : List ℕ
-    named = namedCells (shelf .records)
+    named = namedCells (storage .records)
 
     inside : (c : ℕ) → 0 < uses c named → c < n
     inside c u = go (ltb c n) refl
@@ -86,4 +86,4 @@ exact-sound shelf x = (
         go : (t : Bool) → ltb c n ≡ t → c < n
         go true e = ltb-true c n e
         go false e =
-            absurd (not-suc-le-zero (subst (λ (k : ℕ). 0 < k) (x c ∙ ap bit (List·getD-eq-default (shelf .cells) [] (ltb-false c n e)) ∙ nothing-bit) u))
+            absurd (not-suc-le-zero (subst (λ (k : ℕ). 0 < k) (x c ∙ ap filledBit (List·getD-eq-default (storage .cells) [] (ltb-false c n e)) ∙ nothing-bit) u))

@@ -53,7 +53,7 @@ measure-word : (m : Measures) (n : ℕ) → Word n → Word (measureWord m n)
 unfolding measureWord
 measure-word m n h = by-test Word (isBase m) (λ e. lit< tt) (λ e. h)
 
-lengths-most : (s : Shape) (st : State) (vs : List Version) → areTraceable (s .measures .blockBytes) (s .capacities .blocks) (st .shelf) vs ≡ true
+lengths-most : (s : Shape) (st : State) (vs : List Version) → areTraceable (s .measures .blockBytes) (s .capacities .blocks) (st .storage) vs ≡ true
     → Each (λ (v : Version). v .length ≤ s .measures .blockBytes * s .capacities .blocks) vs
 unfolding areTraceable hasLength isWithin
 lengths-most s st [] h = tt
@@ -101,7 +101,7 @@ module _ (s : Shape) (fit : Fit s) (st : State) (h : isSound s st ≡ true) (sma
     ),
   )
 
-  small-till : (t : Till) → TillFits s t → isTill s (st .shelf) t ≡ true → Each (λ (v : Version). Word (v .day)) (t .versions) → SmallTill t
+  small-till : (t : Till) → TillFits s t → isTill s (st .storage) t ≡ true → Each (λ (v : Version). Word (v .day)) (t .versions) → SmallTill t
   unfolding isTill isNumbered
   small-till t f e ds =
       let top : t .last ≤ 65535 = leb-true _ _ (clause _ 1 (clause _ 0 e)) in
@@ -115,18 +115,18 @@ module _ (s : Shape) (fit : Fit s) (st : State) (h : isSound s st ≡ true) (sma
             (each-both (λ (v : Version). v .length ≤ s .measures .blockBytes * s .capacities .blocks) (λ (v : Version). Word (v .day)) (t .versions) (lengths-most s st (t .versions) (clause _ 1 e)) ds)),
       )
 
-  small-tills : (ts : List Till) → Each (TillFits s) ts → every (isTill s (st .shelf)) ts ≡ true → Each (λ (t : Till). Each (λ (v : Version). Word (v .day)) (t .versions)) ts → Each SmallTill ts
+  small-tills : (ts : List Till) → Each (TillFits s) ts → every (isTill s (st .storage)) ts ≡ true → Each (λ (t : Till). Each (λ (v : Version). Word (v .day)) (t .versions)) ts → Each SmallTill ts
   small-tills [] f e ds = tt
-  small-tills (t ∷ ts) f e ds = (small-till t (f .0) (every-head (isTill s (st .shelf)) t ts e) (ds .0), small-tills ts (f .1) (every-tail (isTill s (st .shelf)) t ts e) (ds .1))
+  small-tills (t ∷ ts) f e ds = (small-till t (f .0) (every-head (isTill s (st .storage)) t ts e) (ds .0), small-tills ts (f .1) (every-tail (isTill s (st .storage)) t ts e) (ds .1))
 
   -- ---- records
 
   sixteen : (n : ℕ) → n ≤ 16 → 2 ^ n ≤ 65536
   sixteen n l = pow-le-pow-right (lit< tt) l
 
-  position-words : (k i : ℕ) → Word (cellOf (at (st .shelf .records) k i)) × Word (countOf (at (st .shelf .records) k i))
+  position-words : (k i : ℕ) → Word (cellOf (at (st .storage .records) k i)) × Word (countOf (at (st .storage .records) k i))
   unfolding isSound inRange isWithin
-  position-words k i = (cell (isHeld (at (st .shelf .records) k i)) refl, omega (arith, count-bound s fit st h k i))
+  position-words k i = (cell (isHeld (at (st .storage .records) k i)) refl, omega (arith, count-bound s fit st h k i))
     where
       unheld : (p : Position) → isHeld p ≡ false → cellOf p ≡ 0
       unheld nullPosition e = refl
@@ -134,22 +134,22 @@ module _ (s : Shape) (fit : Fit s) (st : State) (h : isSound s st ≡ true) (sma
       unheld (held c n) e = absurd (false≢true (sym e))
       unheld removed e = refl
 
-      cell : (b : Bool) → isHeld (at (st .shelf .records) k i) ≡ b → Word (cellOf (at (st .shelf .records) k i))
+      cell : (b : Bool) → isHeld (at (st .storage .records) k i) ≡ b → Word (cellOf (at (st .storage .records) k i))
       cell true e =
-          let c : ℕ = cellOf (at (st .shelf .records) k i) in
+          let c : ℕ = cellOf (at (st .storage .records) k i) in
           let top : s .capacities .cells ≤ 32768 = leb-true _ _ (clause _ 1 (clause _ 4 (clause _ 0 h))) in
           omega (
             arith,
             top,
             named-inside s st h c
-                (uses-in c (namedCells (st .shelf .records)) (omega (arith, held-named (getD (st .shelf .records) k []) i e, named-one c (st .shelf .records) k))),
+                (uses-in c (namedCells (st .storage .records)) (omega (arith, held-named (getD (st .storage .records) k []) i e, named-one c (st .storage .records) k))),
           )
-      cell false e = rw (unheld (at (st .shelf .records) k i) e) (lit< tt)
+      cell false e = rw (unheld (at (st .storage .records) k i) e) (lit< tt)
 
-  record-words : (k : ℕ) → length (getD (st .shelf .records) k []) ≤ 16 → Each Word (recordToWords (getD (st .shelf .records) k []))
+  record-words : (k : ℕ) → length (getD (st .storage .records) k []) ≤ 16 → Each Word (recordToWords (getD (st .storage .records) k []))
   unfolding recordToWords
   record-words k l =
-      let seg : Segment = getD (st .shelf .records) k [] in (
+      let seg : Segment = getD (st .storage .records) k [] in (
         omega (arith, mask-lt isHeld seg, sixteen (length seg) l),
         (
           omega (arith, mask-lt isRemoved seg, sixteen (length seg) l),
@@ -161,13 +161,13 @@ module _ (s : Shape) (fit : Fit s) (st : State) (h : isSound s st ≡ true) (sma
         ),
       )
 
-  records-words : Each Word (joined (map recordToWords (st .shelf .records)))
+  records-words : Each Word (joined (map recordToWords (st .storage .records)))
   records-words =
-      each-joined Word (λ (seg : Segment). Each Word (recordToWords seg)) recordToWords (λ seg f. f) (st .shelf .records)
-      (each-of (λ (seg : Segment). Each Word (recordToWords seg)) [] (st .shelf .records) (λ k l. record-words k (size k l)))
+      each-joined Word (λ (seg : Segment). Each Word (recordToWords seg)) recordToWords (λ seg f. f) (st .storage .records)
+      (each-of (λ (seg : Segment). Each Word (recordToWords seg)) [] (st .storage .records) (λ k l. record-words k (size k l)))
     where
-      size : (k : ℕ) → k < length (st .shelf .records) → length (getD (st .shelf .records) k []) ≤ 16
-      size k l = subst (λ (n : ℕ). n ≤ 16) (sym (each-at (λ (seg : Segment). length seg ≡ s .measures .segmentBlocks) [] (st .shelf .records) (fits .records) k l)) (fit .most)
+      size : (k : ℕ) → k < length (st .storage .records) → length (getD (st .storage .records) k []) ≤ 16
+      size k l = subst (λ (n : ℕ). n ≤ 16) (sym (each-at (λ (seg : Segment). length seg ≡ s .measures .segmentBlocks) [] (st .storage .records) (fits .records) k l)) (fit .most)
 
   header-words : Each Word (headerToWords s)
   unfolding headerToWords isSound

@@ -1,4 +1,4 @@
 -- What contracts ask of a store: its capacities as numbers, and its buffers.
 pub mod Ranges
 pub mod Stores
-pub mod Shelves
+pub mod Storage

@@ -25,7 +25,7 @@ pub record Sound (pool table : List ℕ) : Type 0 where
   pub is : storeOf pool table ≡ some (storeRead pool table)
 
 -- what the header says, as numbers
-pub record Header (table : List ℕ) : Type 0 where
+pub record HeaderRanges (table : List ℕ) : Type 0 where
   pub eight : 8 ≤ length table
   pub tills : getD table 0 0 ≤ 16
   pub versions : getD table 1 0 ≤ 64

@@ -10,15 +10,15 @@ use lib.Dec.{eqb}
 use lib.Seq.{length-take-le, take-nil}
 use borrow.Author.Tests.{not-true, not-false}
 use Rattle.lists.specs.Lists.{every, allZero}
-use Rattle.lists.specs.Tells.{Tells}
+use Rattle.lists.specs.Decides.{Decides}
 use Rattle.lists.proofs.Checkers.{clash}
 use Rattle.lists.proofs.Slices.{every-end}
 
--- ---- Tells
+-- ---- Decides
 
 -- a fact about x, where x is y
-pub tells-at : {A : Type 0} {r : Bool} (P : A → Type 0) {x y : A} → x ≡ y → Tells r (P x) → Tells r (P y)
-tells-at {A} {r} P e t = subst (λ (z : A). Tells r (P z)) e t
+pub decides-at : {A : Type 0} {r : Bool} (P : A → Type 0) {x y : A} → x ≡ y → Decides r (P x) → Decides r (P y)
+decides-at {A} {r} P e t = subst (λ (z : A). Decides r (P z)) e t
 
 -- a call's answer that is a test's, negated, taken and left
 pub answer-no : {r b : Bool} → r ≡ b → not r ≡ true → b ≡ true → ⊥

@@ -7,37 +7,37 @@ use lib.Dec.{ltb, leb, eqb}
 use borrow.Author.Tests.{ltb-true, leb-true, eqb-true, lt-ltb, le-leb, eq-eqb, not-true, not-false}
 use Rattle.lists.specs.Lists.{every, allOf}
 use Rattle.lists.specs.Each.{Each}
-use Rattle.lists.specs.Tells.{Tells}
+use Rattle.lists.specs.Decides.{Decides}
 use Rattle.lists.proofs.Tests.{cond-true}
 
--- ---- Tells
+-- ---- Decides
 
 pub clash : {b : Bool} → b ≡ false → b ≡ true → ⊥
 clash p q = false≢true (sym p ∙ q)
 
-pub is-so : {P : Type 0} → P → Tells true P
+pub is-so : {P : Type 0} → P → Decides true P
 is-so p = record { holds = λ e. p; seen = λ q. refl }
 
-pub is-not : {P : Type 0} → (P → ⊥) → Tells false P
+pub is-not : {P : Type 0} → (P → ⊥) → Decides false P
 is-not f = record { holds = λ e. absurd (clash refl e); seen = λ p. absurd (f p) }
 
 -- the test itself
-pub itself : (r : Bool) → Tells r (r ≡ true)
+pub itself : (r : Bool) → Decides r (r ≡ true)
 itself r = record { holds = λ e. e; seen = λ e. e }
 
 -- of the same answer
-pub tells-as : {r b : Bool} {P : Type 0} → r ≡ b → Tells b P → Tells r P
-tells-as e t = record { holds = λ h. t .holds (sym e ∙ h); seen = λ p. e ∙ t .seen p }
+pub decides-as : {r b : Bool} {P : Type 0} → r ≡ b → Decides b P → Decides r P
+decides-as e t = record { holds = λ h. t .holds (sym e ∙ h); seen = λ p. e ∙ t .seen p }
 
 -- of the same fact
-pub same-as : {r : Bool} {P Q : Type 0} → (P → Q) → (Q → P) → Tells r P → Tells r Q
+pub same-as : {r : Bool} {P Q : Type 0} → (P → Q) → (Q → P) → Decides r P → Decides r Q
 same-as f g t = record { holds = λ e. f (t .holds e); seen = λ q. t .seen (g q) }
 
 -- an answer of no, and a fact that is not so
-pub denies : {r : Bool} {P : Type 0} → Tells r P → r ≡ false → P → ⊥
+pub denies : {r : Bool} {P : Type 0} → Decides r P → r ≡ false → P → ⊥
 denies t e p = clash e (t .seen p)
 
-pub unseen : {r : Bool} {P : Type 0} → Tells r P → (P → ⊥) → r ≡ false
+pub unseen : {r : Bool} {P : Type 0} → Decides r P → (P → ⊥) → r ≡ false
 unseen {r} t f = go r refl
   where
     go : (b : Bool) → r ≡ b → r ≡ false
@@ -45,16 +45,16 @@ unseen {r} t f = go r refl
     go false e = e
 
 -- a call's test, negated, taken and left
-pub refutes : {r : Bool} {P : Type 0} → Tells r P → not r ≡ true → P → ⊥
+pub refutes : {r : Bool} {P : Type 0} → Decides r P → not r ≡ true → P → ⊥
 refutes {r} t e p = denies t (not-true r e) p
 
-pub proves : {r : Bool} {P : Type 0} → Tells r P → not r ≡ false → P
+pub proves : {r : Bool} {P : Type 0} → Decides r P → not r ≡ false → P
 proves {r} t e = t .holds (not-false r e)
 
 -- ---- not
 
-pub tells-not : {r : Bool} {P : Type 0} → Tells r P → Tells (not r) (P → ⊥)
-tells-not {r} t = record { holds = refutes t; seen = λ f. ap-not (unseen t f) }
+pub decides-not : {r : Bool} {P : Type 0} → Decides r P → Decides (not r) (P → ⊥)
+decides-not {r} t = record { holds = refutes t; seen = λ f. ap-not (unseen t f) }
   where
     ap-not : r ≡ false → not r ≡ true
     ap-not e = rw e
@@ -62,37 +62,37 @@ tells-not {r} t = record { holds = refutes t; seen = λ f. ap-not (unseen t f) }
 -- ---- cond
 
 -- one after the other; the second test may count on the first
-pub tells-then : {a b : Bool} {P Q : Type 0} → Tells a P → (P → Tells b Q) → Tells (cond a b false) (P × Q)
-tells-then {a} {b} s t =
+pub decides-then : {a b : Bool} {P Q : Type 0} → Decides a P → (P → Decides b Q) → Decides (cond a b false) (P × Q)
+decides-then {a} {b} s t =
     record {
       holds = λ e. let p = s .holds (cond-true a b e .0) in (p, t p .holds (cond-true a b e .1));
       seen = λ pq. rw (s .seen (pq .0)) (t (pq .0) .seen (pq .1));
     }
 
-pub tells-both : {a b : Bool} {P Q : Type 0} → Tells a P → Tells b Q → Tells (cond a b false) (P × Q)
-tells-both s t = tells-then s (λ p. t)
+pub decides-both : {a b : Bool} {P Q : Type 0} → Decides a P → Decides b Q → Decides (cond a b false) (P × Q)
+decides-both s t = decides-then s (λ p. t)
 
 -- ---- every
 
-pub tells-every {ℓ} : {A : Type ℓ} (f : A → Bool) (P : A → Type 0) → ((x : A) → Tells (f x) (P x)) → (xs : List A) → Tells (every f xs) (Each P xs)
+pub decides-every {ℓ} : {A : Type ℓ} (f : A → Bool) (P : A → Type 0) → ((x : A) → Decides (f x) (P x)) → (xs : List A) → Decides (every f xs) (Each P xs)
 unfolding every
-tells-every f P t [] = is-so tt
-tells-every f P t (x ∷ xs) = tells-both (t x) (tells-every f P t xs)
+decides-every f P t [] = is-so tt
+decides-every f P t (x ∷ xs) = decides-both (t x) (decides-every f P t xs)
 
 -- ---- allOf
 
-pub tells-all : (bs : List Bool) → Tells (allOf bs) (Each (λ b. b ≡ true) bs)
+pub decides-all : (bs : List Bool) → Decides (allOf bs) (Each (λ b. b ≡ true) bs)
 unfolding allOf
-tells-all [] = is-so tt
-tells-all (b ∷ bs) = tells-both (itself b) (tells-all bs)
+decides-all [] = is-so tt
+decides-all (b ∷ bs) = decides-both (itself b) (decides-all bs)
 
 -- ---- tests of numbers
 
-pub tells-eqb : (a b : ℕ) → Tells (eqb a b) (a ≡ b)
-tells-eqb a b = record { holds = eqb-true a b; seen = eq-eqb a b }
+pub decides-eqb : (a b : ℕ) → Decides (eqb a b) (a ≡ b)
+decides-eqb a b = record { holds = eqb-true a b; seen = eq-eqb a b }
 
-pub tells-ltb : (a b : ℕ) → Tells (ltb a b) (a < b)
-tells-ltb a b = record { holds = ltb-true a b; seen = lt-ltb a b }
+pub decides-ltb : (a b : ℕ) → Decides (ltb a b) (a < b)
+decides-ltb a b = record { holds = ltb-true a b; seen = lt-ltb a b }
 
-pub tells-leb : (a b : ℕ) → Tells (leb a b) (a ≤ b)
-tells-leb a b = record { holds = leb-true a b; seen = le-leb a b }
+pub decides-leb : (a b : ℕ) → Decides (leb a b) (a ≤ b)
+decides-leb a b = record { holds = leb-true a b; seen = le-leb a b }

@@ -10,7 +10,7 @@ use lib.Dec.{ltb}
 use borrow.Author.Tests.{lt-ltb, le-ltb}
 use Rattle.lists.specs.Lists.{counted}
 use Rattle.lists.specs.Rows.{joined}
-use Rattle.lists.specs.Marks.{fits, marked, collect, Marks}
+use Rattle.lists.specs.Marks.{fits, marked, collect, MarkResult}
 use Rattle.lists.proofs.Checkers.{clash}
 
 -- ---- collect
@@ -65,23 +65,23 @@ unfolding marked
 length-marked [] occ = refl
 length-marked (c ∷ xs) occ = length-marked xs (set occ c true) ∙ length-set occ c true
 
--- ---- Marks
+-- ---- MarkResult
 
 -- one place
 module _ (n c : ℕ) (occ : List Bool) where
-  pub one-out : n ≤ c → Marks false n (c ∷ []) occ occ
+  pub one-out : n ≤ c → MarkResult false n (c ∷ []) occ occ
   unfolding fits
   one-out h = record { ok = rw (le-ltb c n h); done = λ t. absurd (clash refl t) }
 
-  pub one-twice : c < n → getD occ c false ≡ true → Marks false n (c ∷ []) occ occ
+  pub one-twice : c < n → getD occ c false ≡ true → MarkResult false n (c ∷ []) occ occ
   unfolding fits
   one-twice h e = record { ok = rw (lt-ltb c n h, e); done = λ t. absurd (clash refl t) }
 
-  pub one-marked : c < n → getD occ c false ≡ false → Marks true n (c ∷ []) occ (set occ c true)
+  pub one-marked : c < n → getD occ c false ≡ false → MarkResult true n (c ∷ []) occ (set occ c true)
   unfolding fits marked
   one-marked h e = record { ok = rw (lt-ltb c n h, e); done = λ t. refl }
 
-pub none-marked : (n : ℕ) (occ : List Bool) → Marks true n [] occ occ
+pub none-marked : (n : ℕ) (occ : List Bool) → MarkResult true n [] occ occ
 unfolding fits marked
 none-marked n occ = record { ok = refl; done = λ t. refl }
 
@@ -97,7 +97,7 @@ pub starts : (g : ℕ → List ℕ) (n top : ℕ) (occ : List Bool) → Going g 
 starts g n top occ = let e : n - 0 ≡ n = omega arith in record { kept = refl; ok = rw e; done = rw e }
 
 module _ (g : ℕ → List ℕ) (n i top : ℕ) (occ₀ occ occ′ : List Bool) (w : Going g n i top occ₀ occ) where
-  pub again : (r : Bool) → i < n → length occ′ ≡ length occ → Marks r top (g i) occ occ′ → r ≡ true → Going g n (i + 1) top occ₀ occ′
+  pub again : (r : Bool) → i < n → length occ′ ≡ length occ → MarkResult r top (g i) occ occ′ → r ≡ true → Going g n (i + 1) top occ₀ occ′
   again r h l m e =
       let f : fits top (g i) occ ≡ true = sym (m .ok) ∙ e in
       record {
@@ -106,14 +106,14 @@ module _ (g : ℕ → List ℕ) (n i top : ℕ) (occ₀ occ occ′ : List Bool) 
         done = rw (m .done e) (sym (marked-append (g i) (collect g (i + 1) (n - (i + 1))) occ) ∙ ap (λ (l : List ℕ). marked l occ) (sym (collect-next g i n h)) ∙ w .done);
       }
 
-  pub fails : (r : Bool) → i < n → Marks r top (g i) occ occ′ → r ≡ false → Marks false top (collect g 0 n) occ₀ occ′
+  pub fails : (r : Bool) → i < n → MarkResult r top (g i) occ occ′ → r ≡ false → MarkResult false top (collect g 0 n) occ₀ occ′
   fails r h m e =
       record {
         ok = sym (fits-stop top (g i) (collect g (i + 1) (n - (i + 1))) occ (sym (m .ok) ∙ e)) ∙ ap (λ (l : List ℕ). fits top l occ) (sym (collect-next g i n h)) ∙ w .ok;
         done = λ t. absurd (clash refl t);
       }
 
-pub ends : (g : ℕ → List ℕ) (n i top : ℕ) (occ₀ occ : List Bool) → Going g n i top occ₀ occ → n ≤ i → Marks true top (collect g 0 n) occ₀ occ
+pub ends : (g : ℕ → List ℕ) (n i top : ℕ) (occ₀ occ : List Bool) → Going g n i top occ₀ occ → n ≤ i → MarkResult true top (collect g 0 n) occ₀ occ
 unfolding fits marked
 ends g n i top occ₀ occ w h =
     let e : collect g i (n - i) ≡ [] = collect-end g i n h in

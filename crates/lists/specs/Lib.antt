@@ -8,5 +8,5 @@ pub mod Upto
 pub mod Written
 pub mod Walk
 pub mod Marks
-pub mod Tells
+pub mod Decides
 pub mod Search

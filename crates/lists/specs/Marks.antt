@@ -22,6 +22,6 @@ abbrev pub collect {ℓ} : {A : Type ℓ} → (ℕ → List A) → ℕ → ℕ �
 collect g i n = joined (counted g i n)
 
 -- `r` tells whether the places fit, and where they do they are marked
-pub record Marks (r : Bool) (n : ℕ) (cs : List ℕ) (before after : List Bool) : Type 0 where
+pub record MarkResult (r : Bool) (n : ℕ) (cs : List ℕ) (before after : List Bool) : Type 0 where
   pub ok : r ≡ fits n cs before
   pub done : r ≡ true → after ≡ marked cs before

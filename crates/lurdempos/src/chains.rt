@@ -5,7 +5,7 @@ ghost use Rattle.model.specs.Image.{withBlanks};
 ghost use Rattle.backup.specs.Call.{backedUpAnswer};
 ghost use Rattle.tills.specs.Answers.{listingAnswer, versionFound};
 ghost use Rattle.restore.specs.Answers.{restoreAnswer};
-ghost use Rattle.retire.specs.Answers.{retireAnswer};
+ghost use Rattle.retire.specs.Answers.{retiredAnswer};
 ghost use Rattle.tally.specs.Answers.{tallyAnswer};
 ghost use Rattle.stream_write.specs.Answers.{streamWritten};
 ghost use Rattle.sent_offer.specs.Offer.{offered};
@@ -122,7 +122,7 @@ pub extern "C" fn lurdempos_chain_retire(
     till: u32,
     version: u32,
 ) -> Retired
-    ensures { λ r. ⌜ retireAnswer r (now (pools .exit)) (now (tables .exit)) ≡ chainRetire (chainOf (now (pools .entry)) (now (tables .entry)) (now («pool_lengths» .entry)) (now («table_lengths» .entry))) store user till version ⌝ }
+    ensures { λ r. ⌜ retiredAnswer r (now (pools .exit)) (now (tables .exit)) ≡ chainRetire (chainOf (now (pools .entry)) (now (tables .entry)) (now («pool_lengths» .entry)) (now («table_lengths» .entry))) store user till version ⌝ }
 {
     chain_calls::retire(
         pools,

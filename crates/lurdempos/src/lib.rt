@@ -10,7 +10,7 @@ ghost use Rattle.layout.specs.Layout.{lengthAnswer, layoutAnswer};
 ghost use Rattle.backup.specs.Call.{backedUpAnswer};
 ghost use Rattle.tills.specs.Answers.{listingAnswer, versionFound};
 ghost use Rattle.restore.specs.Answers.{restoreAnswer};
-ghost use Rattle.retire.specs.Answers.{retireAnswer};
+ghost use Rattle.retire.specs.Answers.{retiredAnswer};
 ghost use Rattle.tally.specs.Answers.{tallyAnswer};
 ghost use Rattle.stream.specs.Stream.{readStream};
 ghost use Rattle.stream.specs.Version.{writeStreamAs};
@@ -169,7 +169,7 @@ pub extern "C" fn lurdempos_retire(
     till: u32,
     version: u32,
 ) -> Retired
-    ensures { λ r. ⌜ retireAnswer r (now (pool .exit)) (now (table .exit)) ≡ retireAs (now (pool .entry)) (now (table .entry)) user till version ⌝ }
+    ensures { λ r. ⌜ retiredAnswer r (now (pool .exit)) (now (table .exit)) ≡ retireAs (now (pool .entry)) (now (table .entry)) user till version ⌝ }
 {
     store::retire(pool, table, user, till, version)
 }

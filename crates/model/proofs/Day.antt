@@ -16,8 +16,8 @@ use Rattle.model.specs.Place.{barePointer, barePosition, pointersTo, new
 use Rattle.model.specs.Turn.{turnsTo, target, turn, turning}
 use Rattle.model.specs.Sweep.{changeAt, changeAll, release, claim, moved, clearCells, freeRecord, strikeOnly, compact, removeFrom, sweepRecord, sweepFrom, sweep}
 use Rattle.model.specs.Trace.{hopsVia, endVia, hops, endOf, blockAt, tracedBlock, tracedBlocks, imageOf, longestChain}
-use Rattle.model.specs.Table.{pointerWord, recordToWords, versionToWords, rightsBits, rightsWord, tillToWords, measureWord, headerToWords, stateToWords, stateToBytes, measuresIn, shapeOf, pointerOf, wordToPointer, positionOf, positionsIn, segmentIn, recordsIn, cellsIn, shelfIn, versionIn, versionsIn, isOdd, rightsOf, rightsIn, tillIn, tillsIn, stateIn}
-use Rattle.model.specs.Sound.{isShaped, hasLength, isNumbered, isUsed, hasCells, nextPointers, endsZero, areTraceable, isTill, allPointers, areCounted, allCounted, areFilled, isSound, ifSound, hasLengths, storeAs, storeOf}
+use Rattle.model.specs.Table.{pointerWord, recordToWords, versionToWords, rightsBits, rightsWord, tillToWords, measureWord, headerToWords, stateToWords, stateToBytes, measuresIn, shapeOf, pointerOf, wordToPointer, positionOf, positionsIn, segmentIn, recordsIn, cellsIn, storageIn, versionIn, versionsIn, isOdd, rightsOf, rightsIn, tillIn, tillsIn, stateIn}
+use Rattle.model.specs.Sound.{isShaped, hasLength, isNumbered, isFreeOrHolds, hasCells, nextPointers, endsZero, areTraceable, isTill, allPointers, areCounted, allCounted, areFilled, isSound, ifSound, hasLengths, storeAs, storeOf}
 use Rattle.model.specs.Calls.{tableLengthOf, noRights, emptyTill, emptyState, layoutIf, layoutOf, tillOf, heldFrom, withTill, newestPointers, withNewestPointers, newestDay, dayFor, tillWith, fileIn, placeAndFile, backupAnswer, backupIn, backupBy, backupOf, backupDatedOf, notAfter, newestOrNone, versionOnIn, versionOnOf, restoreRefusal, restoreFrom, restoreIn, restoreOf, heldBefore, firstOf, notHeld, lookUp, closeUp, retireFrom, retireAnswer, retireIn, retireOf, oldestNumber, newestNumber, listingRefusal, listTill, listingIn, listingOf, tallyIn, tallyOf}
 use Rattle.model.specs.Rights.{refusalFor, ownerRefusal, backupRefusal, backupAs, restoreAs, retireRefusal, retireAs, listingAs, versionOnRefusal, versionOnAs, tallyRefusal, tallyAs, withRights, setRightsIn, setRightsOf, rightsAnswer}
 use Rattle.model.specs.Rights as Rights
@@ -174,8 +174,8 @@ theDay =
 
 -- ---- what the page says beside the cases
 
-beside : List Row
-beside =
+otherRows : List Row
+otherRows =
     -- two runs of eight cells: the lower one is taken
     record {
       capacities = box 24;
@@ -590,8 +590,8 @@ otherMeasures =
     }
     ∷ []
 
-day-holds : every holds (theDay ++ (blanks ++ (dates ++ (keys ++ (beside ++ otherMeasures))))) ≡ true
-unfolding theDay blanks dates keys seen each onlyList onlyBackUp onlyRestore onlyRetire allRights shopOf oneBlock A B beside otherMeasures boxOf version case1 case2 case3 case4 case5 case6 v512 to8 run8 letters ABCDEFGH ABCDEFGZ AIJKLMNO ABIJKLMN IJKLMNOP QRSTUVWX zeros blocks atBase box holds
+day-holds : every holds (theDay ++ (blanks ++ (dates ++ (keys ++ (otherRows ++ otherMeasures))))) ≡ true
+unfolding theDay blanks dates keys seen each onlyList onlyBackUp onlyRestore onlyRetire allRights shopOf oneBlock A B otherRows otherMeasures boxOf version case1 case2 case3 case4 case5 case6 v512 to8 run8 letters ABCDEFGH ABCDEFGZ AIJKLMNO ABIJKLMN IJKLMNOP QRSTUVWX zeros blocks atBase box holds
     holdsFrom isAt tillAt slotAt recordAt
     refusalFor ownerRefusal backupRefusal backupAs restoreAs retireRefusal retireAs listingAs versionOnRefusal versionOnAs tallyRefusal tallyAs withRights Rights.setRights rightsAnswer setRightsIn setRightsOf
     counted every keep count total isSome firstFrom allOf sameNumbers rises isIn distinct allZero largest joined parts chunks fill maskOf isWithin areMeasures inRange partsFor
@@ -599,8 +599,8 @@ unfolding theDay blanks dates keys seen each onlyList onlyBackUp onlyRestore onl
     equals freeCells better scan findRun barePointer barePosition pointersTo newPositions stored share write writeRun writeRecord shareOrWrite placeSegment afterSome
     placeNext placeAll turnsTo target turn turning changeAt changeAll release claim moved clearCells freeRecord strikeOnly compact removeFrom sweepRecord sweepFrom
     sweep hopsVia endVia hops endOf blockAt tracedBlock tracedBlocks imageOf longestChain pointerWord recordToWords versionToWords rightsBits rightsWord tillToWords
-    isBase measureWord headerToWords stateToWords stateToBytes measuresIn shapeOf pointerOf wordToPointer positionOf positionsIn segmentIn recordsIn cellsIn shelfIn versionIn
-    versionsIn isOdd rightsOf rightsIn tillIn tillsIn stateIn isShaped hasLength isNumbered isUsed hasCells nextPointers endsZero areTraceable isTill allPointers areCounted
+    isBase measureWord headerToWords stateToWords stateToBytes measuresIn shapeOf pointerOf wordToPointer positionOf positionsIn segmentIn recordsIn cellsIn storageIn versionIn
+    versionsIn isOdd rightsOf rightsIn tillIn tillsIn stateIn isShaped hasLength isNumbered isFreeOrHolds hasCells nextPointers endsZero areTraceable isTill allPointers areCounted
     allCounted areFilled isSound ifSound hasLengths storeAs storeOf noRights emptyTill emptyState layoutIf layoutOf tillOf heldFrom withTill
     newestPointers withNewestPointers newestDay dayFor tillWith fileIn placeAndFile Calls.backup backupAnswer backupIn backupBy backupOf backupDatedOf notAfter newestOrNone versionOnIn versionOnOf restoreRefusal restoreFrom
     Calls.restore restoreIn restoreOf heldBefore firstOf notHeld lookUp closeUp retireFrom Calls.retire retireAnswer retireIn retireOf oldestNumber newestNumber listingRefusal

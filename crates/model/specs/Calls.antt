@@ -9,7 +9,7 @@ use lib.ListN.{length, getD, set, take, drop, replicate}
 use lib.Dec.{eqb, ltb, leb}
 use Rattle.lists.specs.Lists.{keep, count, total}
 use Rattle.model.specs.Measures.{Shape, inRange, tableWords, poolBytes}
-use Rattle.model.specs.State.{Block, Pointer, nullPointer, blankPointer, direct, indirect, Shelf, Version, withPointers, Rights, staff, Till, State, Outcome, refused, done}
+use Rattle.model.specs.State.{Block, Pointer, nullPointer, blankPointer, direct, indirect, Storage, Version, withPointers, Rights, staff, Till, State, Outcome, refused, done}
 use Rattle.model.specs.Image.{zeroBlock, Era, withBlanks, imageBlocks, imageSegments}
 use Rattle.model.specs.Records.{freeSegment, isFree, namedCells, countOf}
 use Rattle.model.specs.Place.{Placed, placeAll}
@@ -45,7 +45,7 @@ emptyTill = record { last = 0; rights = replicate staff noRights; versions = [] 
 unfoldable pub emptyState : Shape → State
 emptyState s = record {
   tills = replicate (s .capacities .tills) emptyTill;
-  shelf = record {
+  storage = record {
     records = replicate (s .capacities .records) (freeSegment (s .measures .segmentBlocks));
     cells = replicate (s .capacities .cells) (zeroBlock (s .measures .blockBytes));
   };
@@ -70,8 +70,8 @@ unfoldable pub heldFrom : ℕ → List Version → List Version
 heldFrom n [] = []
 heldFrom n (v ∷ vs) = let r = heldFrom n vs in cond (eqb (v .number) n) (v ∷ vs) r
 
-unfoldable pub withTill : State → ℕ → Till → Shelf → State
-withTill st t till shelf = record { tills = set (st .tills) t till; shelf = shelf }
+unfoldable pub withTill : State → ℕ → Till → Storage → State
+withTill st t till storage = record { tills = set (st .tills) t till; storage = storage }
 
 -- ---- backup: 10, 3, 4, 11, 12, 28 if it brings a day, then 14 before 16 at the first segment that cannot be placed
 
@@ -135,8 +135,8 @@ fileIn era s st t day image blocks till (refused n) = refused n
 fileIn era s st t day image blocks till (done p) = done (record {
   state =
       withTill st t
-      (tillWith till (turn era (p .shelf) blocks (newestPointers (till .versions))) (length image) day (take (length blocks) (p .pointers)))
-      (sweep (s .measures) (release (p .shelf) (turning era (p .shelf) blocks (newestPointers (till .versions)))));
+      (tillWith till (turn era (p .storage) blocks (newestPointers (till .versions))) (length image) day (take (length blocks) (p .pointers)))
+      (sweep (s .measures) (release (p .storage) (turning era (p .storage) blocks (newestPointers (till .versions)))));
   answer = suc (till .last);
 })
 
@@ -144,7 +144,7 @@ fileIn era s st t day image blocks till (done p) = done (record {
 unfoldable pub placeAndFile : Era → Shape → State → ℕ → ℕ → List ℕ → Till → Outcome After
 placeAndFile era s st t day image till =
     fileIn era s st t day image (imageBlocks (s .measures .blockBytes) image) till
-    (placeAll era (done (record { shelf = st .shelf; pointers = [] })) (imageSegments (s .measures .blockBytes) (s .measures .segmentBlocks) image))
+    (placeAll era (done (record { storage = st .storage; pointers = [] })) (imageSegments (s .measures .blockBytes) (s .measures .segmentBlocks) image))
 
 -- with the day that it brings, if it does
 unfoldable pub backup : Era → Shape → State → ℕ → Option ℕ → List ℕ → Outcome After
@@ -211,21 +211,21 @@ unfoldable pub restoreRefusal : ℕ → List ℕ → RestoreAnswer
 restoreRefusal n output = record { refusal = n; length = 0; hops = 0; output = output }
 
 -- Later bytes of the output stay.
-unfoldable pub restoreFrom : ℕ → Shelf → Lookup → List ℕ → RestoreAnswer
-restoreFrom bytes shelf (missing n) output = restoreRefusal n output
-restoreFrom bytes shelf (found older v newer) output =
+unfoldable pub restoreFrom : ℕ → Storage → Lookup → List ℕ → RestoreAnswer
+restoreFrom bytes storage (missing n) output = restoreRefusal n output
+restoreFrom bytes storage (found older v newer) output =
     cond (ltb (length output) (v .length)) (restoreRefusal 5 output)
     (record {
       refusal = 0;
       length = v .length;
       hops = longestChain (v ∷ newer);
-      output = imageOf bytes shelf (v ∷ newer) ++ drop (v .length) output;
+      output = imageOf bytes storage (v ∷ newer) ++ drop (v .length) output;
     })
 
 unfoldable pub restore : Shape → State → ℕ → ℕ → List ℕ → RestoreAnswer
 restore s st t version output =
     cond (leb (s .capacities .tills) t) (restoreRefusal 3 output)
-    (restoreFrom (s .measures .blockBytes) (st .shelf) (lookUp (tillOf st t) version) output)
+    (restoreFrom (s .measures .blockBytes) (st .storage) (lookUp (tillOf st t) version) output)
 
 unfoldable pub restoreIn : Option Store → ℕ → ℕ → List ℕ → RestoreAnswer
 restoreIn none t version output = restoreRefusal 10 output
@@ -266,7 +266,7 @@ retireFrom s st t till (missing n) = refused n
 retireFrom s st t till (found older v newer) = done (record {
   state =
       withTill st t (record { last = till .last; rights = till .rights; versions = closeUp older v newer })
-      (sweep (s .measures) (release (claim (st .shelf) (map (taken (v .pointers)) (newestPointers older))) (v .pointers)));
+      (sweep (s .measures) (release (claim (st .storage) (map (taken (v .pointers)) (newestPointers older))) (v .pointers)));
   answer = v .length;
 })
 
@@ -349,9 +349,9 @@ unfoldable pub tallyIn : Option Store → TallyAnswer
 tallyIn none = record { refusal = 10; cells = 0; records = 0; counts = 0 }
 tallyIn (some store) = record {
   refusal = 0;
-  cells = length (namedCells (store .state .shelf .records));
-  records = count (λ seg. not (isFree seg)) (store .state .shelf .records);
-  counts = total (total countOf) (store .state .shelf .records);
+  cells = length (namedCells (store .state .storage .records));
+  records = count (λ seg. not (isFree seg)) (store .state .storage .records);
+  counts = total (total countOf) (store .state .storage .records);
 }
 
 unfoldable pub tallyOf : List ℕ → List ℕ → TallyAnswer

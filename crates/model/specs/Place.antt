@@ -6,14 +6,14 @@ use mathlib.Core.Option.{Option, none, some}
 use lib.ListN.{length, getD, set}
 use lib.Seq.{sets}
 use Rattle.lists.specs.Lists.{every, keep, firstFrom, allZero}
-use Rattle.model.specs.State.{Block, Pointer, nullPointer, blankPointer, direct, Position, nullPosition, blankPosition, held, removed, Segment, Shelf, Outcome, refused, done}
+use Rattle.model.specs.State.{Block, Pointer, nullPointer, blankPointer, direct, Position, nullPosition, blankPosition, held, removed, Segment, Storage, Outcome, refused, done}
 use Rattle.model.specs.Image.{Era, isBare}
 use Rattle.model.specs.Records.{isFree, equals}
 use Rattle.model.specs.Runs.{Run, findRun}
 
--- the shelf after some segments, and their pointers
+-- the storage after some segments, and their pointers
 pub record Placed : Type 0 where
-  pub shelf : Shelf
+  pub storage : Storage
   pub pointers : List Pointer
 
 -- of a block that is null or blank
@@ -45,47 +45,47 @@ unfoldable pub stored : Era → List Block → List Block
 stored era bs = keep (λ b. not (isBare era b)) bs
 
 -- record `k` is equal to the segment, and serves it
-unfoldable pub share : Era → Shelf → List Block → ℕ → Placed
-share era shelf seg k = record {
-  shelf = record { records = set (shelf .records) k (map oneMore (getD (shelf .records) k [])); cells = shelf .cells };
+unfoldable pub share : Era → Storage → List Block → ℕ → Placed
+share era storage seg k = record {
+  storage = record { records = set (storage .records) k (map oneMore (getD (storage .records) k [])); cells = storage .cells };
   pointers = pointersTo era k 0 seg;
 }
 
 -- the segment takes record `k`, and its blocks, null and blank ones apart, go in order into the run's first cells
-unfoldable pub write : Era → Shelf → List Block → ℕ → Run → Placed
-write era shelf seg k run = record {
-  shelf = record { records = set (shelf .records) k (newPositions era (run .start) seg); cells = sets (shelf .cells) (run .start) (stored era seg) };
+unfoldable pub write : Era → Storage → List Block → ℕ → Run → Placed
+write era storage seg k run = record {
+  storage = record { records = set (storage .records) k (newPositions era (run .start) seg); cells = sets (storage .cells) (run .start) (stored era seg) };
   pointers = pointersTo era k 0 seg;
 }
 
-unfoldable pub writeRun : Era → Shelf → List Block → ℕ → Option Run → Outcome Placed
-writeRun era shelf seg k none = refused 16
-writeRun era shelf seg k (some run) = done (write era shelf seg k run)
+unfoldable pub writeRun : Era → Storage → List Block → ℕ → Option Run → Outcome Placed
+writeRun era storage seg k none = refused 16
+writeRun era storage seg k (some run) = done (write era storage seg k run)
 
 -- 14 before 16
-unfoldable pub writeRecord : Era → Shelf → List Block → Option ℕ → Outcome Placed
-writeRecord era shelf seg none = refused 14
-writeRecord era shelf seg (some k) = writeRun era shelf seg k (findRun shelf (length (stored era seg)))
+unfoldable pub writeRecord : Era → Storage → List Block → Option ℕ → Outcome Placed
+writeRecord era storage seg none = refused 14
+writeRecord era storage seg (some k) = writeRun era storage seg k (findRun storage (length (stored era seg)))
 
 -- the record found serves; else the lowest free record is taken
-unfoldable pub shareOrWrite : Era → Shelf → List Block → Option ℕ → Outcome Placed
-shareOrWrite era shelf seg none = writeRecord era shelf seg (firstFrom isFree 0 (shelf .records))
-shareOrWrite era shelf seg (some k) = done (share era shelf seg k)
+unfoldable pub shareOrWrite : Era → Storage → List Block → Option ℕ → Outcome Placed
+shareOrWrite era storage seg none = writeRecord era storage seg (firstFrom isFree 0 (storage .records))
+shareOrWrite era storage seg (some k) = done (share era storage seg k)
 
 -- a segment of null and blank blocks only needs no record; one equal to a whole record uses it, the lowest number if several
-unfoldable pub placeSegment : Era → Shelf → List Block → Outcome Placed
-placeSegment era shelf seg =
+unfoldable pub placeSegment : Era → Storage → List Block → Outcome Placed
+placeSegment era storage seg =
     cond (every (isBare era) seg)
-    (done (record { shelf = shelf; pointers = map barePointer seg }))
-    (shareOrWrite era shelf seg (firstFrom (equals era shelf seg) 0 (shelf .records)))
+    (done (record { storage = storage; pointers = map barePointer seg }))
+    (shareOrWrite era storage seg (firstFrom (equals era storage seg) 0 (storage .records)))
 
 unfoldable pub afterSome : List Pointer → Outcome Placed → Outcome Placed
 afterSome ps (refused n) = refused n
-afterSome ps (done p) = done (record { shelf = p .shelf; pointers = ps ++ p .pointers })
+afterSome ps (done p) = done (record { storage = p .storage; pointers = ps ++ p .pointers })
 
 unfoldable pub placeNext : Era → Outcome Placed → List Block → Outcome Placed
 placeNext era (refused n) seg = refused n
-placeNext era (done p) seg = afterSome (p .pointers) (placeSegment era (p .shelf) seg)
+placeNext era (done p) seg = afterSome (p .pointers) (placeSegment era (p .storage) seg)
 
 -- segment by segment; the first that cannot be placed refuses
 unfoldable pub placeAll : Era → Outcome Placed → List (List Block) → Outcome Placed

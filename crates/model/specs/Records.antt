@@ -5,7 +5,7 @@ use mathlib.Core.List.{List, [], _∷_}
 use lib.ListN.{getD, replicate}
 use Rattle.lists.specs.Lists.{every, sameNumbers, allZero}
 use Rattle.lists.specs.Rows.{rows}
-use Rattle.model.specs.State.{Block, Position, nullPosition, blankPosition, held, removed, Segment, Shelf}
+use Rattle.model.specs.State.{Block, Position, nullPosition, blankPosition, held, removed, Segment, Storage}
 use Rattle.model.specs.Image.{Era, isBlank}
 
 unfoldable pub freeSegment : ℕ → Segment
@@ -63,23 +63,23 @@ cellsOf (removed ∷ ps) = cellsOf ps
 unfoldable pub namedCells : List Segment → List ℕ
 namedCells segs = rows cellsOf segs
 
-unfoldable pub cellAt : Shelf → ℕ → Block
-cellAt shelf c = getD (shelf .cells) c []
+unfoldable pub cellAt : Storage → ℕ → Block
+cellAt storage c = getD (storage .cells) c []
 
-unfoldable pub positionAt : Shelf → ℕ → ℕ → Position
-positionAt shelf k i = getD (getD (shelf .records) k []) i nullPosition
+unfoldable pub positionAt : Storage → ℕ → ℕ → Position
+positionAt storage k i = getD (getD (storage .records) k []) i nullPosition
 
 -- The position holds this block. A removed one holds none, so that only a whole record (none removed) can equal a segment. A held one holds no blank
 -- block, so that a record with an occupied cell of 255s equals no segment.
-abbrev pub holds : Era → Shelf → Position → Block → Bool
-holds era shelf nullPosition b = allZero b
-holds era shelf blankPosition b = isBlank era b
-holds era shelf (held c n) b = let r = sameNumbers (cellAt shelf c) b in cond (isBlank era b) false r
-holds era shelf removed b = false
+abbrev pub holds : Era → Storage → Position → Block → Bool
+holds era storage nullPosition b = allZero b
+holds era storage blankPosition b = isBlank era b
+holds era storage (held c n) b = let r = sameNumbers (cellAt storage c) b in cond (isBlank era b) false r
+holds era storage removed b = false
 
 -- the segment is equal in content to a whole record
-unfoldable pub equals : Era → Shelf → List Block → Segment → Bool
-equals era shelf [] [] = true
-equals era shelf [] (p ∷ ps) = false
-equals era shelf (b ∷ bs) [] = false
-equals era shelf (b ∷ bs) (p ∷ ps) = let r = equals era shelf bs ps in cond (holds era shelf p b) r false
+unfoldable pub equals : Era → Storage → List Block → Segment → Bool
+equals era storage [] [] = true
+equals era storage [] (p ∷ ps) = false
+equals era storage (b ∷ bs) [] = false
+equals era storage (b ∷ bs) (p ∷ ps) = let r = equals era storage bs ps in cond (holds era storage p b) r false

@@ -109,7 +109,7 @@ setRights s st user subject t rights =
     cond (leb (s .capacities .tills) t) (refused 3)
     (cond (ltb staff user || (eqb subject 0 || ltb staff subject)) (refused 22)
     (cond (ltb 0 user) (refused 23)
-    (done (record { state = withTill st t (withRights (tillOf st t) subject rights) (st .shelf); answer = 0 }))))
+    (done (record { state = withTill st t (withRights (tillOf st t) subject rights) (st .storage); answer = 0 }))))
 
 unfoldable pub rightsAnswer : List ℕ → Shape → Outcome After → RightsAnswer
 rightsAnswer table s (refused n) = record { refusal = n; table = table }

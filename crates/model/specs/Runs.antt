@@ -6,7 +6,7 @@ use mathlib.Core.Option.{Option, none, some}
 use lib.ListN.{length}
 use lib.Dec.{ltb, leb}
 use Rattle.lists.specs.Lists.{counted, isIn}
-use Rattle.model.specs.State.{Shelf}
+use Rattle.model.specs.State.{Storage}
 use Rattle.model.specs.Records.{namedCells}
 
 -- consecutive cells from `start` on
@@ -15,8 +15,8 @@ pub record Run : Type 0 where
   pub cells : ℕ
 
 -- for each cell, whether no position names it
-unfoldable pub freeCells : Shelf → List Bool
-freeCells shelf = let named = namedCells (shelf .records) in counted (λ c. not (isIn c named)) 0 (length (shelf .cells))
+unfoldable pub freeCells : Storage → List Bool
+freeCells storage = let named = namedCells (storage .records) in counted (λ c. not (isIn c named)) 0 (length (storage .cells))
 
 -- the better of the best run so far and a later one of `k` cells up to place `i`: long enough for `need`, and shorter than the best
 unfoldable pub better : ℕ → ℕ → ℕ → Option Run → Option Run
@@ -30,5 +30,5 @@ scan need [] i k best = better need i k best
 scan need (true ∷ fs) i k best = scan need fs (suc i) (suc k) best
 scan need (false ∷ fs) i k best = scan need fs (suc i) 0 (better need i k best)
 
-unfoldable pub findRun : Shelf → ℕ → Option Run
-findRun shelf need = scan need (freeCells shelf) 0 0 none
+unfoldable pub findRun : Storage → ℕ → Option Run
+findRun storage need = scan need (freeCells storage) 0 0 none

@@ -8,7 +8,7 @@ use lib.Dec.{eqb, ltb, leb}
 use Rattle.lists.specs.Lists.{every, allOf, count, sameNumbers, rises, isIn, distinct, allZero}
 use Rattle.lists.specs.Rows.{rows}
 use Rattle.model.specs.Measures.{Shape, isWithin, inRange, tableWords, poolBytes, partsFor}
-use Rattle.model.specs.State.{Block, Pointer, nullPointer, blankPointer, direct, indirect, Position, nullPosition, blankPosition, held, removed, Segment, Shelf, Version, Till, staff, State}
+use Rattle.model.specs.State.{Block, Pointer, nullPointer, blankPointer, direct, indirect, Position, nullPosition, blankPosition, held, removed, Segment, Storage, Version, Till, staff, State}
 use Rattle.model.specs.Records.{isHeld, isFree, namedCells, positionAt}
 use Rattle.model.specs.Trace.{tracedBlock}
 use Rattle.model.specs.Table.{shapeOf, stateIn, stateToWords}
@@ -20,10 +20,10 @@ unfoldable pub isShaped : Shape → State → Bool
 isShaped s st =
     allOf
     (eqb (length (st .tills)) (s .capacities .tills)
-    ∷ eqb (length (st .shelf .records)) (s .capacities .records)
-    ∷ every (λ seg. eqb (length seg) (s .measures .segmentBlocks)) (st .shelf .records)
-    ∷ eqb (length (st .shelf .cells)) (s .capacities .cells)
-    ∷ every (λ b. eqb (length b) (s .measures .blockBytes)) (st .shelf .cells)
+    ∷ eqb (length (st .storage .records)) (s .capacities .records)
+    ∷ every (λ seg. eqb (length seg) (s .measures .segmentBlocks)) (st .storage .records)
+    ∷ eqb (length (st .storage .cells)) (s .capacities .cells)
+    ∷ every (λ b. eqb (length b) (s .measures .blockBytes)) (st .storage .cells)
     ∷ [])
 
 -- a length of 1 to block size × blocks per image, and one pointer for each block
@@ -41,13 +41,13 @@ isNumbered v t =
     ∷ [])
 
 -- a record in use holds at least one position
-unfoldable pub isUsed : Segment → Bool
-isUsed seg = isFree seg || ltb 0 (count isHeld seg)
+unfoldable pub isFreeOrHolds : Segment → Bool
+isFreeOrHolds seg = isFree seg || ltb 0 (count isHeld seg)
 
 -- every held position names a cell of the pool, and no two name one
-unfoldable pub hasCells : Shelf → Bool
-hasCells shelf =
-    allOf (every (λ c. ltb c (length (shelf .cells))) (namedCells (shelf .records)) ∷ distinct (namedCells (shelf .records)) ∷ [])
+unfoldable pub hasCells : Storage → Bool
+hasCells storage =
+    allOf (every (λ c. ltb c (length (storage .cells))) (namedCells (storage .records)) ∷ distinct (namedCells (storage .records)) ∷ [])
 
 -- ---- pointers
 
@@ -59,11 +59,11 @@ isNull (indirect n) = false
 
 -- A pointer of a version whose next newer held version has the pointers `newer`: a direct one names a held position, an indirect one an existing
 -- block whose pointer is not null. For the newest `newer` is [], so that it has no indirect one.
-abbrev pub leads : Shelf → List Pointer → Pointer → Bool
-leads shelf newer nullPointer = true
-leads shelf newer blankPointer = true
-leads shelf newer (direct k i) = isHeld (positionAt shelf k i)
-leads shelf newer (indirect n) = not (isNull (getD newer n nullPointer))
+abbrev pub resolves : Storage → List Pointer → Pointer → Bool
+resolves storage newer nullPointer = true
+resolves storage newer blankPointer = true
+resolves storage newer (direct k i) = isHeld (positionAt storage k i)
+resolves storage newer (indirect n) = not (isNull (getD newer n nullPointer))
 
 -- the pointers of the first version of a list
 unfoldable pub nextPointers : List Version → List Pointer
@@ -71,27 +71,27 @@ nextPointers [] = []
 nextPointers (v ∷ vs) = v .pointers
 
 -- a version's last block, as traced, is zero after the version's length
-unfoldable pub endsZero : ℕ → Shelf → Version → List Version → Bool
-endsZero bytes shelf v newer =
-    allZero (drop (v .length - bytes * (length (v .pointers) - 1)) (tracedBlock bytes shelf (v ∷ newer) (length (v .pointers) - 1)))
+unfoldable pub endsZero : ℕ → Storage → Version → List Version → Bool
+endsZero bytes storage v newer =
+    allZero (drop (v .length - bytes * (length (v .pointers) - 1)) (tracedBlock bytes storage (v ∷ newer) (length (v .pointers) - 1)))
 
 -- for images of up to `b` blocks
-unfoldable pub areTraceable : ℕ → ℕ → Shelf → List Version → Bool
-areTraceable bytes b shelf [] = true
-areTraceable bytes b shelf (v ∷ newer) =
+unfoldable pub areTraceable : ℕ → ℕ → Storage → List Version → Bool
+areTraceable bytes b storage [] = true
+areTraceable bytes b storage (v ∷ newer) =
     allOf
     (hasLength bytes b v
-    ∷ every (leads shelf (nextPointers newer)) (v .pointers)
-    ∷ endsZero bytes shelf v newer
-    ∷ areTraceable bytes b shelf newer
+    ∷ every (resolves storage (nextPointers newer)) (v .pointers)
+    ∷ endsZero bytes storage v newer
+    ∷ areTraceable bytes b storage newer
     ∷ [])
 
 -- numbers, versions, and the rights of the seven users
-unfoldable pub isTill : Shape → Shelf → Till → Bool
-isTill s shelf t =
+unfoldable pub isTill : Shape → Storage → Till → Bool
+isTill s storage t =
     allOf
     (isNumbered (s .capacities .versions) t
-    ∷ areTraceable (s .measures .blockBytes) (s .capacities .blocks) shelf (t .versions)
+    ∷ areTraceable (s .measures .blockBytes) (s .capacities .blocks) storage (t .versions)
     ∷ eqb (length (t .rights)) staff
     ∷ [])
 
@@ -132,11 +132,11 @@ isSound s st =
     allOf
     (inRange s
     ∷ isShaped s st
-    ∷ every isUsed (st .shelf .records)
-    ∷ hasCells (st .shelf)
-    ∷ every (isTill s (st .shelf)) (st .tills)
-    ∷ allCounted (allPointers (st .tills)) 0 (st .shelf .records)
-    ∷ areFilled (namedCells (st .shelf .records)) 0 (st .shelf .cells)
+    ∷ every isFreeOrHolds (st .storage .records)
+    ∷ hasCells (st .storage)
+    ∷ every (isTill s (st .storage)) (st .tills)
+    ∷ allCounted (allPointers (st .tills)) 0 (st .storage .records)
+    ∷ areFilled (namedCells (st .storage .records)) 0 (st .storage .cells)
     ∷ [])
 
 -- ---- the store of a pool and a table

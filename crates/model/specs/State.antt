@@ -26,8 +26,8 @@ pub data Position : Type 0 where
 abbrev pub Segment : Type 0
 Segment = List Position
 
--- The records and the cells, which all tills share. (Our word.)
-pub record Shelf : Type 0 where
+-- The segment records and the cells, which all tills share.
+pub record Storage : Type 0 where
   pub records : List Segment
   pub cells : List Block
 
@@ -61,7 +61,7 @@ pub record Till : Type 0 where
 
 pub record State : Type 0 where
   pub tills : List Till
-  pub shelf : Shelf
+  pub storage : Storage
 
 -- what a step gives: the number of the refusal, or its result
 pub data Outcome {ℓ} (A : Type ℓ) : Type ℓ where

@@ -8,7 +8,7 @@ use lib.Seq.{sets}
 use lib.Dec.{eqb, ltb}
 use Rattle.lists.specs.Lists.{keep, count}
 use Rattle.model.specs.Measures.{Measures}
-use Rattle.model.specs.State.{Block, Pointer, nullPointer, blankPointer, direct, indirect, Position, nullPosition, blankPosition, held, removed, Segment, Shelf}
+use Rattle.model.specs.State.{Block, Pointer, nullPointer, blankPointer, direct, indirect, Position, nullPosition, blankPosition, held, removed, Segment, Storage}
 use Rattle.model.specs.Image.{zeroBlock}
 use Rattle.model.specs.Records.{freeSegment, isHeld, cellsOf, cellAt}
 use Rattle.model.specs.Runs.{Run, findRun}
@@ -33,29 +33,29 @@ oneLess (held c n) = held c (pred n)
 oneLess removed = removed
 
 -- each lowers its position's count by 1
-unfoldable pub release : Shelf → List Pointer → Shelf
-release shelf ps = record { records = changeAll oneLess (shelf .records) ps; cells = shelf .cells }
+unfoldable pub release : Storage → List Pointer → Storage
+release storage ps = record { records = changeAll oneLess (storage .records) ps; cells = storage .cells }
 
 -- each adds 1 to its position's count
-unfoldable pub claim : Shelf → List Pointer → Shelf
-claim shelf ps = record { records = changeAll oneMore (shelf .records) ps; cells = shelf .cells }
+unfoldable pub claim : Storage → List Pointer → Storage
+claim storage ps = record { records = changeAll oneMore (storage .records) ps; cells = storage .cells }
 
 -- ---- the positions of one record
 
--- a held position goes if its count is 0, and stays if not
-abbrev pub goes : Position → Bool
-goes nullPosition = false
-goes blankPosition = false
-goes (held c zero) = true
-goes (held c (suc n)) = false
-goes removed = false
+-- a held position is unreferenced if its count is 0, and then it goes; else it stays
+abbrev pub isUnreferenced : Position → Bool
+isUnreferenced nullPosition = false
+isUnreferenced blankPosition = false
+isUnreferenced (held c zero) = true
+isUnreferenced (held c (suc n)) = false
+isUnreferenced removed = false
 
-abbrev pub stays : Position → Bool
-stays nullPosition = false
-stays blankPosition = false
-stays (held c zero) = false
-stays (held c (suc n)) = true
-stays removed = false
+abbrev pub isReferenced : Position → Bool
+isReferenced nullPosition = false
+isReferenced blankPosition = false
+isReferenced (held c zero) = false
+isReferenced (held c (suc n)) = true
+isReferenced removed = false
 
 abbrev pub struck : Position → Position
 struck nullPosition = nullPosition
@@ -80,45 +80,45 @@ clearCells bytes cells (c ∷ cs) = clearCells bytes (set cells c (zeroBlock byt
 -- ---- one record: record `k`, whose positions are `seg`
 
 -- all of it goes
-unfoldable pub freeRecord : Measures → Shelf → ℕ → Segment → Shelf
-freeRecord m shelf k seg = record {
-  records = set (shelf .records) k (freeSegment (m .segmentBlocks));
-  cells = clearCells (m .blockBytes) (shelf .cells) (cellsOf seg);
+unfoldable pub freeRecord : Measures → Storage → ℕ → Segment → Storage
+freeRecord m storage k seg = record {
+  records = set (storage .records) k (freeSegment (m .segmentBlocks));
+  cells = clearCells (m .blockBytes) (storage .cells) (cellsOf seg);
 }
 
 -- only the freed cells are cleared
-unfoldable pub strikeOnly : Measures → Shelf → ℕ → Segment → Shelf
-strikeOnly m shelf k seg = record {
-  records = set (shelf .records) k (map struck seg);
-  cells = clearCells (m .blockBytes) (shelf .cells) (cellsOf (keep goes seg));
+unfoldable pub strikeOnly : Measures → Storage → ℕ → Segment → Storage
+strikeOnly m storage k seg = record {
+  records = set (storage .records) k (map struck seg);
+  cells = clearCells (m .blockBytes) (storage .cells) (cellsOf (keep isUnreferenced seg));
 }
 
 -- the blocks that stay are copied, in order, into the run's first cells, and all old cells are cleared; with no run only the freed ones
-unfoldable pub compact : Measures → Shelf → ℕ → Segment → Option Run → Shelf
-compact m shelf k seg none = strikeOnly m shelf k seg
-compact m shelf k seg (some run) = record {
-  records = set (shelf .records) k (moved (run .start) seg);
-  cells = clearCells (m .blockBytes) (sets (shelf .cells) (run .start) (map (cellAt shelf) (cellsOf (keep stays seg)))) (cellsOf seg);
+unfoldable pub compact : Measures → Storage → ℕ → Segment → Option Run → Storage
+compact m storage k seg none = strikeOnly m storage k seg
+compact m storage k seg (some run) = record {
+  records = set (storage .records) k (moved (run .start) seg);
+  cells = clearCells (m .blockBytes) (sets (storage .cells) (run .start) (map (cellAt storage) (cellsOf (keep isReferenced seg)))) (cellsOf seg);
 }
 
 -- Of its positions `r` are to go and `s` are held. At 20 percent 100 × r < 20 × s is 01's 5 × r < s. The record's old cells still count as occupied in
--- `findRun`, which sees the shelf as it is before the removal.
-unfoldable pub removeFrom : Measures → Shelf → ℕ → Segment → ℕ → ℕ → Shelf
-removeFrom m shelf k seg r s =
-    cond (eqb r 0) shelf
-    (cond (eqb r s) (freeRecord m shelf k seg)
-    (cond (ltb (100 * r) (m .rebuildPercent * s)) (strikeOnly m shelf k seg)
-    (compact m shelf k seg (findRun shelf (s - r)))))
+-- `findRun`, which sees the storage as it is before the removal.
+unfoldable pub removeFrom : Measures → Storage → ℕ → Segment → ℕ → ℕ → Storage
+removeFrom m storage k seg r s =
+    cond (eqb r 0) storage
+    (cond (eqb r s) (freeRecord m storage k seg)
+    (cond (ltb (100 * r) (m .rebuildPercent * s)) (strikeOnly m storage k seg)
+    (compact m storage k seg (findRun storage (s - r)))))
 
-unfoldable pub sweepRecord : Measures → Shelf → ℕ → Shelf
-sweepRecord m shelf k =
-    removeFrom m shelf k (getD (shelf .records) k []) (count goes (getD (shelf .records) k [])) (count isHeld (getD (shelf .records) k []))
+unfoldable pub sweepRecord : Measures → Storage → ℕ → Storage
+sweepRecord m storage k =
+    removeFrom m storage k (getD (storage .records) k []) (count isUnreferenced (getD (storage .records) k [])) (count isHeld (getD (storage .records) k []))
 
 -- ---- record by record in rising number: `n` records from number `k`
 
-unfoldable pub sweepFrom : Measures → Shelf → ℕ → ℕ → Shelf
-sweepFrom m shelf k zero = shelf
-sweepFrom m shelf k (suc n) = sweepFrom m (sweepRecord m shelf k) (suc k) n
+unfoldable pub sweepFrom : Measures → Storage → ℕ → ℕ → Storage
+sweepFrom m storage k zero = storage
+sweepFrom m storage k (suc n) = sweepFrom m (sweepRecord m storage k) (suc k) n
 
-unfoldable pub sweep : Measures → Shelf → Shelf
-sweep m shelf = sweepFrom m shelf 0 (length (shelf .records))
+unfoldable pub sweep : Measures → Storage → Storage
+sweep m storage = sweepFrom m storage 0 (length (storage .records))

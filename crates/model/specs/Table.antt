@@ -14,7 +14,7 @@ use Rattle.lists.specs.Lists.{allZero}
 use Rattle.lists.specs.Rows.{joined, rows, parts, chunks, fill}
 use Rattle.lists.specs.Masks.{maskOf}
 use Rattle.model.specs.Measures.{Measures, Capacities, Shape, baseMeasures, isBase, headerWords, slotWords, tillWords, recordWords, recordsAt, partsFor}
-use Rattle.model.specs.State.{Block, Pointer, nullPointer, blankPointer, direct, indirect, Position, nullPosition, blankPosition, held, removed, Segment, Shelf, Version, Rights, Till, staff, State}
+use Rattle.model.specs.State.{Block, Pointer, nullPointer, blankPointer, direct, indirect, Position, nullPosition, blankPosition, held, removed, Segment, Storage, Version, Rights, Till, staff, State}
 use Rattle.model.specs.Records.{isHeld, isRemoved, isBlankPosition, cellOf, countOf}
 
 -- ---- to words
@@ -62,10 +62,10 @@ headerToWords s =
 unfoldable pub stateToWords : Shape → State → List ℕ
 stateToWords s st =
     headerToWords s
-    ++ (rows (tillToWords (s .capacities .versions) (s .capacities .blocks)) (st .tills) ++ rows recordToWords (st .shelf .records))
+    ++ (rows (tillToWords (s .capacities .versions) (s .capacities .blocks)) (st .tills) ++ rows recordToWords (st .storage .records))
 
 unfoldable pub stateToBytes : State → List ℕ
-stateToBytes st = joined (st .shelf .cells)
+stateToBytes st = joined (st .storage .cells)
 
 -- ---- from words. All of this is total: it reads something from any words, and `storeOf` tells whether they are those of what was read.
 
@@ -122,8 +122,8 @@ unfoldable pub cellsIn : ℕ → List ℕ → List Block
 cellsIn bytes pool = chunks bytes pool
 
 -- from the pool and the records' words
-unfoldable pub shelfIn : Measures → List ℕ → List ℕ → Shelf
-shelfIn m pool ws = record { records = recordsIn (m .segmentBlocks) ws; cells = cellsIn (m .blockBytes) pool }
+unfoldable pub storageIn : Measures → List ℕ → List ℕ → Storage
+storageIn m pool ws = record { records = recordsIn (m .segmentBlocks) ws; cells = cellsIn (m .blockBytes) pool }
 
 -- as many pointers as the length has blocks
 unfoldable pub versionIn : ℕ → List ℕ → Version
@@ -170,5 +170,5 @@ recordsPart c table = drop (recordsAt (c .tills) (c .versions) (c .blocks)) tabl
 unfoldable pub stateIn : Shape → List ℕ → List ℕ → State
 stateIn s pool table = record {
   tills = tillsIn (s .measures .blockBytes) (s .capacities .versions) (s .capacities .blocks) (tillsPart (s .capacities) table);
-  shelf = shelfIn (s .measures) pool (recordsPart (s .capacities) table);
+  storage = storageIn (s .measures) pool (recordsPart (s .capacities) table);
 }

@@ -4,7 +4,7 @@ use mathlib.Core.List.{List, [], _∷_}
 use lib.ListN.{length, getD, take}
 use Rattle.lists.specs.Lists.{counted, largest}
 use Rattle.lists.specs.Rows.{joined}
-use Rattle.model.specs.State.{Block, Pointer, nullPointer, blankPointer, direct, indirect, Shelf, Version}
+use Rattle.model.specs.State.{Block, Pointer, nullPointer, blankPointer, direct, indirect, Storage, Version}
 use Rattle.model.specs.Image.{zeroBlock, blankBlock}
 use Rattle.model.specs.Records.{cellAt, positionAt, cellOf}
 
@@ -32,24 +32,24 @@ endOf [] n = nullPointer
 endOf (v ∷ newer) n = endVia (getD (v .pointers) n nullPointer) (λ k. endOf newer k)
 
 -- the block at a pointer that is not indirect
-unfoldable pub blockAt : ℕ → Shelf → Pointer → Block
-blockAt bytes shelf nullPointer = zeroBlock bytes
-blockAt bytes shelf blankPointer = blankBlock bytes
-blockAt bytes shelf (direct k i) = cellAt shelf (cellOf (positionAt shelf k i))
-blockAt bytes shelf (indirect n) = zeroBlock bytes
+unfoldable pub blockAt : ℕ → Storage → Pointer → Block
+blockAt bytes storage nullPointer = zeroBlock bytes
+blockAt bytes storage blankPointer = blankBlock bytes
+blockAt bytes storage (direct k i) = cellAt storage (cellOf (positionAt storage k i))
+blockAt bytes storage (indirect n) = zeroBlock bytes
 
-unfoldable pub tracedBlock : ℕ → Shelf → List Version → ℕ → Block
-tracedBlock bytes shelf vs n = blockAt bytes shelf (endOf vs n)
+unfoldable pub tracedBlock : ℕ → Storage → List Version → ℕ → Block
+tracedBlock bytes storage vs n = blockAt bytes storage (endOf vs n)
 
 -- all blocks of the first version of the list
-unfoldable pub tracedBlocks : ℕ → Shelf → List Version → List Block
-tracedBlocks bytes shelf [] = []
-tracedBlocks bytes shelf (v ∷ newer) = counted (tracedBlock bytes shelf (v ∷ newer)) 0 (length (v .pointers))
+unfoldable pub tracedBlocks : ℕ → Storage → List Version → List Block
+tracedBlocks bytes storage [] = []
+tracedBlocks bytes storage (v ∷ newer) = counted (tracedBlock bytes storage (v ∷ newer)) 0 (length (v .pointers))
 
 -- the last block only up to the length
-unfoldable pub imageOf : ℕ → Shelf → List Version → List ℕ
-imageOf bytes shelf [] = []
-imageOf bytes shelf (v ∷ newer) = take (v .length) (joined (tracedBlocks bytes shelf (v ∷ newer)))
+unfoldable pub imageOf : ℕ → Storage → List Version → List ℕ
+imageOf bytes storage [] = []
+imageOf bytes storage (v ∷ newer) = take (v .length) (joined (tracedBlocks bytes storage (v ∷ newer)))
 
 -- the most indirect pointers followed for any one block
 unfoldable pub longestChain : List Version → ℕ

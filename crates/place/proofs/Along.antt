@@ -13,30 +13,30 @@ use Rattle.model.specs.Image.{blocksFrom, imageSegments, segmentsFrom, withBlan
 use Rattle.model.specs.Measures.{Measures}
 use Rattle.model.specs.Place.{Placed, afterSome, placeAll, placeNext, placeSegment}
 use Rattle.model.specs.Runs.{freeCells}
-use Rattle.model.specs.State.{Block, Outcome, Pointer, Shelf, done, refused}
-use Rattle.model.specs.Table.{pointerWord, recordsIn, shelfIn}
+use Rattle.model.specs.State.{Block, Outcome, Pointer, Storage, done, refused}
+use Rattle.model.specs.Table.{pointerWord, recordsIn, storageIn}
 use Rattle.laws.proofs.Measures.{parts-few, parts-least}
 use Rattle.laws.specs.Ranges.{Measured}
 use Rattle.numbers.proofs.Products.{segment-some}
-use Rattle.shelf.specs.Stored.{Countable, Stored, Told}
-use Rattle.shelf.proofs.Read.{records-of, shelf-read, stored-again}
-use Rattle.place_one.specs.Did.{Did, Done}
-use Rattle.place_seek.specs.Seek.{RestFree}
+use Rattle.storage.specs.Stored.{Countable, Stored, Encodes}
+use Rattle.storage.proofs.Read.{records-of, storage-read, stored-again}
+use Rattle.place_segment.specs.Results.{SegmentResult, SegmentDone}
+use Rattle.place_free.specs.Free.{RestFree}
 use Rattle.place_undo.specs.Undo.{undoRecord, undoUpto}
-use Rattle.place.specs.All.{DidAll, placedIn, segmentsIn}
+use Rattle.place.specs.All.{PlaceResult, placedIn, segmentsIn}
 use Rattle.place.proofs.Keeping.{counts-wider, placed-counts, placed-exact}
 use Rattle.place.proofs.Rest.{rest-after}
 
 -- ---- the records of the placings
 
-upto-set : (m : Measures) (placed : List ℕ) (j k r : ℕ) (s : Shelf) → k ≤ j → undoUpto m (set placed j r) k s ≡ undoUpto m placed k s
+upto-set : (m : Measures) (placed : List ℕ) (j k r : ℕ) (s : Storage) → k ≤ j → undoUpto m (set placed j r) k s ≡ undoUpto m placed k s
 unfolding undoUpto
 upto-set m placed j zero r s h = refl
 upto-set m placed j (suc k) r s h =
     rw (getD-set-other placed j k r 0 (λ e. omega arith)) (upto-set m placed j k r (undoRecord m s (getD placed k 0)) (omega arith))
 
 -- one placing more
-upto-more : (m : Measures) (placed : List ℕ) (j r : ℕ) → j < length placed → (s t : Shelf) → undoRecord m t r ≡ s → undoUpto m (set placed j r) (j + 1) t ≡ undoUpto m placed j s
+upto-more : (m : Measures) (placed : List ℕ) (j r : ℕ) → j < length placed → (s t : Storage) → undoRecord m t r ≡ s → undoUpto m (set placed j r) (j + 1) t ≡ undoUpto m placed j s
 unfolding undoUpto
 upto-more m placed j r h s t e = rw (add-one j, getD-set-same placed j r 0 h, e) (upto-set m placed j j r s (omega arith))
 
@@ -90,11 +90,11 @@ pub record Along (m : Measures) (image pool₀ ws₀ : List ℕ) (free₀ : List
   pub pointers : List Pointer
   pub stored : Stored m pool ws
   pub counts : Countable (2147483648 + j) (recordsIn (m .segmentBlocks) ws)
-  pub cells : free ≡ freeCells (shelfIn m pool ws)
+  pub cells : free ≡ freeCells (storageIn m pool ws)
   pub rest : RestFree (used + j) (recordsIn (m .segmentBlocks) ws)
   pub written : take first words ≡ map pointerWord pointers
-  pub left : placeAll withBlanks (done (record { shelf = shelfIn m pool ws; pointers = pointers })) (segmentsFrom (m .blockBytes) (m .segmentBlocks) image from (n - j)) ≡ placedIn m image pool₀ ws₀
-  pub back : undoUpto m placed j (shelfIn m pool ws) ≡ shelfIn m pool₀ ws₀
+  pub left : placeAll withBlanks (done (record { storage = storageIn m pool ws; pointers = pointers })) (segmentsFrom (m .blockBytes) (m .segmentBlocks) image from (n - j)) ≡ placedIn m image pool₀ ws₀
+  pub back : undoUpto m placed j (storageIn m pool ws) ≡ storageIn m pool₀ ws₀
   pub samePool : length pool ≡ length pool₀
   pub sameTable : length ws ≡ length ws₀
   pub sameFree : length free ≡ length free₀
@@ -102,7 +102,7 @@ pub record Along (m : Measures) (image pool₀ ws₀ : List ℕ) (free₀ : List
   pub sameWords : length words ≡ length words₀
 
 pub along-start : (m : Measures) (image pool ws : List ℕ) (free : List Bool) (placed words : List ℕ) (n used : ℕ) → n ≡ segmentsIn m image → Stored m pool ws → Countable 2147483648 (recordsIn (m .segmentBlocks) ws)
-    → free ≡ freeCells (shelfIn m pool ws) → RestFree used (recordsIn (m .segmentBlocks) ws) → Along m image pool ws free placed words n used pool ws free placed words 0 0 0
+    → free ≡ freeCells (storageIn m pool ws) → RestFree used (recordsIn (m .segmentBlocks) ws) → Along m image pool ws free placed words n used pool ws free placed words 0 0 0
 unfolding undoUpto imageSegments
 along-start m image pool ws free placed words n used e st k c r = record {
   within = omega arith;
@@ -126,8 +126,8 @@ along-start m image pool ws free placed words n used e st k c r = record {
 
 module _ {m : Measures} {image pool₀ ws₀ : List ℕ} {free₀ : List Bool} {placed₀ words₀ : List ℕ} {n used : ℕ} {pool ws : List ℕ} {free : List Bool} {placed words : List ℕ} {from first j : ℕ}
     (a : Along m image pool₀ ws₀ free₀ placed₀ words₀ n used pool ws free placed words from first j) where
-  abbrev s : Shelf
-  s = shelfIn m pool ws
+  abbrev s : Storage
+  s = storageIn m pool ws
 
   abbrev k : ℕ
   k = m .segmentBlocks
@@ -146,18 +146,18 @@ module _ {m : Measures} {image pool₀ ws₀ : List ℕ} {free₀ : List Bool} {
 
   module _ (h : j < n) (hp : j < length placed₀) (hw : length words₀ ≡ segmentsIn m image * k) (width : ℕ) (ew : width ≡ k * m .blockBytes) where
     pub along-step : (r i : ℕ) (pool′ ws′ : List ℕ) (free′ : List Bool) (w : List ℕ) → length pool′ ≡ length pool → length ws′ ≡ length ws → length free′ ≡ length free → length w ≡ k
-        → Did m s (placeSegment withBlanks s seg) r i pool ws pool′ ws′ free′ w → r ≡ 0
+        → SegmentResult m s (placeSegment withBlanks s seg) r i pool ws pool′ ws′ free′ w → r ≡ 0
         → Along m image pool₀ ws₀ free₀ placed₀ words₀ n used pool′ ws′ free′ (set placed j i) (take first words ++ (w ++ drop k (drop first words))) (from + width) (first + k) (j + 1)
     unfolding afterSome
     along-step r i pool′ ws′ free′ w np nw nf lw d z = go (placeSegment withBlanks s seg) refl d
       where
-        go : (o : Outcome Placed) → placeSegment withBlanks s seg ≡ o → Did m s o r i pool ws pool′ ws′ free′ w
+        go : (o : Outcome Placed) → placeSegment withBlanks s seg ≡ o → SegmentResult m s o r i pool ws pool′ ws′ free′ w
             → Along m image pool₀ ws₀ free₀ placed₀ words₀ n used pool′ ws′ free′ (set placed j i) (take first words ++ (w ++ drop k (drop first words))) (from + width) (first + k) (j + 1)
         go (refused x) e q = absurd (omega (arith, q .0, q .1))
         go (done p) e q =
-            let f : Done m s p i pool′ ws′ free′ w = q .1 in
-            let b : shelfIn m pool′ ws′ ≡ p .shelf = shelf-read m (a .stored .measured) pool′ ws′ (p .shelf) (f .told) in
-            let br : recordsIn k ws′ ≡ p .shelf .records = sym (records-of m pool′ ws′) ∙ ap (λ (x : Shelf). x .records) b in
+            let f : SegmentDone m s p i pool′ ws′ free′ w = q .1 in
+            let b : storageIn m pool′ ws′ ≡ p .storage = storage-read m (a .stored .measured) pool′ ws′ (p .storage) (f .encodes) in
+            let br : recordsIn k ws′ ≡ p .storage .records = sym (records-of m pool′ ws′) ∙ ap (λ (x : Storage). x .records) b in
             let lo : first + k ≤ length words = along-room h hw in
             record {
               within = omega arith;
@@ -165,15 +165,15 @@ module _ {m : Measures} {image pool₀ ws₀ : List ℕ} {free₀ : List Bool} {
               begins = omega (arith, a .begins, row-next j (k * m .blockBytes));
               starts = omega (arith, a .starts, row-next j k);
               pointers = a .pointers ++ p .pointers;
-              stored = stored-again m pool ws pool′ ws′ (p .shelf) (a .stored) (f .told) (placed-exact s (a .stored .exact) seg p e) np nw;
+              stored = stored-again m pool ws pool′ ws′ (p .storage) (a .stored) (f .encodes) (placed-exact s (a .stored .exact) seg p e) np nw;
               counts =
                   let y : 2147483648 + j + 1 ≡ 2147483648 + (j + 1) = omega arith in
-                  rw br (subst (λ (x : ℕ). Countable x (p .shelf .records)) y (placed-counts (2147483648 + j) s (omega arith) (rw (records-of m pool ws) (a .counts)) seg p e));
+                  rw br (subst (λ (x : ℕ). Countable x (p .storage .records)) y (placed-counts (2147483648 + j) s (omega arith) (rw (records-of m pool ws) (a .counts)) seg p e));
               cells = f .cells ∙ ap freeCells (sym b);
               rest = rw br (λ x l y. rest-after s seg (used + j) (rw (records-of m pool ws) (a .rest)) p e x (omega arith) y);
               written = words-more words w first k lo lw ∙ ap₂ (λ (x y : List ℕ). x ++ y) (a .written) (f .pointers) ∙ sym (map-append pointerWord (a .pointers) (p .pointers));
               left = rw (b, ew) (rw e at (step-left h));
-              back = rw b (upto-more m placed j i (omega (arith, a .samePlaced)) s (p .shelf) (f .undo) ∙ a .back);
+              back = rw b (upto-more m placed j i (omega (arith, a .samePlaced)) s (p .storage) (f .undo) ∙ a .back);
               samePool = np ∙ a .samePool;
               sameTable = nw ∙ a .sameTable;
               sameFree = nf ∙ a .sameFree;
@@ -182,32 +182,32 @@ module _ {m : Measures} {image pool₀ ws₀ : List ℕ} {free₀ : List Bool} {
             }
 
   -- refused: the buffers are as they were before this segment
-  pub along-stop : j < n → (r i : ℕ) (pool′ ws′ : List ℕ) (free′ : List Bool) (w : List ℕ) → Did m s (placeSegment withBlanks s seg) r i pool ws pool′ ws′ free′ w → (r ≡ 0 → ⊥)
+  pub along-stop : j < n → (r i : ℕ) (pool′ ws′ : List ℕ) (free′ : List Bool) (w : List ℕ) → SegmentResult m s (placeSegment withBlanks s seg) r i pool ws pool′ ws′ free′ w → (r ≡ 0 → ⊥)
       → (pool′ ≡ pool) × (ws′ ≡ ws) × (placedIn m image pool₀ ws₀ ≡ refused r)
   unfolding afterSome
   along-stop h r i pool′ ws′ free′ w d z = go (placeSegment withBlanks s seg) refl d
     where
-      go : (o : Outcome Placed) → placeSegment withBlanks s seg ≡ o → Did m s o r i pool ws pool′ ws′ free′ w → (pool′ ≡ pool) × (ws′ ≡ ws) × (placedIn m image pool₀ ws₀ ≡ refused r)
+      go : (o : Outcome Placed) → placeSegment withBlanks s seg ≡ o → SegmentResult m s o r i pool ws pool′ ws′ free′ w → (pool′ ≡ pool) × (ws′ ≡ ws) × (placedIn m image pool₀ ws₀ ≡ refused r)
       go (refused x) e q =
           (q .2, q .3, sym (rw e at (step-left h)) ∙ all-refused x (segmentsFrom (m .blockBytes) k image (from + k * m .blockBytes) (n - (j + 1))) ∙ ap {B = Outcome Placed} (λ (y : ℕ). refused y) (sym (q .0)))
       go (done p) e q = absurd (z (q .0))
 
   -- and those before it are taken back
   pub along-undone : Stored m pool₀ ws₀ → (r : ℕ) (pool′ ws′ pool″ ws″ words′ : List ℕ) → pool′ ≡ pool → ws′ ≡ ws → placedIn m image pool₀ ws₀ ≡ refused r
-      → Told m pool″ ws″ (undoUpto m placed j (shelfIn m pool′ ws′)) → DidAll m image (placedIn m image pool₀ ws₀) r pool₀ ws₀ pool″ ws″ placed words′
+      → Encodes m pool″ ws″ (undoUpto m placed j (storageIn m pool′ ws′)) → PlaceResult m image (placedIn m image pool₀ ws₀) r pool₀ ws₀ pool″ ws″ placed words′
   along-undone st r pool′ ws′ pool″ ws″ words′ ep ew f t =
-      let d : Told m pool″ ws″ (shelfIn m pool₀ ws₀) = rw (ep, ew, a .back) at t in
-      rw f (refl, d .cells .joins ∙ sym (st .told .cells .joins), d .records .words ∙ sym (st .told .records .words))
+      let d : Encodes m pool″ ws″ (storageIn m pool₀ ws₀) = rw (ep, ew, a .back) at t in
+      rw f (refl, d .cells .joins ∙ sym (st .encodes .cells .joins), d .records .words ∙ sym (st .encodes .records .words))
 
-  pub along-end : j ≡ n → n ≤ 256 → length words₀ ≡ segmentsIn m image * k → DidAll m image (placedIn m image pool₀ ws₀) 0 pool₀ ws₀ pool ws placed words
+  pub along-end : j ≡ n → n ≤ 256 → length words₀ ≡ segmentsIn m image * k → PlaceResult m image (placedIn m image pool₀ ws₀) 0 pool₀ ws₀ pool ws placed words
   unfolding segmentsFrom placeAll
   along-end e few hw =
       let z : n - j ≡ 0 = omega arith in
-      let f : done (record { shelf = s; pointers = a .pointers }) ≡ placedIn m image pool₀ ws₀ = rw z at (a .left) in
+      let f : done (record { storage = s; pointers = a .pointers }) ≡ placedIn m image pool₀ ws₀ = rw z at (a .left) in
       rw (← f) (
         refl,
         record {
-          told = a .stored .told;
+          encodes = a .stored .encodes;
           pointers = sym (take-all first words (omega (arith, a .starts, a .sameWords, ap (λ (x : ℕ). x * k) (e ∙ a .all)))) ∙ a .written;
           counts = rw (records-of m pool ws) (counts-wider _ _ (a .counts) 2147483904 (omega (arith, e, few)));
           back = ap (λ (x : ℕ). undoUpto m placed x s) (sym (e ∙ a .all)) ∙ a .back;

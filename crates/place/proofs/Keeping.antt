@@ -11,17 +11,17 @@ use Rattle.lists.proofs.Tests.{by-test}
 use Rattle.model.specs.Image.{isBare, withBlanks}
 use Rattle.model.specs.Place.{Placed, newPositions, oneMore, placeSegment, share, stored, write}
 use Rattle.model.specs.Records.{countOf, isFree, isHeld}
-use Rattle.model.specs.State.{Block, Position, Segment, Shelf, done, held, nullPosition, blankPosition, removed}
+use Rattle.model.specs.State.{Block, Position, Segment, Storage, done, held, nullPosition, blankPosition, removed}
 use Rattle.laws.proofs.Bare.{by-bare-position}
 use Rattle.laws.proofs.Place.{share-exact, write-exact}
 use Rattle.laws.proofs.Segments.{IfDone, run-found, segment-cases}
-use Rattle.laws.specs.Shelves.{Exact}
-use Rattle.shelf.specs.Stored.{Countable}
+use Rattle.laws.specs.Storage.{Exact}
+use Rattle.storage.specs.Stored.{Countable}
 
-pub placed-exact : (s : Shelf) → Exact s → (seg : List Block) (p : Placed) → placeSegment withBlanks s seg ≡ done p → Exact (p .shelf)
+pub placed-exact : (s : Storage) → Exact s → (seg : List Block) (p : Placed) → placeSegment withBlanks s seg ≡ done p → Exact (p .storage)
 placed-exact s x seg p e =
-    subst (IfDone (λ (q : Placed). Exact (q .shelf))) e
-    (segment-cases withBlanks (λ q. Exact (q .shelf)) s seg (λ z. x) (λ ne k f. share-exact withBlanks s x seg k)
+    subst (IfDone (λ (q : Placed). Exact (q .storage))) e
+    (segment-cases withBlanks (λ q. Exact (q .storage)) s seg (λ z. x) (λ ne k f. share-exact withBlanks s x seg k)
     (λ ne k f run r. let (h, fr) = first-found [] isFree (s .records) k f in write-exact withBlanks s x seg k h fr run (run-found s (length (stored withBlanks seg)) run r)))
 
 -- ---- counts
@@ -78,10 +78,10 @@ module _ (b : ℕ) (segs : List Segment) (c : Countable b segs) where
       set-any (Counted (b + 1)) [] segs k seg n (λ j. record { some = c .some j; below = λ i. omega (arith, c .below j i) }) in
       record { some = λ j. all j .some; below = λ j. all j .below }
 
-pub placed-counts : (b : ℕ) (s : Shelf) → 1 < b → Countable b (s .records) → (seg : List Block) (p : Placed) → placeSegment withBlanks s seg ≡ done p → Countable (b + 1) (p .shelf .records)
+pub placed-counts : (b : ℕ) (s : Storage) → 1 < b → Countable b (s .records) → (seg : List Block) (p : Placed) → placeSegment withBlanks s seg ≡ done p → Countable (b + 1) (p .storage .records)
 unfolding share write
 placed-counts b s h c seg p e =
-    subst (IfDone (λ (q : Placed). Countable (b + 1) (q .shelf .records))) e
-    (segment-cases withBlanks (λ q. Countable (b + 1) (q .shelf .records)) s seg (λ z. counts-wider b (s .records) c (b + 1) (omega arith))
+    subst (IfDone (λ (q : Placed). Countable (b + 1) (q .storage .records))) e
+    (segment-cases withBlanks (λ q. Countable (b + 1) (q .storage .records)) s seg (λ z. counts-wider b (s .records) c (b + 1) (omega arith))
     (λ ne k f. counts-set b (s .records) c k (map oneMore (getD (s .records) k [])) (more-counted b (getD (s .records) k []) (one b (s .records) c k)))
     (λ ne k f run r. counts-set b (s .records) c k (newPositions withBlanks (run .start) seg) (new-counted (b + 1) (run .start) seg (omega arith))))

@@ -1,4 +1,4 @@
--- All cells marked free, then those that are named taken.
+-- All cells marked free, then those that are named withoutCells.
 use mathlib.Core.Path.{_∙_, _≡_, ap}
 use mathlib.Core.Bool.{Bool, true}
 use mathlib.Core.List.{List}
@@ -8,9 +8,9 @@ use Rattle.lists.proofs.Slices.{take-replicate}
 use Rattle.model.specs.Measures.{Measures}
 use Rattle.model.specs.Records.{namedCells}
 use Rattle.model.specs.Runs.{freeCells}
-use Rattle.model.specs.Table.{cellsIn, recordsIn, shelfIn}
-use Rattle.place_seek.specs.Seek.{taken}
-use Rattle.place_seek.proofs.Free.{free-start}
+use Rattle.model.specs.Table.{cellsIn, recordsIn, storageIn}
+use Rattle.place_free.specs.Free.{withoutCells}
+use Rattle.place_free.proofs.Free.{free-start}
 
 pub marked-length : (n : ℕ) (free : List Bool) → free ≡ replicate n true → length free ≡ n
 marked-length n free e = ap length e ∙ length-replicate n true
@@ -19,6 +19,6 @@ pub marked-part : (m n : ℕ) (free : List Bool) → m ≤ n → free ≡ replic
 marked-part m n free h e = ap (take m) e ∙ take-replicate m n true h
 
 pub marked-free : (m : Measures) (pool ws : List ℕ) (free free′ : List Bool) → free ≡ replicate (length (cellsIn (m .blockBytes) pool)) true
-    → free′ ≡ taken (namedCells (recordsIn (m .segmentBlocks) ws)) free → free′ ≡ freeCells (shelfIn m pool ws)
-unfolding shelfIn
-marked-free m pool ws free free′ e f = f ∙ ap (taken (namedCells (recordsIn (m .segmentBlocks) ws))) e ∙ free-start (shelfIn m pool ws)
+    → free′ ≡ withoutCells (namedCells (recordsIn (m .segmentBlocks) ws)) free → free′ ≡ freeCells (storageIn m pool ws)
+unfolding storageIn
+marked-free m pool ws free free′ e f = f ∙ ap (withoutCells (namedCells (recordsIn (m .segmentBlocks) ws))) e ∙ free-start (storageIn m pool ws)

@@ -14,9 +14,9 @@ use Rattle.lists.proofs.First.{Lowest, first-lowest}
 use Rattle.model.specs.Image.{withBlanks}
 use Rattle.model.specs.Place.{Placed, newPositions, oneMore, placeSegment, share, write}
 use Rattle.model.specs.Records.{isFree}
-use Rattle.model.specs.State.{Block, Segment, Shelf, done, held, nullPosition, blankPosition, removed}
+use Rattle.model.specs.State.{Block, Segment, Storage, done, held, nullPosition, blankPosition, removed}
 use Rattle.laws.proofs.Segments.{IfDone, segment-cases}
-use Rattle.place_seek.specs.Seek.{RestFree}
+use Rattle.place_free.specs.Free.{RestFree}
 
 free-more : (ps : Segment) → isFree ps ≡ true → isFree (map oneMore ps) ≡ true
 unfolding isFree every
@@ -52,10 +52,10 @@ module _ (u : ℕ) (rs : List Segment) (r : RestFree u rs) where
       go true q = absurd (false≢true (sym (w .4 u (omega (arith, ltb-true u k q, w .1))) ∙ r u (omega arith) (omega (arith, ltb-true u k q, w .1, w .2))))
       go false q = omega (arith, ltb-false u k q)
 
-pub rest-after : (s : Shelf) (seg : List Block) (u : ℕ) → RestFree u (s .records) → (p : Placed) → placeSegment withBlanks s seg ≡ done p → RestFree (u + 1) (p .shelf .records)
+pub rest-after : (s : Storage) (seg : List Block) (u : ℕ) → RestFree u (s .records) → (p : Placed) → placeSegment withBlanks s seg ≡ done p → RestFree (u + 1) (p .storage .records)
 unfolding share write
 rest-after s seg u r p e =
-    subst (IfDone (λ (q : Placed). RestFree (u + 1) (q .shelf .records))) e
-    (segment-cases withBlanks (λ q. RestFree (u + 1) (q .shelf .records)) s seg (λ z j h l. r j (omega arith) l)
+    subst (IfDone (λ (q : Placed). RestFree (u + 1) (q .storage .records))) e
+    (segment-cases withBlanks (λ q. RestFree (u + 1) (q .storage .records)) s seg (λ z j h l. r j (omega arith) l)
     (λ ne k f. rest-set u (s .records) r k (map oneMore (getD (s .records) k [])) (λ h l. free-more (getD (s .records) k []) (r k (omega arith) l)))
     (λ ne k f run q. rest-set u (s .records) r k (newPositions withBlanks (run .start) seg) (λ h l. absurd (omega (arith, lowest-free u (s .records) r k f)))))

@@ -3,9 +3,9 @@ ghost use mathlib.Core.Path.{_≡_};
 ghost use mathlib.Core.Bool.{true};
 ghost use lib.ListN.{length, replicate};
 ghost use Rattle.model.specs.Runs.{freeCells};
-ghost use Rattle.model.specs.Table.{cellsIn, shelfIn};
+ghost use Rattle.model.specs.Table.{cellsIn, storageIn};
 ghost use Rattle.numbers.specs.Measures.{measuresOf};
-ghost use Rattle.place.specs.All.{AllReady, DidAll, placedIn};
+ghost use Rattle.place.specs.All.{PlacePre, PlaceResult, placedIn};
 use numbers::Measures;
 
 // With the free cells known. Each segment takes at most one record more, so the search for an equal one need not look at all.
@@ -18,19 +18,19 @@ fn place_segments(
     words: &mut [u32],
     m: Measures,
 ) -> u32
-    requires { ⌜ AllReady (measuresOf m) (now image) (now pool) (now records) (now words) × (now free ≡ freeCells (shelfIn (measuresOf m) (now pool) (now records))) × (length (now placed) ≡ 256) ⌝ }
-    ensures { λ r. ⌜ DidAll (measuresOf m) (now (image .entry)) (placedIn (measuresOf m) (now (image .entry)) (now (pool .entry)) (now (records .entry))) r (now (pool .entry)) (now (records .entry)) (now (pool .exit)) (now (records .exit)) (now (placed .exit)) (now (words .exit)) ⌝ }
+    requires { ⌜ PlacePre (measuresOf m) (now image) (now pool) (now records) (now words) × (now free ≡ freeCells (storageIn (measuresOf m) (now pool) (now records))) × (length (now placed) ≡ 256) ⌝ }
+    ensures { λ r. ⌜ PlaceResult (measuresOf m) (now (image .entry)) (placedIn (measuresOf m) (now (image .entry)) (now (pool .entry)) (now (records .entry))) r (now (pool .entry)) (now (records .entry)) (now (pool .exit)) (now (records .exit)) (now (placed .exit)) (now (words .exit)) ⌝ }
 {
     let width = m.segment_bytes();
     let n = m.segments(image.len());
-    let used = place_seek::used_records(records, m.blocks);
+    let used = place_free::used_records(records, m.blocks);
     let mut from: usize = 0;
     let mut first: usize = 0;
     let mut j: usize = 0;
     while j < n {
         let end = first + m.blocks;
         let most = used + j;
-        let p = place_one::place_segment(
+        let p = place_segment::place_segment(
             image,
             from,
             pool,
@@ -64,10 +64,10 @@ fn place_marked(
     words: &mut [u32],
     m: Measures,
 ) -> u32
-    requires { ⌜ AllReady (measuresOf m) (now image) (now pool) (now records) (now words) × (now free ≡ replicate (length (cellsIn (m .bytes) (now pool))) true) × (length (now placed) ≡ 256) ⌝ }
-    ensures { λ r. ⌜ DidAll (measuresOf m) (now (image .entry)) (placedIn (measuresOf m) (now (image .entry)) (now (pool .entry)) (now (records .entry))) r (now (pool .entry)) (now (records .entry)) (now (pool .exit)) (now (records .exit)) (now (placed .exit)) (now (words .exit)) ⌝ }
+    requires { ⌜ PlacePre (measuresOf m) (now image) (now pool) (now records) (now words) × (now free ≡ replicate (length (cellsIn (m .bytes) (now pool))) true) × (length (now placed) ≡ 256) ⌝ }
+    ensures { λ r. ⌜ PlaceResult (measuresOf m) (now (image .entry)) (placedIn (measuresOf m) (now (image .entry)) (now (pool .entry)) (now (records .entry))) r (now (pool .entry)) (now (records .entry)) (now (pool .exit)) (now (records .exit)) (now (placed .exit)) (now (words .exit)) ⌝ }
 {
-    place_seek::take_all(records, free, m.blocks);
+    place_free::take_all(records, free, m.blocks);
     place_segments(image, pool, records, free, placed, words, m)
 }
 
@@ -81,8 +81,8 @@ fn place_within(
     words: &mut [u32],
     m: Measures,
 ) -> u32
-    requires { ⌜ AllReady (measuresOf m) (now image) (now pool) (now records) (now words) × (now free ≡ replicate 32768 true) × (length (now placed) ≡ 256) ⌝ }
-    ensures { λ r. ⌜ DidAll (measuresOf m) (now (image .entry)) (placedIn (measuresOf m) (now (image .entry)) (now (pool .entry)) (now (records .entry))) r (now (pool .entry)) (now (records .entry)) (now (pool .exit)) (now (records .exit)) (now (placed .exit)) (now (words .exit)) ⌝ }
+    requires { ⌜ PlacePre (measuresOf m) (now image) (now pool) (now records) (now words) × (now free ≡ replicate 32768 true) × (length (now placed) ≡ 256) ⌝ }
+    ensures { λ r. ⌜ PlaceResult (measuresOf m) (now (image .entry)) (placedIn (measuresOf m) (now (image .entry)) (now (pool .entry)) (now (records .entry))) r (now (pool .entry)) (now (records .entry)) (now (pool .exit)) (now (records .exit)) (now (placed .exit)) (now (words .exit)) ⌝ }
 {
     let cells = numbers::parts(pool.len(), m.bytes);
     place_marked(image, pool, records, &mut free[..cells], placed, words, m)
@@ -97,8 +97,8 @@ pub fn place_all(
     words: &mut [u32],
     m: Measures,
 ) -> u32
-    requires { ⌜ AllReady (measuresOf m) (now image) (now pool) (now records) (now words) × (length (now placed) ≡ 256) ⌝ }
-    ensures { λ r. ⌜ DidAll (measuresOf m) (now (image .entry)) (placedIn (measuresOf m) (now (image .entry)) (now (pool .entry)) (now (records .entry))) r (now (pool .entry)) (now (records .entry)) (now (pool .exit)) (now (records .exit)) (now (placed .exit)) (now (words .exit)) ⌝ }
+    requires { ⌜ PlacePre (measuresOf m) (now image) (now pool) (now records) (now words) × (length (now placed) ≡ 256) ⌝ }
+    ensures { λ r. ⌜ PlaceResult (measuresOf m) (now (image .entry)) (placedIn (measuresOf m) (now (image .entry)) (now (pool .entry)) (now (records .entry))) r (now (pool .entry)) (now (records .entry)) (now (pool .exit)) (now (records .exit)) (now (placed .exit)) (now (words .exit)) ⌝ }
 {
     let mut free = [true; 32768];
     place_within(image, pool, records, &mut free, placed, words, m)

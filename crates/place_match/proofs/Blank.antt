@@ -14,7 +14,7 @@ use Rattle.lists.proofs.Tests.{cond-never, every-head}
 use Rattle.model.specs.Image.{blockFrom, blocksFrom, isBare, isBlank, withBlanks}
 use Rattle.model.specs.State.{Block}
 use Rattle.laws.proofs.Image.{length-block}
-use Rattle.place_words.specs.Marks.{blankMark, isErased, mark}
+use Rattle.place_words.specs.Marks.{blankBit, isErased, storedBit}
 
 null-not-blank : (b : Block) → 0 < length b → allZero b ≡ true → isBlank withBlanks b ≡ false
 unfolding isBlank every allZero
@@ -66,14 +66,14 @@ each-some bytes image z at (suc n) = (some-block bytes image at z, each-some byt
 -- ---- a block's marks
 
 module _ (b : Block) where
-  pub null-marks : true ≡ allZero b → (0 ≡ mark b) × (0 ≡ blankMark b)
+  pub null-marks : true ≡ allZero b → (0 ≡ storedBit b) × (0 ≡ blankBit b)
   unfolding isBare
   null-marks e = rw (← e) (refl, refl)
 
-  pub blank-marks : false ≡ allZero b → true ≡ isBlank withBlanks b → (0 ≡ mark b) × (1 ≡ blankMark b)
+  pub blank-marks : false ≡ allZero b → true ≡ isBlank withBlanks b → (0 ≡ storedBit b) × (1 ≡ blankBit b)
   unfolding isBare
   blank-marks e f = rw (← e, ← f) (refl, refl)
 
-  pub stored-marks : false ≡ allZero b → false ≡ isBlank withBlanks b → (1 ≡ mark b) × (0 ≡ blankMark b)
+  pub stored-marks : false ≡ allZero b → false ≡ isBlank withBlanks b → (1 ≡ storedBit b) × (0 ≡ blankBit b)
   unfolding isBare
   stored-marks e f = rw (← e, ← f) (refl, refl)

@@ -16,8 +16,8 @@ use Rattle.model.specs.Place.{stored}
 use Rattle.model.specs.State.{Block}
 use Rattle.model.specs.Table.{cellsIn}
 use Rattle.laws.proofs.Image.{blocks-next}
-use Rattle.shelf.proofs.Inside.{cells-count}
-use Rattle.place_words.specs.Marks.{kept, mark, marks}
+use Rattle.storage.proofs.Inside.{cells-count}
+use Rattle.place_words.specs.Marks.{blockIf, storedBit, storedMask}
 use Rattle.place_words.proofs.Marks.{kept-count, kept-next, marks-div, marks-mod}
 
 -- where the blocks of a segment begin
@@ -38,7 +38,7 @@ unfolding blockFrom
 block-whole bytes image at h =
     sym (fill-all bytes (take bytes (drop at image)) (length-take-le bytes (drop at image) (omega (arith, length-drop at image)))) ∙ fill-take bytes (drop at image)
 
--- ---- marks of any kind
+-- ---- storedMask of any kind
 
 module _ (f : Block → Bool) (bytes : ℕ) (image : List ℕ) where
   -- one block more, at the front
@@ -54,14 +54,14 @@ module _ (f : Block → Bool) (bytes : ℕ) (image : List ℕ) where
   unfolding blocksFrom maskOf
   mask-end at n = let z : n - n ≡ 0 = omega arith in rw z
 
--- ---- the marks of those that are stored
+-- ---- the storedMask of those that are stored
 
 -- of n blocks i are done
-module _ (bytes : ℕ) (image : List ℕ) (n m at i : ℕ) (h : i < n) (e : m ≡ marks (blocksFrom bytes image at (n - i))) where
-  pub bit-first : m % 2 ≡ mark (blockFrom bytes image at)
+module _ (bytes : ℕ) (image : List ℕ) (n m at i : ℕ) (h : i < n) (e : m ≡ storedMask (blocksFrom bytes image at (n - i))) where
+  pub bit-first : m % 2 ≡ storedBit (blockFrom bytes image at)
   bit-first = rw (e, blocks-next bytes image at n i h) (marks-mod (blockFrom bytes image at) _)
 
-  pub bits-rest : m / 2 ≡ marks (blocksFrom bytes image (at + bytes) (n - (i + 1)))
+  pub bits-rest : m / 2 ≡ storedMask (blocksFrom bytes image (at + bytes) (n - (i + 1)))
   bits-rest = rw (e, blocks-next bytes image at n i h) (marks-div (blockFrom bytes image at) _)
 
 -- ---- copies
@@ -69,12 +69,12 @@ module _ (bytes : ℕ) (image : List ℕ) (n m at i : ℕ) (h : i < n) (e : m �
 -- i blocks are copied, and what is left to do gives the whole
 pub record Copied (bytes : ℕ) (image pool₀ : List ℕ) (n : ℕ) (all : List Block) (pool : List ℕ) (m cell at i : ℕ) : Type 0 where
   pub within : i ≤ n
-  pub mask : m ≡ marks (blocksFrom bytes image at (n - i))
+  pub mask : m ≡ storedMask (blocksFrom bytes image at (n - i))
   pub room : cell + length (stored withBlanks (blocksFrom bytes image at (n - i))) ≤ length (cellsIn bytes pool₀)
   pub same : length pool ≡ length pool₀
   pub left : sets (cellsIn bytes pool) cell (stored withBlanks (blocksFrom bytes image at (n - i))) ≡ all
 
-pub copied-start : (bytes : ℕ) (image pool : List ℕ) (n m cell at : ℕ) → m ≡ marks (blocksFrom bytes image at n) → cell + length (stored withBlanks (blocksFrom bytes image at n)) ≤ length (cellsIn bytes pool)
+pub copied-start : (bytes : ℕ) (image pool : List ℕ) (n m cell at : ℕ) → m ≡ storedMask (blocksFrom bytes image at n) → cell + length (stored withBlanks (blocksFrom bytes image at n)) ≤ length (cellsIn bytes pool)
     → Copied bytes image pool n (sets (cellsIn bytes pool) cell (stored withBlanks (blocksFrom bytes image at n))) pool m cell at 0
 copied-start bytes image pool n m cell at e r =
     let z : n - 0 ≡ n = omega arith in
@@ -84,7 +84,7 @@ module _ {bytes : ℕ} {image pool₀ : List ℕ} {n : ℕ} {all : List Block} {
   abbrev b : Block
   b = blockFrom bytes image at
 
-  copied-bit : m % 2 ≡ mark b
+  copied-bit : m % 2 ≡ storedBit b
   copied-bit = bit-first bytes image n m at i h (p .mask)
 
   -- the stored blocks that are left
@@ -94,7 +94,7 @@ module _ {bytes : ℕ} {image pool₀ : List ℕ} {n : ℕ} {all : List Block} {
   pub copied-room : 0 < bytes → m % 2 ≡ 1 → cell * bytes + bytes ≤ length pool
   copied-room z e = omega (arith, p .same, row-in (length pool₀) bytes z cell (omega (arith, p .room, copied-count, cells-count bytes pool₀)))
 
-  pub copied-step : (next : List ℕ) → length next ≡ length pool → cellsIn bytes next ≡ sets (cellsIn bytes pool) cell (kept (m % 2) b)
+  pub copied-step : (next : List ℕ) → length next ≡ length pool → cellsIn bytes next ≡ sets (cellsIn bytes pool) cell (blockIf (m % 2) b)
       → Copied bytes image pool₀ n all next (m / 2) (cell + m % 2) (at + bytes) (i + 1)
   copied-step next l e = record {
     within = omega arith;

@@ -20,16 +20,16 @@ use Rattle.lists.proofs.Tests.{cond-never, cond-true}
 use Rattle.lists.proofs.Walks.{mask-after, mask-here}
 use Rattle.model.specs.Image.{blockFrom, blocksFrom, isBare, isBlank, withBlanks}
 use Rattle.model.specs.Records.{cellAt, cellOf, equals, holds, isBlankPosition, isFree, isHeld, isRemoved}
-use Rattle.model.specs.State.{Block, Position, Segment, Shelf, held, nullPosition, blankPosition, removed}
+use Rattle.model.specs.State.{Block, Position, Segment, Storage, held, nullPosition, blankPosition, removed}
 use Rattle.model.specs.Table.{cellsIn, recordToWords}
 use Rattle.laws.proofs.Bare.{blank-bare, null-bare}
 use Rattle.laws.proofs.Image.{blocks-next}
-use Rattle.shelf.proofs.Inside.{cell-bytes}
-use Rattle.place_words.specs.Marks.{blanks, isErased, mark, marks}
-use Rattle.place_seek.specs.Seek.{RestFree}
-use Rattle.shelf.proofs.Free.{free-masks}
+use Rattle.storage.proofs.Inside.{cell-bytes}
+use Rattle.place_words.specs.Marks.{blankMask, isErased, storedBit, storedMask}
+use Rattle.place_free.specs.Free.{RestFree}
+use Rattle.storage.proofs.Free.{free-masks}
 use Rattle.place_words.proofs.Marks.{blanks-div, blanks-mod, mark-bit}
-use Rattle.shelf.proofs.Row.{blank-word, cell-word, held-word, removed-word}
+use Rattle.storage.proofs.Row.{blank-word, cell-word, held-word, removed-word}
 use Rattle.place_match.proofs.Blank.{bare-full, bare-not, erased-is}
 
 -- ---- what is left to compare
@@ -47,14 +47,14 @@ bit-same false true e = absurd (omega arith)
 bit-same false false e = refl
 
 -- i positions are equal: what is left decides
-pub record EqualTo (s : Shelf) (bytes : ℕ) (image : List ℕ) (from n : ℕ) (seg : Segment) (h at i : ℕ) : Type 0 where
+pub record EqualTo (s : Storage) (bytes : ℕ) (image : List ℕ) (from n : ℕ) (seg : Segment) (h at i : ℕ) : Type 0 where
   pub mask : h ≡ maskOf isHeld (drop i seg)
   pub whole : maskOf isRemoved seg ≡ 0
-  pub blank : maskOf isBlankPosition (drop i seg) ≡ blanks (blocksFrom bytes image at (n - i))
+  pub blank : maskOf isBlankPosition (drop i seg) ≡ blankMask (blocksFrom bytes image at (n - i))
   pub left : equals withBlanks s (blocksFrom bytes image at (n - i)) (drop i seg) ≡ equals withBlanks s (blocksFrom bytes image from n) seg
 
-pub equal-start : (s : Shelf) (bytes : ℕ) (image : List ℕ) (from n : ℕ) (seg : Segment) (row : List ℕ) → row ≡ recordToWords seg → getD row 1 0 ≡ 0
-    → getD row 2 0 ≡ blanks (blocksFrom bytes image from n) → EqualTo s bytes image from n seg (getD row 0 0) from 0
+pub equal-start : (s : Storage) (bytes : ℕ) (image : List ℕ) (from n : ℕ) (seg : Segment) (row : List ℕ) → row ≡ recordToWords seg → getD row 1 0 ≡ 0
+    → getD row 2 0 ≡ blankMask (blocksFrom bytes image from n) → EqualTo s bytes image from n seg (getD row 0 0) from 0
 equal-start s bytes image from n seg row e z b = record {
   mask = ap (λ (l : List ℕ). getD l 0 0) e ∙ held-word seg;
   whole = sym (ap (λ (l : List ℕ). getD l 1 0) e ∙ removed-word seg) ∙ z;
@@ -62,7 +62,7 @@ equal-start s bytes image from n seg row e z b = record {
   left = let y : n - 0 ≡ n = omega arith in rw y;
 }
 
-module _ {s : Shelf} {bytes : ℕ} {image : List ℕ} {from n : ℕ} {seg : Segment} {h at i : ℕ} (t : EqualTo s bytes image from n seg h at i) (sz : length seg ≡ n) where
+module _ {s : Storage} {bytes : ℕ} {image : List ℕ} {from n : ℕ} {seg : Segment} {h at i : ℕ} (t : EqualTo s bytes image from n seg h at i) (sz : length seg ≡ n) where
   module _ (l : i < n) (row : List ℕ) (e : row ≡ recordToWords seg) where
     abbrev p : Position
     p = getD seg i nullPosition
@@ -71,7 +71,7 @@ module _ {s : Shelf} {bytes : ℕ} {image : List ℕ} {from n : ℕ} {seg : Segm
     same-blank : isBlankPosition p ≡ isErased (blockFrom bytes image at)
     same-blank =
         bit-same _ _
-        (sym (mask-here isBlankPosition seg i nullPosition (omega arith)) ∙ ap (λ (m : ℕ). m % 2) (t .blank ∙ ap blanks (blocks-next bytes image at n i l)) ∙ blanks-mod (blockFrom bytes image at) _)
+        (sym (mask-here isBlankPosition seg i nullPosition (omega arith)) ∙ ap (λ (m : ℕ). m % 2) (t .blank ∙ ap blankMask (blocks-next bytes image at n i l)) ∙ blanks-mod (blockFrom bytes image at) _)
 
     -- what is answered of position i, from its three bits and its cell word
     pub equal-here : (r : Bool) → ((p : Position) → h % 2 ≡ cond (isHeld p) 1 0 → getD row (3 + i) 0 ≡ cellOf p → isRemoved p ≡ false → isBlankPosition p ≡ isErased (blockFrom bytes image at) → r ≡ holds withBlanks s p (blockFrom bytes image at))
@@ -89,7 +89,7 @@ module _ {s : Shelf} {bytes : ℕ} {image : List ℕ} {from n : ℕ} {seg : Segm
       whole = t .whole;
       blank =
           sym (mask-after isBlankPosition seg i nullPosition (omega arith))
-          ∙ ap (λ (m : ℕ). m / 2) (t .blank ∙ ap blanks (blocks-next bytes image at n i l)) ∙ blanks-div (blockFrom bytes image at) _;
+          ∙ ap (λ (m : ℕ). m / 2) (t .blank ∙ ap blankMask (blocks-next bytes image at n i l)) ∙ blanks-div (blockFrom bytes image at) _;
       left = sym (step ∙ rw (← q)) ∙ t .left;
     }
 
@@ -108,7 +108,7 @@ not-held : (e t : Bool) → cond e false t ≡ true → e ≡ false
 not-held true t h = absurd (false≢true h)
 not-held false t h = refl
 
-module _ (s : Shelf) (b : Block) (h c : ℕ) (z : 0 < length b) where
+module _ (s : Storage) (b : Block) (h c : ℕ) (z : 0 < length b) where
   pub holds-held : (p : Position) → h ≡ cond (isHeld p) 1 0 → c ≡ cellOf p → isBlankPosition p ≡ isErased b → h ≡ 1 → holds withBlanks s p b ≡ sameNumbers (cellAt s c) b
   holds-held nullPosition e q k o = absurd (omega arith)
   holds-held blankPosition e q k o = absurd (omega arith)
@@ -122,11 +122,11 @@ module _ (s : Shelf) (b : Block) (h c : ℕ) (z : 0 < length b) where
   holds-bare removed e q k o = absurd (false≢true (sym q))
 
 -- a cell's block, from its bytes
-pub cell-same : (s : Shelf) (bytes : ℕ) (pool : List ℕ) (c : ℕ) → s .cells ≡ cellsIn bytes pool → 0 < bytes → c * bytes + bytes ≤ length pool → cellAt s c ≡ take bytes (drop (c * bytes) pool)
+pub cell-same : (s : Storage) (bytes : ℕ) (pool : List ℕ) (c : ℕ) → s .cells ≡ cellsIn bytes pool → 0 < bytes → c * bytes + bytes ≤ length pool → cellAt s c ≡ take bytes (drop (c * bytes) pool)
 unfolding cellAt
 cell-same s bytes pool c e z room = ap (λ (l : List Block). getD l c []) e ∙ cell-bytes bytes pool c z room
 
-pub bare-bit : (b : Block) → eqb (mark b) 0 ≡ isBare withBlanks b
+pub bare-bit : (b : Block) → eqb (storedBit b) 0 ≡ isBare withBlanks b
 bare-bit b = go (isBare withBlanks b)
   where
     go : (t : Bool) → eqb (cond (not t) 1 0) 0 ≡ t
@@ -136,7 +136,7 @@ bare-bit b = go (isBare withBlanks b)
 -- ---- the first byte
 
 -- a stored block begins within the image
-pub mark-inside : (bytes : ℕ) (image : List ℕ) (at : ℕ) → mark (blockFrom bytes image at) ≡ 1 → at < length image
+pub mark-inside : (bytes : ℕ) (image : List ℕ) (at : ℕ) → storedBit (blockFrom bytes image at) ≡ 1 → at < length image
 mark-inside bytes image at e = go (leb (length image) at) refl
   where
     past : length image ≤ at → allZero (blockFrom bytes image at) ≡ true
@@ -151,16 +151,16 @@ unfolding blockFrom
 first-of zero image at z h = absurd (omega arith)
 first-of (suc b) image at z h = rw (drop-next image at 0 h) (unfold fill in refl)
 
--- a block whose mark is set is neither null nor blank
-stored-is : (b : Block) → mark b ≡ 1 → (allZero b ≡ false) × (isBlank withBlanks b ≡ false)
+-- a block whose storedBit is set is neither null nor blank
+stored-is : (b : Block) → storedBit b ≡ 1 → (allZero b ≡ false) × (isBlank withBlanks b ≡ false)
 stored-is b k = bare-full b (go (isBare withBlanks b) k)
   where
     go : (t : Bool) → _≡_ {A = ℕ} (cond (not t) 1 0) 1 → t ≡ false
     go true x = absurd (omega (arith, x))
     go false x = refl
 
-pub first-apart : (bytes : ℕ) (image : List ℕ) (from : ℕ) (pool : List ℕ) (c : ℕ) → 0 < bytes → c * bytes + bytes ≤ length pool → mark (blockFrom bytes image from) ≡ 1
-    → (getD pool (c * bytes) 0 ≡ getD image from 0 → ⊥) → (s : Shelf) (p : Position) → s .cells ≡ cellsIn bytes pool → c ≡ cellOf p → false ≡ holds withBlanks s p (blockFrom bytes image from)
+pub first-apart : (bytes : ℕ) (image : List ℕ) (from : ℕ) (pool : List ℕ) (c : ℕ) → 0 < bytes → c * bytes + bytes ≤ length pool → storedBit (blockFrom bytes image from) ≡ 1
+    → (getD pool (c * bytes) 0 ≡ getD image from 0 → ⊥) → (s : Storage) (p : Position) → s .cells ≡ cellsIn bytes pool → c ≡ cellOf p → false ≡ holds withBlanks s p (blockFrom bytes image from)
 first-apart bytes image from pool c z room k d s nullPosition e q = sym (stored-is (blockFrom bytes image from) k .0)
 first-apart bytes image from pool c z room k d s blankPosition e q = sym (stored-is (blockFrom bytes image from) k .1)
 first-apart bytes image from pool c z room k d s (held b n) e q = go (sameNumbers (cellAt s b) (blockFrom bytes image from)) refl
@@ -180,13 +180,13 @@ first-apart bytes image from pool c z room k d s removed e q = refl
 
 -- ---- a record that equals a segment has lost no position, holds each block that is stored, and is blank just where the segment is
 
-module _ (shelf : Shelf) where
-  equal-head : (b : Block) (bs : List Block) (p : Position) (ps : Segment) → equals withBlanks shelf (b ∷ bs) (p ∷ ps) ≡ true
-      → (holds withBlanks shelf p b ≡ true) × (equals withBlanks shelf bs ps ≡ true)
+module _ (storage : Storage) where
+  equal-head : (b : Block) (bs : List Block) (p : Position) (ps : Segment) → equals withBlanks storage (b ∷ bs) (p ∷ ps) ≡ true
+      → (holds withBlanks storage p b ≡ true) × (equals withBlanks storage bs ps ≡ true)
   unfolding equals
-  equal-head b bs p ps e = cond-true (holds withBlanks shelf p b) (equals withBlanks shelf bs ps) e
+  equal-head b bs p ps e = cond-true (holds withBlanks storage p b) (equals withBlanks storage bs ps) e
 
-  equal-whole : (bs : List Block) (ps : Segment) → equals withBlanks shelf bs ps ≡ true → maskOf isRemoved ps ≡ 0
+  equal-whole : (bs : List Block) (ps : Segment) → equals withBlanks storage bs ps ≡ true → maskOf isRemoved ps ≡ 0
   unfolding equals maskOf
   equal-whole [] [] e = refl
   equal-whole [] (p ∷ ps) e = absurd (false≢true e)
@@ -196,7 +196,7 @@ module _ (shelf : Shelf) where
   equal-whole (b ∷ bs) (held c n ∷ ps) e = let r = equal-whole bs ps (equal-head b bs (held c n) ps e .1) in omega arith
   equal-whole (b ∷ bs) (removed ∷ ps) e = absurd (false≢true (equal-head b bs removed ps e .0))
 
-  equal-more : (bs : List Block) (ps : Segment) → equals withBlanks shelf bs ps ≡ true → marks bs ≤ maskOf isHeld ps
+  equal-more : (bs : List Block) (ps : Segment) → equals withBlanks storage bs ps ≡ true → storedMask bs ≤ maskOf isHeld ps
   unfolding equals maskOf
   equal-more [] [] e = zero-le
   equal-more [] (p ∷ ps) e = absurd (false≢true e)
@@ -214,7 +214,7 @@ module _ (shelf : Shelf) where
       omega (arith, mark-bit b)
   equal-more (b ∷ bs) (removed ∷ ps) e = absurd (false≢true (equal-head b bs removed ps e .0))
 
-  equal-blank : (bs : List Block) (ps : Segment) → Each (λ (b : Block). 0 < length b) bs → equals withBlanks shelf bs ps ≡ true → maskOf isBlankPosition ps ≡ blanks bs
+  equal-blank : (bs : List Block) (ps : Segment) → Each (λ (b : Block). 0 < length b) bs → equals withBlanks storage bs ps ≡ true → maskOf isBlankPosition ps ≡ blankMask bs
   unfolding equals maskOf
   equal-blank [] [] w e = refl
   equal-blank [] (p ∷ ps) w e = absurd (false≢true e)
@@ -223,47 +223,47 @@ module _ (shelf : Shelf) where
       let z = equal-head b bs p ps e in
       ap₂ (λ (t : Bool) (m : ℕ). cond t 1 0 + 2 * m) (go p (z .0)) (equal-blank bs ps (w .1) (z .1))
     where
-      go : (p : Position) → holds withBlanks shelf p b ≡ true → isBlankPosition p ≡ isErased b
+      go : (p : Position) → holds withBlanks storage p b ≡ true → isBlankPosition p ≡ isErased b
       go nullPosition h = rw h
       go blankPosition h = sym (erased-is b (w .0) ∙ h)
-      go (held c n) h = sym (erased-is b (w .0) ∙ not-held (isBlank withBlanks b) (sameNumbers (cellAt shelf c) b) h)
+      go (held c n) h = sym (erased-is b (w .0) ∙ not-held (isBlank withBlanks b) (sameNumbers (cellAt storage c) b) h)
       go removed h = absurd (false≢true h)
 
   module _ (bs : List Block) (seg : Segment) (row : List ℕ) (s : row ≡ recordToWords seg) where
-    unequal : (equals withBlanks shelf bs seg ≡ true → ⊥) → false ≡ equals withBlanks shelf bs seg
-    unequal n = go (equals withBlanks shelf bs seg) refl
+    unequal : (equals withBlanks storage bs seg ≡ true → ⊥) → false ≡ equals withBlanks storage bs seg
+    unequal n = go (equals withBlanks storage bs seg) refl
       where
-        go : (t : Bool) → equals withBlanks shelf bs seg ≡ t → false ≡ t
+        go : (t : Bool) → equals withBlanks storage bs seg ≡ t → false ≡ t
         go true e = absurd (n e)
         go false e = refl
 
-    pub lost : (getD row 1 0 ≡ 0 → ⊥) → false ≡ equals withBlanks shelf bs seg
+    pub lost : (getD row 1 0 ≡ 0 → ⊥) → false ≡ equals withBlanks storage bs seg
     lost n = unequal (λ e. n (ap (λ (l : List ℕ). getD l 1 0) s ∙ removed-word seg ∙ equal-whole bs seg e))
 
-    pub other-blank : Each (λ (b : Block). 0 < length b) bs → (m : ℕ) → m ≡ blanks bs → (getD row 2 0 ≡ m → ⊥) → false ≡ equals withBlanks shelf bs seg
+    pub other-blank : Each (λ (b : Block). 0 < length b) bs → (m : ℕ) → m ≡ blankMask bs → (getD row 2 0 ≡ m → ⊥) → false ≡ equals withBlanks storage bs seg
     other-blank w m q n = unequal (λ e. n (ap (λ (l : List ℕ). getD l 2 0) s ∙ blank-word seg ∙ equal-blank bs seg w e ∙ sym q))
 
-    pub lacking : (m : ℕ) → m ≡ marks bs → getD row 0 0 < m → false ≡ equals withBlanks shelf bs seg
+    pub lacking : (m : ℕ) → m ≡ storedMask bs → getD row 0 0 < m → false ≡ equals withBlanks storage bs seg
     lacking m q l = unequal (λ e. omega (arith, equal-more bs seg e, ap (λ (l : List ℕ). getD l 0 0) s, held-word seg))
 
   -- ---- a free record equals no segment that has a stored block
 
-  module _ (bs : List Block) (n : 0 < marks bs) where
-    unused : (ps : Segment) → isFree ps ≡ true → equals withBlanks shelf bs ps ≡ false
-    unused ps f = go (equals withBlanks shelf bs ps) refl
+  module _ (bs : List Block) (n : 0 < storedMask bs) where
+    unused : (ps : Segment) → isFree ps ≡ true → equals withBlanks storage bs ps ≡ false
+    unused ps f = go (equals withBlanks storage bs ps) refl
       where
-        go : (t : Bool) → equals withBlanks shelf bs ps ≡ t → t ≡ false
+        go : (t : Bool) → equals withBlanks storage bs ps ≡ t → t ≡ false
         go true e = absurd (omega (arith, equal-more bs ps e, free-masks ps f .0))
         go false e = refl
 
-    none-free : (i : ℕ) (rs : List Segment) → RestFree 0 rs → firstFrom (equals withBlanks shelf bs) i rs ≡ none
+    none-free : (i : ℕ) (rs : List Segment) → RestFree 0 rs → firstFrom (equals withBlanks storage bs) i rs ≡ none
     unfolding firstFrom
     none-free i [] r = refl
     none-free i (ps ∷ rs) r =
         rw (unused ps (r 0 (omega arith) (omega arith))) (none-free (suc i) rs (λ j h l. r (suc j) (omega arith) (omega arith)))
 
     -- so the search ends where all others are free
-    pub none-rest : (u i : ℕ) (rs : List Segment) → RestFree u rs → firstFrom (equals withBlanks shelf bs) i (drop u rs) ≡ none
+    pub none-rest : (u i : ℕ) (rs : List Segment) → RestFree u rs → firstFrom (equals withBlanks storage bs) i (drop u rs) ≡ none
     none-rest zero i rs r = none-free i rs r
     none-rest (suc u) i [] r = unfold firstFrom in refl
     none-rest (suc u) i (ps ∷ rs) r = none-rest u i rs (λ j h l. r (suc j) (omega arith) (omega arith))

@@ -7,22 +7,22 @@ ghost use lib.ListN.{length, getD};
 ghost use lib.Seq.{sets};
 ghost use Rattle.lists.specs.Lists.{allZero, firstFrom};
 ghost use Rattle.model.specs.Measures.{recordWords};
-ghost use Rattle.model.specs.State.{Position, Segment, Shelf};
+ghost use Rattle.model.specs.State.{Position, Segment, Storage};
 ghost use Rattle.model.specs.Image.{blockFrom, blocksFrom, isBlank, withBlanks};
 ghost use Rattle.model.specs.Records.{isHeld, isRemoved, isBlankPosition, cellOf, holds, equals};
 ghost use Rattle.model.specs.Place.{stored};
-ghost use Rattle.model.specs.Table.{recordToWords, recordsIn, cellsIn, shelfIn};
+ghost use Rattle.model.specs.Table.{recordToWords, recordsIn, cellsIn, storageIn};
 ghost use Rattle.numbers.specs.Measures.{measuresOf};
-ghost use Rattle.shelf.specs.Stored.{Stored};
+ghost use Rattle.storage.specs.Stored.{Stored};
 ghost use Rattle.lists.specs.Search.{asOption};
-ghost use Rattle.place_words.specs.Marks.{mark, marks, isErased, blankMark, blanks, kept};
-ghost use Rattle.place_seek.specs.Seek.{RestFree};
+ghost use Rattle.place_words.specs.Marks.{storedBit, storedMask, isErased, blankBit, blankMask, blockIf};
+ghost use Rattle.place_free.specs.Free.{RestFree};
 use numbers::Block;
 use numbers::Cell;
 use numbers::Measures;
 use numbers::RecordNumber;
 
-// Whether a position that is not removed, and is blank just where the image's block at a byte is, holds that block. The bit is the block's mark.
+// Whether a position that is not removed, and is blank just where the image's block at a byte is, holds that block. The bit is the block's storedBit.
 fn position_holds(
     image: &[u8],
     at: usize,
@@ -32,8 +32,8 @@ fn position_holds(
     cell: Cell,
     bytes: usize,
 ) -> bool
-    requires { ⌜ (at ≤ 131072) × (bit ≡ mark (blockFrom bytes (now image) at)) × (held < 2) × (cell .0 * bytes + bytes ≤ length (now pool)) × (64 ≤ bytes) × (bytes ≤ 512) × (bytes % 64 ≡ 0) ⌝ }
-    ensures { λ r. ⌜ ((s : Shelf) (p : Position) → s .cells ≡ cellsIn bytes (now (pool .entry)) → held ≡ cond (isHeld p) 1 0 → cell .0 ≡ cellOf p → isRemoved p ≡ false → isBlankPosition p ≡ isErased (blockFrom bytes (now (image .entry)) at) → r ≡ holds withBlanks s p (blockFrom bytes (now (image .entry)) at)) ⌝ }
+    requires { ⌜ (at ≤ 131072) × (bit ≡ storedBit (blockFrom bytes (now image) at)) × (held < 2) × (cell .0 * bytes + bytes ≤ length (now pool)) × (64 ≤ bytes) × (bytes ≤ 512) × (bytes % 64 ≡ 0) ⌝ }
+    ensures { λ r. ⌜ ((s : Storage) (p : Position) → s .cells ≡ cellsIn bytes (now (pool .entry)) → held ≡ cond (isHeld p) 1 0 → cell .0 ≡ cellOf p → isRemoved p ≡ false → isBlankPosition p ≡ isErased (blockFrom bytes (now (image .entry)) at) → r ≡ holds withBlanks s p (blockFrom bytes (now (image .entry)) at)) ⌝ }
 {
     if held == 1 {
         let from = cell.byte(bytes);
@@ -52,8 +52,8 @@ fn first_differs(
     cell: Cell,
     bytes: usize,
 ) -> bool
-    requires { ⌜ (mask % 2 ≡ mark (blockFrom bytes (now image) from)) × (cell .0 * bytes + bytes ≤ length (now pool)) × (0 < bytes) × (bytes ≤ 512) ⌝ }
-    ensures { λ r. ⌜ (r ≡ true → (s : Shelf) (p : Position) → s .cells ≡ cellsIn bytes (now (pool .entry)) → cell .0 ≡ cellOf p → false ≡ holds withBlanks s p (blockFrom bytes (now (image .entry)) from)) ⌝ }
+    requires { ⌜ (mask % 2 ≡ storedBit (blockFrom bytes (now image) from)) × (cell .0 * bytes + bytes ≤ length (now pool)) × (0 < bytes) × (bytes ≤ 512) ⌝ }
+    ensures { λ r. ⌜ (r ≡ true → (s : Storage) (p : Position) → s .cells ≡ cellsIn bytes (now (pool .entry)) → cell .0 ≡ cellOf p → false ≡ holds withBlanks s p (blockFrom bytes (now (image .entry)) from)) ⌝ }
 {
     if mask % 2 == 0 {
         return false;
@@ -73,8 +73,8 @@ fn positions_equal(
     bytes: usize,
     n: usize,
 ) -> bool
-    requires { ⌜ (from ≤ 65536) × (mask ≡ marks (blocksFrom bytes (now image) from n)) × (length (now row) ≡ recordWords n) × (getD (now row) 1 0 ≡ 0) × ((i : ℕ) → i < n → getD (now row) (3 + i) 0 * bytes + bytes ≤ length (now pool)) × (64 ≤ bytes) × (bytes ≤ 512) × (bytes % 64 ≡ 0) × (n ≤ 16) × (getD (now row) 2 0 ≡ blanks (blocksFrom bytes (now image) from n)) ⌝ }
-    ensures { λ r. ⌜ ((s : Shelf) (seg : Segment) → s .cells ≡ cellsIn bytes (now (pool .entry)) → length seg ≡ n → now (row .entry) ≡ recordToWords seg → r ≡ equals withBlanks s (blocksFrom bytes (now (image .entry)) from n) seg) ⌝ }
+    requires { ⌜ (from ≤ 65536) × (mask ≡ storedMask (blocksFrom bytes (now image) from n)) × (length (now row) ≡ recordWords n) × (getD (now row) 1 0 ≡ 0) × ((i : ℕ) → i < n → getD (now row) (3 + i) 0 * bytes + bytes ≤ length (now pool)) × (64 ≤ bytes) × (bytes ≤ 512) × (bytes % 64 ≡ 0) × (n ≤ 16) × (getD (now row) 2 0 ≡ blankMask (blocksFrom bytes (now image) from n)) ⌝ }
+    ensures { λ r. ⌜ ((s : Storage) (seg : Segment) → s .cells ≡ cellsIn bytes (now (pool .entry)) → length seg ≡ n → now (row .entry) ≡ recordToWords seg → r ≡ equals withBlanks s (blocksFrom bytes (now (image .entry)) from n) seg) ⌝ }
 {
     let mut held = row[0];
     let mut m = mask;
@@ -105,8 +105,8 @@ fn record_equals(
     bytes: usize,
     n: usize,
 ) -> bool
-    requires { ⌜ (from ≤ 65536) × (mask ≡ marks (blocksFrom bytes (now image) from n)) × (length (now row) ≡ recordWords n) × ((i : ℕ) → i < n → getD (now row) (3 + i) 0 * bytes + bytes ≤ length (now pool)) × (64 ≤ bytes) × (bytes ≤ 512) × (bytes % 64 ≡ 0) × (0 < n) × (n ≤ 16) × (blank ≡ blanks (blocksFrom bytes (now image) from n)) ⌝ }
-    ensures { λ r. ⌜ ((s : Shelf) (seg : Segment) → s .cells ≡ cellsIn bytes (now (pool .entry)) → length seg ≡ n → now (row .entry) ≡ recordToWords seg → r ≡ equals withBlanks s (blocksFrom bytes (now (image .entry)) from n) seg) ⌝ }
+    requires { ⌜ (from ≤ 65536) × (mask ≡ storedMask (blocksFrom bytes (now image) from n)) × (length (now row) ≡ recordWords n) × ((i : ℕ) → i < n → getD (now row) (3 + i) 0 * bytes + bytes ≤ length (now pool)) × (64 ≤ bytes) × (bytes ≤ 512) × (bytes % 64 ≡ 0) × (0 < n) × (n ≤ 16) × (blank ≡ blankMask (blocksFrom bytes (now image) from n)) ⌝ }
+    ensures { λ r. ⌜ ((s : Storage) (seg : Segment) → s .cells ≡ cellsIn bytes (now (pool .entry)) → length seg ≡ n → now (row .entry) ≡ recordToWords seg → r ≡ equals withBlanks s (blocksFrom bytes (now (image .entry)) from n) seg) ⌝ }
 {
     if row[1] != 0 {
         return false;
@@ -136,8 +136,8 @@ pub fn match_record(
     used: usize,
     m: Measures,
 ) -> RecordNumber
-    requires { ⌜ (from ≤ 65536) × (mask ≡ marks (blocksFrom (m .bytes) (now image) from (m .blocks))) × (0 < mask) × Stored (measuresOf m) (now pool) (now records) × RestFree used (recordsIn (m .blocks) (now records)) × (blank ≡ blanks (blocksFrom (m .bytes) (now image) from (m .blocks))) ⌝ }
-    ensures { λ r. ⌜ (asOption (length (recordsIn (m .blocks) (now (records .entry)))) (r .0) ≡ firstFrom (equals withBlanks (shelfIn (measuresOf m) (now (pool .entry)) (now (records .entry))) (blocksFrom (m .bytes) (now (image .entry)) from (m .blocks))) 0 (recordsIn (m .blocks) (now (records .entry)))) × (r .0 ≤ length (recordsIn (m .blocks) (now (records .entry)))) ⌝ }
+    requires { ⌜ (from ≤ 65536) × (mask ≡ storedMask (blocksFrom (m .bytes) (now image) from (m .blocks))) × (0 < mask) × Stored (measuresOf m) (now pool) (now records) × RestFree used (recordsIn (m .blocks) (now records)) × (blank ≡ blankMask (blocksFrom (m .bytes) (now image) from (m .blocks))) ⌝ }
+    ensures { λ r. ⌜ (asOption (length (recordsIn (m .blocks) (now (records .entry)))) (r .0) ≡ firstFrom (equals withBlanks (storageIn (measuresOf m) (now (pool .entry)) (now (records .entry))) (blocksFrom (m .bytes) (now (image .entry)) from (m .blocks))) 0 (recordsIn (m .blocks) (now (records .entry)))) × (r .0 ≤ length (recordsIn (m .blocks) (now (records .entry)))) ⌝ }
 {
     let width = numbers::row_words(m.blocks);
     let count = numbers::rows(records.len(), m.blocks);
@@ -197,7 +197,7 @@ pub struct Masks {
 // A block's own bit of each.
 fn block_marks(image: &[u8], at: usize, bytes: usize) -> Masks
     requires { ⌜ (at ≤ 131072) × (64 ≤ bytes) × (bytes ≤ 512) × (bytes % 64 ≡ 0) ⌝ }
-    ensures { λ r. ⌜ (r .stored ≡ mark (blockFrom bytes (now (image .entry)) at)) × (r .blank ≡ blankMark (blockFrom bytes (now (image .entry)) at)) ⌝ }
+    ensures { λ r. ⌜ (r .stored ≡ storedBit (blockFrom bytes (now (image .entry)) at)) × (r .blank ≡ blankBit (blockFrom bytes (now (image .entry)) at)) ⌝ }
 {
     if block_null(image, at, bytes) {
         return Masks {
@@ -220,7 +220,7 @@ fn block_marks(image: &[u8], at: usize, bytes: usize) -> Masks
 // The segment's, from its last block on.
 pub fn segment_masks(image: &[u8], from: usize, bytes: usize, n: usize) -> Masks
     requires { ⌜ (from ≤ 65536) × (64 ≤ bytes) × (bytes ≤ 512) × (bytes % 64 ≡ 0) × (n ≤ 16) ⌝ }
-    ensures { λ r. ⌜ (r .stored ≡ marks (blocksFrom bytes (now (image .entry)) from n)) × (r .blank ≡ blanks (blocksFrom bytes (now (image .entry)) from n)) × (r .stored < 65536) ⌝ }
+    ensures { λ r. ⌜ (r .stored ≡ storedMask (blocksFrom bytes (now (image .entry)) from n)) × (r .blank ≡ blankMask (blocksFrom bytes (now (image .entry)) from n)) × (r .stored < 65536) ⌝ }
 {
     let mut stored: u32 = 0;
     let mut blank: u32 = 0;
@@ -239,7 +239,7 @@ pub fn segment_masks(image: &[u8], from: usize, bytes: usize, n: usize) -> Masks
 // The image's block at a byte goes into a cell, where the bit is set.
 fn copy_if(bit: u32, image: &[u8], at: usize, pool: &mut [u8], cell: Cell, bytes: usize)
     requires { ⌜ (at ≤ 131072) × (bit < 2) × (bit ≡ 1 → cell .0 * bytes + bytes ≤ length (now pool)) × (0 < bytes) × (bytes ≤ 512) ⌝ }
-    ensures { λ _. ⌜ cellsIn bytes (now (pool .exit)) ≡ sets (cellsIn bytes (now (pool .entry))) (cell .0) (kept bit (blockFrom bytes (now (image .entry)) at)) ⌝ }
+    ensures { λ _. ⌜ cellsIn bytes (now (pool .exit)) ≡ sets (cellsIn bytes (now (pool .entry))) (cell .0) (blockIf bit (blockFrom bytes (now (image .entry)) at)) ⌝ }
 {
     if bit == 0 {
         return;
@@ -259,7 +259,7 @@ pub fn copy_blocks(
     bytes: usize,
     n: usize,
 )
-    requires { ⌜ (from ≤ 65536) × (mask ≡ marks (blocksFrom bytes (now image) from n)) × (first .0 + length (stored withBlanks (blocksFrom bytes (now image) from n)) ≤ length (cellsIn bytes (now pool))) × (length (cellsIn bytes (now pool)) ≤ 32768) × (0 < bytes) × (bytes ≤ 512) × (n ≤ 16) ⌝ }
+    requires { ⌜ (from ≤ 65536) × (mask ≡ storedMask (blocksFrom bytes (now image) from n)) × (first .0 + length (stored withBlanks (blocksFrom bytes (now image) from n)) ≤ length (cellsIn bytes (now pool))) × (length (cellsIn bytes (now pool)) ≤ 32768) × (0 < bytes) × (bytes ≤ 512) × (n ≤ 16) ⌝ }
     ensures { λ _. ⌜ cellsIn bytes (now (pool .exit)) ≡ sets (cellsIn bytes (now (pool .entry))) (first .0) (stored withBlanks (blocksFrom bytes (now (image .entry)) from n)) ⌝ }
 {
     let mut m = mask;

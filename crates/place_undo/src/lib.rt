@@ -8,10 +8,10 @@ ghost use Rattle.model.specs.Measures.{recordWords};
 ghost use Rattle.model.specs.State.{Segment};
 ghost use Rattle.model.specs.Records.{cellsOf};
 ghost use Rattle.model.specs.Sweep.{clearCells};
-ghost use Rattle.model.specs.Table.{recordToWords, recordsIn, cellsIn, shelfIn};
+ghost use Rattle.model.specs.Table.{recordToWords, recordsIn, cellsIn, storageIn};
 ghost use Rattle.numbers.specs.Measures.{measuresOf};
-ghost use Rattle.shelf.specs.Stored.{Stored, Told};
-ghost use Rattle.place_words.specs.Words.{keptCell};
+ghost use Rattle.storage.specs.Stored.{Stored, Encodes};
+ghost use Rattle.place_words.specs.Words.{cellIf};
 ghost use Rattle.place_undo.specs.Undo.{undoRecord, undoUpto};
 use numbers::Cell;
 use numbers::Measures;
@@ -34,7 +34,7 @@ fn words_low(words: &[u32]) -> bool
 // A cell is cleared, where the bit is set.
 fn clear_if(bit: u32, cell: Cell, pool: &mut [u8], bytes: usize)
     requires { ⌜ (bit < 2) × (cell .0 * bytes + bytes ≤ length (now pool)) × (0 < bytes) × (bytes ≤ 512) ⌝ }
-    ensures { λ _. ⌜ cellsIn bytes (now (pool .exit)) ≡ clearCells bytes (cellsIn bytes (now (pool .entry))) (keptCell bit (cell .0)) ⌝ }
+    ensures { λ _. ⌜ cellsIn bytes (now (pool .exit)) ≡ clearCells bytes (cellsIn bytes (now (pool .entry))) (cellIf bit (cell .0)) ⌝ }
 {
     if bit == 0 {
         return;
@@ -60,7 +60,7 @@ fn clear_cells(row: &[u32], pool: &mut [u8], bytes: usize, n: usize)
 // A placing into a record is undone.
 fn undo_record(pool: &mut [u8], records: &mut [u32], k: RecordNumber, m: Measures)
     requires { ⌜ Stored (measuresOf m) (now pool) (now records) × (k .0 < length (recordsIn (m .blocks) (now records))) ⌝ }
-    ensures { λ _. ⌜ Told (measuresOf m) (now (pool .exit)) (now (records .exit)) (undoRecord (measuresOf m) (shelfIn (measuresOf m) (now (pool .entry)) (now (records .entry))) (k .0)) ⌝ }
+    ensures { λ _. ⌜ Encodes (measuresOf m) (now (pool .exit)) (now (records .exit)) (undoRecord (measuresOf m) (storageIn (measuresOf m) (now (pool .entry)) (now (records .entry))) (k .0)) ⌝ }
 {
     let start = k.word(m.blocks);
     let end = start + numbers::row_words(m.blocks);
@@ -76,7 +76,7 @@ fn undo_record(pool: &mut [u8], records: &mut [u32], k: RecordNumber, m: Measure
 // The same for any number: one past the last record is that of a segment that needed none.
 fn undo_placing(pool: &mut [u8], records: &mut [u32], k: RecordNumber, m: Measures)
     requires { ⌜ Stored (measuresOf m) (now pool) (now records) ⌝ }
-    ensures { λ _. ⌜ Told (measuresOf m) (now (pool .exit)) (now (records .exit)) (undoRecord (measuresOf m) (shelfIn (measuresOf m) (now (pool .entry)) (now (records .entry))) (k .0)) ⌝ }
+    ensures { λ _. ⌜ Encodes (measuresOf m) (now (pool .exit)) (now (records .exit)) (undoRecord (measuresOf m) (storageIn (measuresOf m) (now (pool .entry)) (now (records .entry))) (k .0)) ⌝ }
 {
     let n = k.0;
     if numbers::rows(records.len(), m.blocks) <= n as usize {
@@ -88,7 +88,7 @@ fn undo_placing(pool: &mut [u8], records: &mut [u32], k: RecordNumber, m: Measur
 // The first `count` placings are undone.
 pub fn undo_all(pool: &mut [u8], records: &mut [u32], placed: &[u32], count: usize, m: Measures)
     requires { ⌜ Stored (measuresOf m) (now pool) (now records) × (count ≤ length (now placed)) ⌝ }
-    ensures { λ _. ⌜ Told (measuresOf m) (now (pool .exit)) (now (records .exit)) (undoUpto (measuresOf m) (now (placed .entry)) count (shelfIn (measuresOf m) (now (pool .entry)) (now (records .entry)))) ⌝ }
+    ensures { λ _. ⌜ Encodes (measuresOf m) (now (pool .exit)) (now (records .exit)) (undoUpto (measuresOf m) (now (placed .entry)) count (storageIn (measuresOf m) (now (pool .entry)) (now (records .entry)))) ⌝ }
 {
     let mut j = count;
     while 0 < j {

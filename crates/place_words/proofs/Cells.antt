@@ -10,11 +10,11 @@ use Rattle.lists.proofs.Walks.{mask-after, mask-here}
 use Rattle.model.specs.Records.{cellOf, cellsOf, isHeld}
 use Rattle.model.specs.State.{Position, Segment, held, nullPosition, blankPosition, removed}
 use Rattle.model.specs.Table.{recordToWords}
-use Rattle.place_words.specs.Words.{keptCell}
-use Rattle.shelf.proofs.Row.{cell-word, held-word}
+use Rattle.place_words.specs.Words.{cellIf}
+use Rattle.storage.proofs.Row.{cell-word, held-word}
 
 -- a position's cell, if it is held
-position-cell : (p : Position) (ps : Segment) → cellsOf (p ∷ ps) ≡ keptCell (cond (isHeld p) 1 0) (cellOf p) ++ cellsOf ps
+position-cell : (p : Position) (ps : Segment) → cellsOf (p ∷ ps) ≡ cellIf (cond (isHeld p) 1 0) (cellOf p) ++ cellsOf ps
 unfolding cellsOf
 position-cell nullPosition ps = refl
 position-cell blankPosition ps = refl
@@ -34,14 +34,14 @@ module _ {S : Type 0} (act : List ℕ → S → S) (seg : Segment) (row : List �
 
   module _ (m i : ℕ) (s : S) (t : Acted act seg s₀ m i s) where
     -- at position i, as the row has it
-    pub acted-next : ((xs ys : List ℕ) → act (xs ++ ys) s ≡ act ys (act xs s)) → i < length seg → Acted act seg s₀ (m / 2) (i + 1) (act (keptCell (m % 2) (getD row (3 + i) 0)) s)
+    pub acted-next : ((xs ys : List ℕ) → act (xs ++ ys) s ≡ act ys (act xs s)) → i < length seg → Acted act seg s₀ (m / 2) (i + 1) (act (cellIf (m % 2) (getD row (3 + i) 0)) s)
     acted-next f h =
         let b : m % 2 ≡ cond (isHeld (getD seg i nullPosition)) 1 0 = rw (t .mask) (mask-here isHeld seg i nullPosition h) in
-        let here : cellsOf (drop i seg) ≡ keptCell (m % 2) (getD row (3 + i) 0) ++ cellsOf (drop (i + 1) seg) =
+        let here : cellsOf (drop i seg) ≡ cellIf (m % 2) (getD row (3 + i) 0) ++ cellsOf (drop (i + 1) seg) =
         ap cellsOf (drop-next seg i nullPosition h) ∙ position-cell (getD seg i nullPosition) (drop (i + 1) seg) ∙ rw (b, e, cell-word seg i h) in
         record {
           mask = rw (t .mask) (mask-after isHeld seg i nullPosition h);
-          left = sym (f (keptCell (m % 2) (getD row (3 + i) 0)) (cellsOf (drop (i + 1) seg))) ∙ ap (λ (l : List ℕ). act l s) (sym here) ∙ t .left;
+          left = sym (f (cellIf (m % 2) (getD row (3 + i) 0)) (cellsOf (drop (i + 1) seg))) ∙ ap (λ (l : List ℕ). act l s) (sym here) ∙ t .left;
         }
 
     pub acted-end : act [] s ≡ s → length seg ≤ i → s ≡ act (cellsOf seg) s₀

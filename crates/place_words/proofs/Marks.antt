@@ -14,44 +14,44 @@ use Rattle.lists.proofs.Masks.{bit-le-one, mask-half, mask-lt, mask-odd}
 use Rattle.model.specs.Image.{isBare, withBlanks}
 use Rattle.model.specs.Place.{stored}
 use Rattle.model.specs.State.{Block}
-use Rattle.place_words.specs.Marks.{blankMark, blanks, isErased, kept, mark, marks}
+use Rattle.place_words.specs.Marks.{blankBit, blankMask, isErased, blockIf, storedBit, storedMask}
 
-pub mark-bit : (b : Block) → mark b < 2
+pub mark-bit : (b : Block) → storedBit b < 2
 mark-bit b = omega (arith, bit-le-one (not (isBare withBlanks b)))
 
-pub marks-mod : (b : Block) (bs : List Block) → marks (b ∷ bs) % 2 ≡ mark b
+pub marks-mod : (b : Block) (bs : List Block) → storedMask (b ∷ bs) % 2 ≡ storedBit b
 marks-mod b bs = mask-odd (λ b. not (isBare withBlanks b)) b bs
 
-pub marks-div : (b : Block) (bs : List Block) → marks (b ∷ bs) / 2 ≡ marks bs
+pub marks-div : (b : Block) (bs : List Block) → storedMask (b ∷ bs) / 2 ≡ storedMask bs
 marks-div b bs = mask-half (λ b. not (isBare withBlanks b)) b bs
 
-pub marks-small : (bs : List Block) → length bs ≤ 16 → marks bs < 65536
+pub marks-small : (bs : List Block) → length bs ≤ 16 → storedMask bs < 65536
 marks-small bs h = let p : 2 ^ length bs ≤ 2 ^ 16 = pow-mono h in omega (arith, p, mask-lt (λ b. not (isBare withBlanks b)) bs)
 
-pub blank-bit : (b : Block) → blankMark b < 2
+pub blank-bit : (b : Block) → blankBit b < 2
 blank-bit b = omega (arith, bit-le-one (isErased b))
 
-pub blanks-mod : (b : Block) (bs : List Block) → blanks (b ∷ bs) % 2 ≡ blankMark b
+pub blanks-mod : (b : Block) (bs : List Block) → blankMask (b ∷ bs) % 2 ≡ blankBit b
 blanks-mod b bs = mask-odd isErased b bs
 
-pub blanks-div : (b : Block) (bs : List Block) → blanks (b ∷ bs) / 2 ≡ blanks bs
+pub blanks-div : (b : Block) (bs : List Block) → blankMask (b ∷ bs) / 2 ≡ blankMask bs
 blanks-div b bs = mask-half isErased b bs
 
-pub blanks-small : (bs : List Block) → length bs ≤ 16 → blanks bs < 65536
+pub blanks-small : (bs : List Block) → length bs ≤ 16 → blankMask bs < 65536
 blanks-small bs h = let p : 2 ^ length bs ≤ 2 ^ 16 = pow-mono h in omega (arith, p, mask-lt isErased bs)
 
 -- ---- the blocks that are stored
 
 pub kept-next : (cs : List Block) (c : ℕ) (b : Block) (bs : List Block)
-    → sets cs c (stored withBlanks (b ∷ bs)) ≡ sets (sets cs c (kept (mark b) b)) (c + mark b) (stored withBlanks bs)
+    → sets cs c (stored withBlanks (b ∷ bs)) ≡ sets (sets cs c (blockIf (storedBit b) b)) (c + storedBit b) (stored withBlanks bs)
 unfolding stored keep
 kept-next cs c b bs = go (isBare withBlanks b)
   where
-    go : (t : Bool) → sets cs c (cond (not t) (b ∷ stored withBlanks bs) (stored withBlanks bs)) ≡ sets (sets cs c (kept (cond (not t) 1 0) b)) (c + cond (not t) 1 0) (stored withBlanks bs)
+    go : (t : Bool) → sets cs c (cond (not t) (b ∷ stored withBlanks bs) (stored withBlanks bs)) ≡ sets (sets cs c (blockIf (cond (not t) 1 0) b)) (c + cond (not t) 1 0) (stored withBlanks bs)
     go true = let e : c + 0 ≡ c = omega arith in rw e
     go false = rw (add-one c)
 
-pub kept-count : (b : Block) (bs : List Block) → length (stored withBlanks (b ∷ bs)) ≡ mark b + length (stored withBlanks bs)
+pub kept-count : (b : Block) (bs : List Block) → length (stored withBlanks (b ∷ bs)) ≡ storedBit b + length (stored withBlanks bs)
 unfolding stored keep
 kept-count b bs = go (isBare withBlanks b)
   where

@@ -23,10 +23,10 @@ use Rattle.model.specs.Sweep.{oneLess}
 use Rattle.model.specs.Table.{kindUnit, pointerWord, recordToWords}
 use Rattle.laws.proofs.Bare.{by-bare-position}
 use Rattle.laws.proofs.RoundTrip.{direct-word}
-use Rattle.place_words.specs.Marks.{blankMark, blanks, isErased, mark, marks}
+use Rattle.place_words.specs.Marks.{blankBit, blankMask, isErased, storedBit, storedMask}
 use Rattle.place_words.specs.Words.{pointerIf}
 use Rattle.place_words.proofs.Marks.{blanks-div, blanks-mod, marks-div, marks-mod}
-use Rattle.shelf.proofs.Row.{held-word}
+use Rattle.storage.proofs.Row.{held-word}
 
 -- the counts are lent as the row's end
 module _ (n : ℕ) (seg : Segment) (e : length seg ≡ n) (row : List ℕ) (s : row ≡ recordToWords seg) where
@@ -128,13 +128,13 @@ module _ (b : Block) where
   pub bare-count : countOf (barePosition b) ≡ 0
   bare-count = by-bare-position b (λ (p : Position). countOf p ≡ 0) refl refl
 
-new-held : (c : ℕ) (seg : List Block) → maskOf isHeld (newPositions withBlanks c seg) ≡ marks seg
+new-held : (c : ℕ) (seg : List Block) → maskOf isHeld (newPositions withBlanks c seg) ≡ storedMask seg
 unfolding maskOf newPositions
 new-held c [] = refl
 new-held c (b ∷ seg) = go (isBare withBlanks b) (λ d. new-held d seg)
   where
-    go : (t : Bool) → ((d : ℕ) → maskOf isHeld (newPositions withBlanks d seg) ≡ marks seg)
-        → cond (isHeld (cond t (barePosition b) (held c 1))) 1 0 + 2 * maskOf isHeld (newPositions withBlanks (cond t c (suc c)) seg) ≡ cond (not t) 1 0 + 2 * marks seg
+    go : (t : Bool) → ((d : ℕ) → maskOf isHeld (newPositions withBlanks d seg) ≡ storedMask seg)
+        → cond (isHeld (cond t (barePosition b) (held c 1))) 1 0 + 2 * maskOf isHeld (newPositions withBlanks (cond t c (suc c)) seg) ≡ cond (not t) 1 0 + 2 * storedMask seg
     go true r = rw (bare-held b, r c)
     go false r = rw (r (suc c))
 
@@ -148,7 +148,7 @@ new-removed c (b ∷ seg) = go (isBare withBlanks b) (λ d. new-removed d seg)
     go true r = rw (bare-removed b, r c)
     go false r = rw (r (suc c))
 
-new-blank : (c : ℕ) (seg : List Block) → maskOf isBlankPosition (newPositions withBlanks c seg) ≡ blanks seg
+new-blank : (c : ℕ) (seg : List Block) → maskOf isBlankPosition (newPositions withBlanks c seg) ≡ blankMask seg
 unfolding maskOf newPositions
 new-blank c [] = refl
 new-blank c (b ∷ seg) =
@@ -162,27 +162,27 @@ new-blank c (b ∷ seg) =
     here : (b : Block) → isBlankPosition (cond (isBare withBlanks b) (barePosition b) (held c 1)) ≡ isErased b
     here b = unfold isBare barePosition in go (allZero b) (isBlank withBlanks b)
 
-new-cells : (c : ℕ) (seg : List Block) (xs : List ℕ) → length xs ≡ length seg → numbered (marks seg) c xs ≡ map cellOf (newPositions withBlanks c seg)
+new-cells : (c : ℕ) (seg : List Block) (xs : List ℕ) → length xs ≡ length seg → numbered (storedMask seg) c xs ≡ map cellOf (newPositions withBlanks c seg)
 unfolding walk newPositions
 new-cells c [] [] e = refl
 new-cells c [] (x ∷ xs) e = absurd (omega arith)
 new-cells c (b ∷ seg) [] e = absurd (omega arith)
 new-cells c (b ∷ seg) (x ∷ xs) e = rw (marks-mod b seg, marks-div b seg) (go (isBare withBlanks b) (λ d. new-cells d seg xs (omega arith)))
   where
-    go : (t : Bool) → ((d : ℕ) → numbered (marks seg) d xs ≡ map cellOf (newPositions withBlanks d seg))
-        → pick (cond (not t) 1 0) c ∷ numbered (marks seg) (c + cond (not t) 1 0) xs ≡ map cellOf (cond t (barePosition b) (held c 1) ∷ newPositions withBlanks (cond t c (suc c)) seg)
-    go true r = rw (bare-cell b) (ap (λ (l : List ℕ). 0 ∷ l) (ap (λ (d : ℕ). numbered (marks seg) d xs) (add-zero c) ∙ r c))
-    go false r = ap (λ (l : List ℕ). c ∷ l) (ap (λ (d : ℕ). numbered (marks seg) d xs) (add-one c) ∙ r (suc c))
+    go : (t : Bool) → ((d : ℕ) → numbered (storedMask seg) d xs ≡ map cellOf (newPositions withBlanks d seg))
+        → pick (cond (not t) 1 0) c ∷ numbered (storedMask seg) (c + cond (not t) 1 0) xs ≡ map cellOf (cond t (barePosition b) (held c 1) ∷ newPositions withBlanks (cond t c (suc c)) seg)
+    go true r = rw (bare-cell b) (ap (λ (l : List ℕ). 0 ∷ l) (ap (λ (d : ℕ). numbered (storedMask seg) d xs) (add-zero c) ∙ r c))
+    go false r = ap (λ (l : List ℕ). c ∷ l) (ap (λ (d : ℕ). numbered (storedMask seg) d xs) (add-one c) ∙ r (suc c))
 
-new-counts : (c : ℕ) (seg : List Block) (xs : List ℕ) → length xs ≡ length seg → bits (marks seg) xs ≡ map countOf (newPositions withBlanks c seg)
+new-counts : (c : ℕ) (seg : List Block) (xs : List ℕ) → length xs ≡ length seg → bits (storedMask seg) xs ≡ map countOf (newPositions withBlanks c seg)
 unfolding walk newPositions
 new-counts c [] [] e = refl
 new-counts c [] (x ∷ xs) e = absurd (omega arith)
 new-counts c (b ∷ seg) [] e = absurd (omega arith)
 new-counts c (b ∷ seg) (x ∷ xs) e = rw (marks-mod b seg, marks-div b seg) (go (isBare withBlanks b) (λ d. new-counts d seg xs (omega arith)))
   where
-    go : (t : Bool) → ((d : ℕ) → bits (marks seg) xs ≡ map countOf (newPositions withBlanks d seg))
-        → cond (not t) 1 0 ∷ bits (marks seg) xs ≡ map countOf (cond t (barePosition b) (held c 1) ∷ newPositions withBlanks (cond t c (suc c)) seg)
+    go : (t : Bool) → ((d : ℕ) → bits (storedMask seg) xs ≡ map countOf (newPositions withBlanks d seg))
+        → cond (not t) 1 0 ∷ bits (storedMask seg) xs ≡ map countOf (cond t (barePosition b) (held c 1) ∷ newPositions withBlanks (cond t c (suc c)) seg)
     go true r = rw (bare-count b) (ap (λ (l : List ℕ). 0 ∷ l) (r c))
     go false r = ap (λ (l : List ℕ). 1 ∷ l) (r (suc c))
 
@@ -200,7 +200,7 @@ new-row-back n (a ∷ b ∷ d ∷ rest) x y cells counts m b′ h lc ln ex ey =
 
 pub new-row-all : (n : ℕ) (row x y cells counts : List ℕ) (m b′ c : ℕ) → length row ≡ recordWords n
     → x ≡ set (set (set row 0 m) 1 0) 2 b′ → cells ≡ numbered m c (take n (drop 3 x)) → y ≡ take 3 x ++ (cells ++ drop n (drop 3 x))
-    → counts ≡ bits m (take (length y - (3 + n)) (drop (3 + n) y)) → (seg : List Block) → length seg ≡ n → m ≡ marks seg → b′ ≡ blanks seg
+    → counts ≡ bits m (take (length y - (3 + n)) (drop (3 + n) y)) → (seg : List Block) → length seg ≡ n → m ≡ storedMask seg → b′ ≡ blankMask seg
     → take (3 + n) y ++ (counts ++ drop (length y - (3 + n)) (drop (3 + n) y)) ≡ recordToWords (newPositions withBlanks c seg)
 unfolding recordToWords
 new-row-all n row x y cells counts m b′ c h ex ec ey en seg ls em eb =
@@ -224,7 +224,7 @@ outPointer s (w, b) x = pointerIf s (b % 2) w
 abbrev pub nextPointer : ℕ → ℕ × ℕ → ℕ × ℕ
 nextPointer s (w, b) = (w + 1, b / 2)
 
-pointer-here : (k i : ℕ) (b : Block) → pointerIf (mark b) (blankMark b) (kindUnit + (k * 16 + i)) ≡ pointerWord (cond (isBare withBlanks b) (barePointer b) (direct k i))
+pointer-here : (k i : ℕ) (b : Block) → pointerIf (storedBit b) (blankBit b) (kindUnit + (k * 16 + i)) ≡ pointerWord (cond (isBare withBlanks b) (barePointer b) (direct k i))
 unfolding isBare barePointer pointerWord
 pointer-here k i b = go (allZero b) (isBlank withBlanks b)
   where
@@ -234,7 +234,7 @@ pointer-here k i b = go (allZero b) (isBlank withBlanks b)
     go false false = refl
 
 pointer-words : (k i : ℕ) (seg : List Block) (xs : List ℕ) → length xs ≡ length seg
-    → walk outPointer nextPointer (marks seg) (kindUnit + (k * 16 + i), blanks seg) xs ≡ map pointerWord (pointersTo withBlanks k i seg)
+    → walk outPointer nextPointer (storedMask seg) (kindUnit + (k * 16 + i), blankMask seg) xs ≡ map pointerWord (pointersTo withBlanks k i seg)
 unfolding walk pointersTo
 pointer-words k i [] [] e = refl
 pointer-words k i [] (x ∷ xs) e = absurd (omega arith)
@@ -244,6 +244,6 @@ pointer-words k i (b ∷ seg) (x ∷ xs) e =
     rw (marks-mod b seg, marks-div b seg, blanks-mod b seg, blanks-div b seg, next, pointer-words k (suc i) seg xs (omega arith), pointer-here k i b)
 
 -- to a record, from the word of the pointer to its first position
-pub placed-words : (k w m b : ℕ) (ws : List ℕ) → w ≡ pointerWord (direct k 0) → (seg : List Block) → length seg ≡ length ws → m ≡ marks seg → b ≡ blanks seg
+pub placed-words : (k w m b : ℕ) (ws : List ℕ) → w ≡ pointerWord (direct k 0) → (seg : List Block) → length seg ≡ length ws → m ≡ storedMask seg → b ≡ blankMask seg
     → walk outPointer nextPointer m (w, b) ws ≡ map pointerWord (pointersTo withBlanks k 0 seg)
 placed-words k w m b ws e seg l em eb = rw (e ∙ direct-word k 0, em, eb) (pointer-words k 0 seg ws (sym l))

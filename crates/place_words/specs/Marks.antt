@@ -8,26 +8,26 @@ use Rattle.model.specs.Image.{isBare, isBlank, withBlanks}
 use Rattle.model.specs.State.{Block}
 
 -- 0 for a block that is null or blank, else 1
-abbrev pub mark : Block → ℕ
-mark b = cond (not (isBare withBlanks b)) 1 0
+abbrev pub storedBit : Block → ℕ
+storedBit b = cond (not (isBare withBlanks b)) 1 0
 
--- bit i is the mark of block i
-abbrev pub marks : List Block → ℕ
-marks bs = maskOf (λ b. not (isBare withBlanks b)) bs
+-- bit i is the storedBit of block i
+abbrev pub storedMask : List Block → ℕ
+storedMask bs = maskOf (λ b. not (isBare withBlanks b)) bs
 
 -- blank, and not null
 abbrev pub isErased : Block → Bool
 isErased b = let r = isBlank withBlanks b in cond (allZero b) false r
 
 -- 1 for a blank block, else 0
-abbrev pub blankMark : Block → ℕ
-blankMark b = cond (isErased b) 1 0
+abbrev pub blankBit : Block → ℕ
+blankBit b = cond (isErased b) 1 0
 
--- bit i is the blank mark of block i
-abbrev pub blanks : List Block → ℕ
-blanks bs = maskOf isErased bs
+-- bit i is the blank storedBit of block i
+abbrev pub blankMask : List Block → ℕ
+blankMask bs = maskOf isErased bs
 
 -- the block, if the bit is set
-abbrev pub kept : ℕ → Block → List Block
-kept zero b = []
-kept (suc n) b = b ∷ []
+abbrev pub blockIf : ℕ → Block → List Block
+blockIf zero b = []
+blockIf (suc n) b = b ∷ []

@@ -5,9 +5,9 @@ use Rattle.model.specs.State.{blankPointer, nullPointer}
 use Rattle.model.specs.Table.{pointerWord}
 
 -- the cell word, if the bit is set
-abbrev pub keptCell : ℕ → ℕ → List ℕ
-keptCell zero c = []
-keptCell (suc b) c = c ∷ []
+abbrev pub cellIf : ℕ → ℕ → List ℕ
+cellIf zero c = []
+cellIf (suc b) c = c ∷ []
 
 -- the word given where the block is stored, else a blank pointer's or a null one's
 abbrev pub pointerIf : ℕ → ℕ → ℕ → ℕ

@@ -10,7 +10,7 @@ ghost use Rattle.model.specs.State.{Block, Segment};
 ghost use Rattle.model.specs.Place.{oneMore, newPositions, pointersTo};
 ghost use Rattle.model.specs.Sweep.{oneLess};
 ghost use Rattle.model.specs.Table.{recordToWords, pointerWord};
-ghost use Rattle.place_words.specs.Marks.{marks, blanks};
+ghost use Rattle.place_words.specs.Marks.{storedMask, blankMask};
 ghost use Rattle.place_words.specs.Words.{pointerIf};
 use numbers::Cell;
 use numbers::Pointer;
@@ -111,7 +111,7 @@ fn number(cells: &mut [u32], mask: u32, start: Cell)
 // A segment's pointers, by the masks of its blocks that are stored and of those that are blank: to a record's positions, blank ones and null ones.
 pub fn put_places(words: &mut [u32], mask: u32, blank: u32, k: RecordNumber)
     requires { ⌜ (length (now words) ≤ 16) × (k .0 ≤ 4096) ⌝ }
-    ensures { λ _. ⌜ ((seg : List Block) → length seg ≡ length (now (words .entry)) → mask ≡ marks seg → blank ≡ blanks seg → now (words .exit) ≡ map pointerWord (pointersTo withBlanks (k .0) 0 seg)) ⌝ }
+    ensures { λ _. ⌜ ((seg : List Block) → length seg ≡ length (now (words .entry)) → mask ≡ storedMask seg → blank ≡ blankMask seg → now (words .exit) ≡ map pointerWord (pointersTo withBlanks (k .0) 0 seg)) ⌝ }
 {
     let first = Pointer::direct(k, 0);
     let mut m = mask;
@@ -160,7 +160,7 @@ fn put_masks(row: &mut [u32], mask: u32, blank: u32)
 // A new record of n positions, whose held ones take consecutive cells and have the count 1.
 pub fn new_row(row: &mut [u32], mask: u32, blank: u32, start: Cell, n: usize)
     requires { ⌜ (n ≤ 16) × (length (now row) ≡ recordWords n) × (start .0 ≤ 65536) ⌝ }
-    ensures { λ _. ⌜ ((seg : List Block) → length seg ≡ n → mask ≡ marks seg → blank ≡ blanks seg → now (row .exit) ≡ recordToWords (newPositions withBlanks (start .0) seg)) ⌝ }
+    ensures { λ _. ⌜ ((seg : List Block) → length seg ≡ n → mask ≡ storedMask seg → blank ≡ blankMask seg → now (row .exit) ≡ recordToWords (newPositions withBlanks (start .0) seg)) ⌝ }
 {
     let counts = 3 + n;
     put_masks(row, mask, blank);

@@ -1,4 +1,4 @@
 -- Laws of records as the code has them.
 pub mod Records
 pub mod Words
-pub mod Goes
+pub mod Unreferenced

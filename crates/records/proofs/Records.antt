@@ -21,7 +21,7 @@ use Rattle.lists.proofs.Sets.{map-set}
 use Rattle.lists.proofs.Slices.{drop-next, drop-end}
 use Rattle.model.specs.Records.{isHeld, isRemoved, isBlankPosition, cellOf, countOf, freeSegment}
 use Rattle.model.specs.State.{Position, nullPosition, blankPosition, held, removed, Segment}
-use Rattle.model.specs.Sweep.{goes, struck, moved}
+use Rattle.model.specs.Sweep.{isUnreferenced, struck, moved}
 use Rattle.model.specs.Table.{positionOf, positionsIn}
 use Rattle.laws.proofs.RoundTrip.{positions-back}
 use Rattle.records.specs.Records.{recordOf, positions, Formed}
@@ -95,7 +95,7 @@ module _ (r : Record) (f : Formed r) where
 
 -- ---- going
 
-pub unused-bit : (p : Position) → goes (positionOf (cond (isHeld p) 1 0) 0 0 0 (countOf p)) ≡ goes p
+pub unused-bit : (p : Position) → isUnreferenced (positionOf (cond (isHeld p) 1 0) 0 0 0 (countOf p)) ≡ isUnreferenced p
 unfolding positionOf
 unused-bit nullPosition = refl
 unused-bit blankPosition = refl
@@ -103,31 +103,31 @@ unused-bit (held c zero) = refl
 unused-bit (held c (suc n)) = refl
 unused-bit removed = refl
 
-pub unused-even : (h n : ℕ) → h % 2 ≡ 0 → _≡_ {A = ℕ} (cond (goes (positionOf (h % 2) 0 0 0 n)) 1 0) 0
+pub unused-even : (h n : ℕ) → h % 2 ≡ 0 → _≡_ {A = ℕ} (cond (isUnreferenced (positionOf (h % 2) 0 0 0 n)) 1 0) 0
 unfolding positionOf
 unused-even h n e = rw e
 
-pub unused-zero : (h n : ℕ) → (h % 2 ≡ 0 → ⊥) → n ≡ 0 → _≡_ {A = ℕ} (cond (goes (positionOf (h % 2) 0 0 0 n)) 1 0) 1
+pub unused-zero : (h n : ℕ) → (h % 2 ≡ 0 → ⊥) → n ≡ 0 → _≡_ {A = ℕ} (cond (isUnreferenced (positionOf (h % 2) 0 0 0 n)) 1 0) 1
 unfolding positionOf
 unused-zero h n f e = let o : h % 2 ≡ 1 = omega arith in rw (o, e)
 
-pub unused-not : (h n : ℕ) → (h % 2 ≡ 0 → ⊥) → (n ≡ 0 → ⊥) → _≡_ {A = ℕ} (cond (goes (positionOf (h % 2) 0 0 0 n)) 1 0) 0
+pub unused-not : (h n : ℕ) → (h % 2 ≡ 0 → ⊥) → (n ≡ 0 → ⊥) → _≡_ {A = ℕ} (cond (isUnreferenced (positionOf (h % 2) 0 0 0 n)) 1 0) 0
 unfolding positionOf
 unused-not h zero f g = absurd (g refl)
 unused-not h (suc n) f g = let o : h % 2 ≡ 1 = omega arith in rw o
 
-mask-cons : (p : Position) (seg : Segment) → maskOf goes (p ∷ seg) ≡ cond (goes p) 1 0 + 2 * maskOf goes seg
+mask-cons : (p : Position) (seg : Segment) → maskOf isUnreferenced (p ∷ seg) ≡ cond (isUnreferenced p) 1 0 + 2 * maskOf isUnreferenced seg
 unfolding maskOf
 mask-cons p seg = refl
 
 -- from the last position down
-pub going-start : (r : Record) → Formed r → 0 ≡ maskOf goes (drop (r .used) (positions r))
+pub unreferenced-start : (r : Record) → Formed r → 0 ≡ maskOf isUnreferenced (drop (r .used) (positions r))
 unfolding maskOf
-going-start r f = rw (drop-end (positions r) (r .used) (omega (arith, used-is r f)))
+unreferenced-start r f = rw (drop-end (positions r) (r .used) (omega (arith, used-is r f)))
 
-pub going-next : (r : Record) → Formed r → (i m u : ℕ) → 0 < i → i ≤ r .used → m ≡ maskOf goes (drop i (positions r))
-    → u ≡ cond (goes (positionOf (r .held / 2 ^ (i - 1) % 2) 0 0 0 (getD (r .counts) (i - 1) 0))) 1 0 → 2 * m + u ≡ maskOf goes (drop (i - 1) (positions r))
-going-next r f i m u z h em eu =
+pub unreferenced-next : (r : Record) → Formed r → (i m u : ℕ) → 0 < i → i ≤ r .used → m ≡ maskOf isUnreferenced (drop i (positions r))
+    → u ≡ cond (isUnreferenced (positionOf (r .held / 2 ^ (i - 1) % 2) 0 0 0 (getD (r .counts) (i - 1) 0))) 1 0 → 2 * m + u ≡ maskOf isUnreferenced (drop (i - 1) (positions r))
+unreferenced-next r f i m u z h em eu =
     let seg : Segment = positions r in
     let j : ℕ = i - 1 in
     let l : j < length seg = omega (arith, used-is r f) in
@@ -135,13 +135,13 @@ going-next r f i m u z h em eu =
     let a : r .held / 2 ^ j % 2 ≡ cond (isHeld (getD seg j nullPosition)) 1 0 = ap (λ (m : ℕ). m / 2 ^ j % 2) (held-mask r f) ∙ mask-bit isHeld seg j nullPosition l in
     let b : getD (r .counts) j 0 ≡ countOf (getD seg j nullPosition) =
     ap (λ (l : List ℕ). getD l j 0) (counts-fill r f) ∙ getD-fill 16 (map countOf seg) j (omega (arith, length-map seg countOf, f .few)) ∙ List·getD-map countOf seg j nullPosition in
-    let eu′ : u ≡ cond (goes (getD seg j nullPosition)) 1 0 =
-    eu ∙ ap₂ (λ (x y : ℕ). cond (goes (positionOf x 0 0 0 y)) 1 0) a b ∙ ap (λ (t : Bool). cond t 1 0) (unused-bit (getD seg j nullPosition)) in
-    let em′ : m ≡ maskOf goes (drop (j + 1) seg) = em ∙ ap (λ (k : ℕ). maskOf goes (drop k seg)) n in
+    let eu′ : u ≡ cond (isUnreferenced (getD seg j nullPosition)) 1 0 =
+    eu ∙ ap₂ (λ (x y : ℕ). cond (isUnreferenced (positionOf x 0 0 0 y)) 1 0) a b ∙ ap (λ (t : Bool). cond t 1 0) (unused-bit (getD seg j nullPosition)) in
+    let em′ : m ≡ maskOf isUnreferenced (drop (j + 1) seg) = em ∙ ap (λ (k : ℕ). maskOf isUnreferenced (drop k seg)) n in
     rw (drop-next seg j nullPosition l, mask-cons) (omega (arith, eu′, em′))
 
-pub going-small : (r : Record) → Formed r → (i : ℕ) → maskOf goes (drop i (positions r)) < 65536
-going-small r f i = mask-small goes (drop i (positions r)) (omega (arith, length-drop i (positions r), f .few))
+pub unreferenced-small : (r : Record) → Formed r → (i : ℕ) → maskOf isUnreferenced (drop i (positions r)) < 65536
+unreferenced-small r f i = mask-small isUnreferenced (drop i (positions r)) (omega (arith, length-drop i (positions r), f .few))
 
 -- ---- struck
 
@@ -183,20 +183,20 @@ struck-of r f i h e =
 
 -- ---- all that go struck
 
-goes-held : (p : Position) → goes p ≡ true → isHeld p ≡ true
+goes-held : (p : Position) → isUnreferenced p ≡ true → isHeld p ≡ true
 goes-held nullPosition e = absurd (false≢true e)
 goes-held blankPosition e = absurd (false≢true e)
 goes-held (held c n) e = refl
 goes-held removed e = absurd (false≢true e)
 
-goes-struck : (p : Position) → goes p ≡ true → struck removed ≡ struck p
+goes-struck : (p : Position) → isUnreferenced p ≡ true → struck removed ≡ struck p
 goes-struck nullPosition e = absurd (false≢true e)
 goes-struck blankPosition e = absurd (false≢true e)
 goes-struck (held c zero) e = refl
 goes-struck (held c (suc n)) e = absurd (false≢true e)
 goes-struck removed e = absurd (false≢true e)
 
-stays-struck : (p : Position) → goes p ≡ false → struck p ≡ p
+stays-struck : (p : Position) → isUnreferenced p ≡ false → struck p ≡ p
 stays-struck nullPosition e = refl
 stays-struck blankPosition e = refl
 stays-struck (held c zero) e = absurd (false≢true (sym e))
@@ -208,26 +208,26 @@ pub mask-none : (f : Position → Bool) (p : Position) (seg : Segment) → maskO
 unfolding maskOf
 mask-none f p seg e = (bit-false (f p) (omega arith), omega arith)
 
-pub struck-none : (seg : Segment) → maskOf goes seg ≡ 0 → map struck seg ≡ seg
+pub struck-none : (seg : Segment) → maskOf isUnreferenced seg ≡ 0 → map struck seg ≡ seg
 struck-none [] e = refl
-struck-none (p ∷ seg) e = ap₂ _∷_ (stays-struck p (mask-none goes p seg e .0)) (struck-none seg (mask-none goes p seg e .1))
+struck-none (p ∷ seg) e = ap₂ _∷_ (stays-struck p (mask-none isUnreferenced p seg e .0)) (struck-none seg (mask-none isUnreferenced p seg e .1))
 
 pub record Striking (r₀ r : Record) (left : ℕ) : Type 0 where
   pub formed : Formed r
-  pub mask : left ≡ maskOf goes (positions r)
+  pub mask : left ≡ maskOf isUnreferenced (positions r)
   pub all : map struck (positions r) ≡ map struck (positions r₀)
 
 pub left-small : (r₀ r : Record) (left : ℕ) → Striking r₀ r left → left < 65536
-left-small r₀ r left s = let m : maskOf goes (positions r) < 65536 = going-small r (s .formed) 0 in omega (arith, s .mask)
+left-small r₀ r left s = let m : maskOf isUnreferenced (positions r) < 65536 = unreferenced-small r (s .formed) 0 in omega (arith, s .mask)
 
 module _ (r₀ r : Record) (left p : ℕ) (s : Striking r₀ r left) (f : First left p) where
   pub next-small : p < length (positions r)
-  next-small = first-lt (length (positions r)) f (rw (s .mask) (mask-lt goes (positions r)))
+  next-small = first-lt (length (positions r)) f (rw (s .mask) (mask-lt isUnreferenced (positions r)))
 
-  next-goes : goes (getD (positions r) p nullPosition) ≡ true
+  next-goes : isUnreferenced (getD (positions r) p nullPosition) ≡ true
   next-goes =
-      bit-true (goes (getD (positions r) p nullPosition))
-      (sym (mask-bit goes (positions r) p nullPosition next-small) ∙ ap (λ (m : ℕ). m / 2 ^ p % 2) (sym (s .mask)) ∙ first-bit f)
+      bit-true (isUnreferenced (getD (positions r) p nullPosition))
+      (sym (mask-bit isUnreferenced (positions r) p nullPosition next-small) ∙ ap (λ (m : ℕ). m / 2 ^ p % 2) (sym (s .mask)) ∙ first-bit f)
 
   pub next-held : isHeld (getD (positions r) p nullPosition) ≡ true
   next-held = goes-held (getD (positions r) p nullPosition) next-goes
@@ -239,7 +239,7 @@ module _ (r₀ r : Record) (left p : ℕ) (s : Striking r₀ r left) (f : First 
       let q : positions r′ ≡ set seg p removed = ap positions e ∙ positions-of (set seg p removed) few in
       record {
         formed = formed-of r′ (set seg p removed) e few;
-        mask = rw (q, s .mask) (sym (mask-off goes seg p nullPosition removed next-small next-goes refl));
+        mask = rw (q, s .mask) (sym (mask-off isUnreferenced seg p nullPosition removed next-small next-goes refl));
         all = rw q (map-set-same struck seg p removed nullPosition (goes-struck (getD seg p nullPosition) next-goes) ∙ s .all);
       }
 
@@ -286,14 +286,14 @@ renumbered-fill (suc k) m at (c ∷ cs) h =
     ap (λ (l : List ℕ). outNumber (m % 2) at c ∷ l) (renumbered-fill k (m / 2) (at + m % 2) cs (omega (arith, pow-suc 2 (length cs))))
 
 -- what is renumbered is moved, where none goes
-moved-cells : (at : ℕ) (seg : Segment) → maskOf goes seg ≡ 0 → renumbered (maskOf isHeld seg) at (map cellOf seg) ≡ map cellOf (moved at seg)
+moved-cells : (at : ℕ) (seg : Segment) → maskOf isUnreferenced seg ≡ 0 → renumbered (maskOf isHeld seg) at (map cellOf seg) ≡ map cellOf (moved at seg)
 unfolding renumbered walk moved
 moved-cells at [] n = refl
 moved-cells at (p ∷ seg) n =
     rw (mask-odd isHeld p seg, mask-half isHeld p seg)
-    (go p (mask-none goes p seg n .0) (λ a. moved-cells a seg (mask-none goes p seg n .1)))
+    (go p (mask-none isUnreferenced p seg n .0) (λ a. moved-cells a seg (mask-none isUnreferenced p seg n .1)))
   where
-    go : (p : Position) → goes p ≡ false → ((a : ℕ) → walk outNumber nextAdd (maskOf isHeld seg) a (map cellOf seg) ≡ map cellOf (moved a seg))
+    go : (p : Position) → isUnreferenced p ≡ false → ((a : ℕ) → walk outNumber nextAdd (maskOf isHeld seg) a (map cellOf seg) ≡ map cellOf (moved a seg))
         → outNumber (cond (isHeld p) 1 0) at (cellOf p) ∷ walk outNumber nextAdd (maskOf isHeld seg) (at + cond (isHeld p) 1 0) (map cellOf seg) ≡ map cellOf (moved at (p ∷ seg))
     go nullPosition g e = rw (add-zero at, e at)
     go blankPosition g e = rw (add-zero at, e at)
@@ -301,7 +301,7 @@ moved-cells at (p ∷ seg) n =
     go (held c (suc k)) g e = rw (add-one at, e (suc at))
     go removed g e = rw (add-zero at, e at)
 
-moved-mask : (f : Position → Bool) → ((c n at : ℕ) → f (held c n) ≡ f (held at n)) → (at : ℕ) (seg : Segment) → maskOf goes seg ≡ 0 → maskOf f seg ≡ maskOf f (moved at seg)
+moved-mask : (f : Position → Bool) → ((c n at : ℕ) → f (held c n) ≡ f (held at n)) → (at : ℕ) (seg : Segment) → maskOf isUnreferenced seg ≡ 0 → maskOf f seg ≡ maskOf f (moved at seg)
 unfolding maskOf moved
 moved-mask f same at [] n = refl
 moved-mask f same at (nullPosition ∷ seg) n = rw (moved-mask f same at seg (omega arith))
@@ -310,7 +310,7 @@ moved-mask f same at (held c zero ∷ seg) n = absurd (omega arith)
 moved-mask f same at (held c (suc k) ∷ seg) n = rw (moved-mask f same (suc at) seg (omega arith), same c (suc k) at)
 moved-mask f same at (removed ∷ seg) n = rw (moved-mask f same at seg (omega arith))
 
-moved-counts : (at : ℕ) (seg : Segment) → maskOf goes seg ≡ 0 → map countOf seg ≡ map countOf (moved at seg)
+moved-counts : (at : ℕ) (seg : Segment) → maskOf isUnreferenced seg ≡ 0 → map countOf seg ≡ map countOf (moved at seg)
 unfolding maskOf moved
 moved-counts at [] n = refl
 moved-counts at (nullPosition ∷ seg) n = rw (moved-counts at seg (omega arith))
@@ -328,7 +328,7 @@ length-moved at (held c zero ∷ seg) = ap suc (length-moved at seg)
 length-moved at (held c (suc n) ∷ seg) = ap suc (length-moved (suc at) seg)
 length-moved at (removed ∷ seg) = ap suc (length-moved at seg)
 
-pub moved-of : (r r′ : Record) → Formed r → maskOf goes (positions r) ≡ 0 → (at : ℕ) → r′ .held ≡ r .held → r′ .removed ≡ r .removed → r′ .blank ≡ r .blank → r′ .used ≡ r .used
+pub moved-of : (r r′ : Record) → Formed r → maskOf isUnreferenced (positions r) ≡ 0 → (at : ℕ) → r′ .held ≡ r .held → r′ .removed ≡ r .removed → r′ .blank ≡ r .blank → r′ .used ≡ r .used
     → r′ .cells ≡ renumbered (r .held) at (r .cells) → r′ .counts ≡ r .counts → r′ ≡ recordOf (moved at (positions r))
 unfolding recordOf
 moved-of r r′ f n at h d b u c k =
@@ -343,7 +343,7 @@ moved-of r r′ f n at h d b u c k =
     (k ∙ counts-fill r f ∙ ap (fill 16) (moved-counts at seg n))
 
 -- a record struck, then renumbered, is moved
-pub goes-none : (seg : Segment) → maskOf goes (map struck seg) ≡ 0
+pub goes-none : (seg : Segment) → maskOf isUnreferenced (map struck seg) ≡ 0
 unfolding maskOf
 goes-none [] = refl
 goes-none (nullPosition ∷ seg) = rw (goes-none seg)
@@ -374,9 +374,9 @@ struck-formed r m f e =
     let l : length (map struck (positions r)) ≡ length (positions r) = length-map (positions r) struck in
     (formed-of m (map struck (positions r)) e (omega (arith, f .few)), count-of m (map struck (positions r)) (length (positions r)) e l (f .few))
 
-pub struck-clean : (r m : Record) → Formed r → m ≡ recordOf (map struck (positions r)) → maskOf goes (positions m) ≡ 0
+pub struck-clean : (r m : Record) → Formed r → m ≡ recordOf (map struck (positions r)) → maskOf isUnreferenced (positions m) ≡ 0
 struck-clean r m f e =
-    ap (maskOf goes) (ap positions e ∙ positions-of (map struck (positions r)) (omega (arith, length-map (positions r) struck, f .few))) ∙ goes-none (positions r)
+    ap (maskOf isUnreferenced) (ap positions e ∙ positions-of (map struck (positions r)) (omega (arith, length-map (positions r) struck, f .few))) ∙ goes-none (positions r)
 
 pub moved-formed : (m n : Record) → Formed m → (at : ℕ) → n ≡ recordOf (moved at (positions m)) → Formed n × (length (positions n) ≡ length (positions m))
 moved-formed m n f at e =

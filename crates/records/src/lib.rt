@@ -7,12 +7,12 @@ ghost use lib.ListN.{length, getD, set, take, drop};
 ghost use Rattle.lists.specs.Lists.{count};
 ghost use Rattle.lists.specs.Masks.{maskOf};
 ghost use Rattle.lists.specs.Rows.{fill};
-ghost use Rattle.lists.specs.Tells.{Tells};
+ghost use Rattle.lists.specs.Decides.{Decides};
 ghost use Rattle.model.specs.Measures.{recordWords};
 ghost use Rattle.model.specs.State.{nullPosition, removed, Segment};
 ghost use Rattle.model.specs.Records.{isHeld, countOf, freeSegment};
 ghost use Rattle.model.specs.Table.{positionOf, recordToWords};
-ghost use Rattle.model.specs.Sweep.{goes, struck, moved};
+ghost use Rattle.model.specs.Sweep.{isUnreferenced, struck, moved};
 ghost use Rattle.records.specs.Records.{positions, recordOf, recordIn, Formed};
 use numbers::Cell;
 use numbers::RecordNumber;
@@ -53,9 +53,9 @@ impl Record {
     }
 
     // The mask of the held positions whose count is 0, from the last position down.
-    pub fn going(self) -> u32
+    pub fn unreferenced(self) -> u32
         requires { ⌜ Formed self ⌝ }
-        ensures { λ r. ⌜ r ≡ maskOf goes (positions self) ⌝ }
+        ensures { λ r. ⌜ r ≡ maskOf isUnreferenced (positions self) ⌝ }
     {
         let mut mask: u32 = 0;
         let mut i = self.used;
@@ -81,13 +81,13 @@ impl Record {
     }
 
     // The positions that go struck, where `going` is their mask.
-    pub fn strike_all(self, going: u32) -> Record
+    pub fn strike_all(self, unreferenced: u32) -> Record
         requires { ⌜ Formed self ⌝ }
-        requires { ⌜ going ≡ maskOf goes (positions self) ⌝ }
+        requires { ⌜ unreferenced ≡ maskOf isUnreferenced (positions self) ⌝ }
         ensures { λ r. ⌜ r ≡ recordOf (map struck (positions self)) ⌝ }
     {
         let mut now = self;
-        let mut left = going;
+        let mut left = unreferenced;
         while left != 0 {
             let p = u32::trailing_zeros(left);
             let i = p as usize;
@@ -100,7 +100,7 @@ impl Record {
     // The held positions, none of which goes, take consecutive cells from `start`.
     pub fn renumber(mut self, start: Cell) -> Record
         requires { ⌜ Formed self ⌝ }
-        requires { ⌜ (maskOf goes (positions self) ≡ 0) × (start .0 < 65536) ⌝ }
+        requires { ⌜ (maskOf isUnreferenced (positions self) ≡ 0) × (start .0 < 65536) ⌝ }
         ensures { λ r. ⌜ r ≡ recordOf (moved (start .0) (positions self)) ⌝ }
     {
         let mut left = self.held;
@@ -133,7 +133,7 @@ impl Record {
 
 // 1 for a held position whose count is 0; `held` is the mask from that position on.
 fn unused(held: u32, count: u32) -> u32
-    ensures { λ r. ⌜ (r ≡ cond (goes (positionOf (held % 2) 0 0 0 count)) 1 0) × (r ≤ 1) ⌝ }
+    ensures { λ r. ⌜ (r ≡ cond (isUnreferenced (positionOf (held % 2) 0 0 0 count)) 1 0) × (r ≤ 1) ⌝ }
 {
     if held % 2 == 0 {
         return 0;
@@ -146,7 +146,7 @@ fn unused(held: u32, count: u32) -> u32
 
 // Whether one of some positions goes, where `held` is their mask.
 fn any_unused(held: u32, counts: &[u32]) -> bool
-    ensures { λ r. ⌜ ((seg : Segment) → held ≡ maskOf isHeld seg → now (counts .entry) ≡ map countOf seg → Tells r (0 < count goes seg)) ⌝ }
+    ensures { λ r. ⌜ ((seg : Segment) → held ≡ maskOf isHeld seg → now (counts .entry) ≡ map countOf seg → Decides r (0 < count isUnreferenced seg)) ⌝ }
 {
     let mut left = held;
     let mut i: usize = 0;
@@ -161,9 +161,9 @@ fn any_unused(held: u32, counts: &[u32]) -> bool
 }
 
 // Whether a position of the record in a row goes. The row is only read, since most records keep all of theirs.
-pub fn any_goes(words: &[u32], number: RecordNumber, n: usize) -> bool
+pub fn any_unreferenced(words: &[u32], number: RecordNumber, n: usize) -> bool
     requires { ⌜ (n ≤ 16) × (number .0 * recordWords n + recordWords n ≤ length (now words)) ⌝ }
-    ensures { λ r. ⌜ ((seg : Segment) → length seg ≡ n → take (recordWords n) (drop (number .0 * recordWords n) (now (words .entry))) ≡ recordToWords seg → Tells r (0 < count goes seg)) ⌝ }
+    ensures { λ r. ⌜ ((seg : Segment) → length seg ≡ n → take (recordWords n) (drop (number .0 * recordWords n) (now (words .entry))) ≡ recordToWords seg → Decides r (0 < count isUnreferenced seg)) ⌝ }
 {
     let at = number.word(n);
     if words[at] == 0 {

@@ -18,7 +18,7 @@ module _ {pool table : List ℕ} (h : Sound pool table) (t v : ℕ) (output : Li
 
   module _ (in-table : t < getD table 0 0) (f : Found) (p : LookedUp pool table t v f) where
     answer : (l : Lookup) → lookUp (tillOf (stateIn (shapeOf table) pool table) t) v ≡ l
-        → restoreOf pool table t v output ≡ restoreFrom (shapeOf table .measures .blockBytes) (stateIn (shapeOf table) pool table .shelf) l output
+        → restoreOf pool table t v output ≡ restoreFrom (shapeOf table .measures .blockBytes) (stateIn (shapeOf table) pool table .storage) l output
     unfolding restoreOf restoreIn restore shapeOf
     answer l e = rw (h .is, lt-leb _ _ in-table, e)
 
@@ -27,12 +27,12 @@ module _ {pool table : List ℕ} (h : Sound pool table) (t v : ℕ) (output : Li
     not-held n e z = sym (answer (missing n) (rw e (p .missing (λ q. z (e ∙ q)))))
 
     pub held-at : f .refusal ≡ 0
-        → restoreFrom (shapeOf table .measures .blockBytes) (stateIn (shapeOf table) pool table .shelf) (firstOf 0 [] (drop (f .place) (versionsHeld pool table t))) output ≡ restoreOf pool table t v output
+        → restoreFrom (shapeOf table .measures .blockBytes) (stateIn (shapeOf table) pool table .storage) (firstOf 0 [] (drop (f .place) (versionsHeld pool table t))) output ≡ restoreOf pool table t v output
     held-at z = sym (answer _ (p .held z) ∙ older-apart (drop (f .place) (versionsHeld pool table t)))
       where
         -- a restore needs none of the older ones
         older-apart : (vs : List Version)
-            → restoreFrom (shapeOf table .measures .blockBytes) (stateIn (shapeOf table) pool table .shelf) (firstOf 0 (take (f .place) (versionsHeld pool table t)) vs) output
-            ≡ restoreFrom (shapeOf table .measures .blockBytes) (stateIn (shapeOf table) pool table .shelf) (firstOf 0 [] vs) output
+            → restoreFrom (shapeOf table .measures .blockBytes) (stateIn (shapeOf table) pool table .storage) (firstOf 0 (take (f .place) (versionsHeld pool table t)) vs) output
+            ≡ restoreFrom (shapeOf table .measures .blockBytes) (stateIn (shapeOf table) pool table .storage) (firstOf 0 [] vs) output
         older-apart [] = unfold firstOf in refl
         older-apart (w ∷ vs) = unfold firstOf restoreFrom in refl

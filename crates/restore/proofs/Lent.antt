@@ -12,8 +12,8 @@ use lib.Dec.{ltb, lit<}
 use Rattle.lists.specs.Rows.{parts, rows}
 use Rattle.lists.proofs.Slices.{tail-all, part-part}
 use Rattle.model.specs.Measures.{Measures, Shape, partsFor, tillWords, recordWords, tableWords}
-use Rattle.model.specs.State.{Shelf, Version, Till, State}
-use Rattle.model.specs.Table.{shapeOf, stateIn, shelfIn, versionIn, versionsIn, versionToWords, tillToWords, recordsPart, stateToWords, stateToBytes}
+use Rattle.model.specs.State.{Storage, Version, Till, State}
+use Rattle.model.specs.Table.{shapeOf, stateIn, storageIn, versionIn, versionsIn, versionToWords, tillToWords, recordsPart, stateToWords, stateToBytes}
 use Rattle.model.specs.Sound.{isSound}
 use Rattle.model.specs.Trace.{imageOf, longestChain}
 use Rattle.model.specs.Calls.{RestoreAnswer, emptyTill, tillOf, restoreRefusal, restoreFrom, firstOf}
@@ -24,14 +24,14 @@ use Rattle.laws.proofs.Tills.{till, few, there, till-words, in-words}
 use Rattle.laws.specs.Ranges.{Measured}
 use Rattle.tills.specs.declared.Head.{Head}
 use Rattle.tills.specs.Answers.{HeadOf}
-use Rattle.shelf.specs.Stored.{Stored}
+use Rattle.storage.specs.Stored.{Stored}
 use Rattle.restore.specs.Answers.{Lent}
-use Rattle.meets.proofs.Shelf.{wordsOf, sound-shelf, sound-stored}
-use Rattle.meets.proofs.Slots.{held-versions, slots-are, slots-read, sound-traceable, sound-direct, sound-blocks}
+use Rattle.sound_laws.proofs.Storage.{wordsOf, sound-storage, sound-stored}
+use Rattle.sound_laws.proofs.Slots.{held-versions, slots-are, slots-read, sound-traceable, sound-direct, sound-blocks}
 
 -- ---- the first version in the slots
 
-module _ (bytes b h : ℕ) (shelf : Shelf) (slots output : List ℕ) where
+module _ (bytes b h : ℕ) (storage : Storage) (slots output : List ℕ) where
   first : (n : ℕ) → 0 < n → versionsIn bytes b n slots ≡ versionIn bytes (take (3 + b) slots) ∷ versionsIn bytes b (n - 1) (drop (3 + b) slots)
   unfolding versionsIn parts
   first zero z = absurd (omega arith)
@@ -43,18 +43,18 @@ module _ (bytes b h : ℕ) (shelf : Shelf) (slots output : List ℕ) where
 
   module _ (some : 0 < h) where
     answer : (fits : Bool) → ltb (length output) (getD slots 1 0) ≡ fits
-        → restoreFrom bytes shelf (firstOf 0 [] (versionsIn bytes b h slots)) output
-        ≡ cond fits (restoreRefusal 5 output) (record { refusal = 0; length = getD slots 1 0; hops = longestChain (versionsIn bytes b h slots); output = imageOf bytes shelf (versionsIn bytes b h slots) ++ drop (getD slots 1 0) output })
+        → restoreFrom bytes storage (firstOf 0 [] (versionsIn bytes b h slots)) output
+        ≡ cond fits (restoreRefusal 5 output) (record { refusal = 0; length = getD slots 1 0; hops = longestChain (versionsIn bytes b h slots); output = imageOf bytes storage (versionsIn bytes b h slots) ++ drop (getD slots 1 0) output })
     unfolding restoreFrom firstOf
     answer fits e = rw (first h some, first-length, e)
 
-    pub too-short : length output < getD slots 1 0 → record { refusal = 5; length = 0; hops = 0; output = output } ≡ restoreFrom bytes shelf (firstOf 0 [] (versionsIn bytes b h slots)) output
+    pub too-short : length output < getD slots 1 0 → record { refusal = 5; length = 0; hops = 0; output = output } ≡ restoreFrom bytes storage (firstOf 0 [] (versionsIn bytes b h slots)) output
     unfolding restoreRefusal
     too-short l = sym (answer true (lt-ltb _ _ l))
 
     pub restored : (hops : ℕ) (out : List ℕ) → getD slots 1 0 ≤ length output → hops ≡ longestChain (versionsIn bytes b h slots)
-        → out ≡ imageOf bytes shelf (versionsIn bytes b h slots) ++ drop (getD slots 1 0) output
-        → record { refusal = 0; length = getD slots 1 0; hops = hops; output = out } ≡ restoreFrom bytes shelf (firstOf 0 [] (versionsIn bytes b h slots)) output
+        → out ≡ imageOf bytes storage (versionsIn bytes b h slots) ++ drop (getD slots 1 0) output
+        → record { refusal = 0; length = getD slots 1 0; hops = hops; output = out } ≡ restoreFrom bytes storage (firstOf 0 [] (versionsIn bytes b h slots)) output
     restored hops out l eh eo = (λ i. record { refusal = 0; length = getD slots 1 0; hops = eh i; output = eo i }) ∙ sym (answer false (le-ltb _ _ l))
 
 -- a length whose blocks are few
@@ -106,8 +106,8 @@ module _ {pool table : List ℕ} (h : Sound pool table) where
 
     -- with what is lent in variables
     module _ (ws ss : List ℕ) (n : ℕ) (ew : ws ≡ wordsOf s st sound) (es : ss ≡ rows (versionToWords (getD table 2 0)) vs) (en : n ≡ length vs) where
-      pub shelf-lent : shelfIn (shapeOf table .measures) pool ws ≡ st .shelf
-      shelf-lent = ap₂ (shelfIn (shapeOf table .measures)) (sym (found h .bytes)) ew ∙ sound-shelf s st sound
+      pub storage-lent : storageIn (shapeOf table .measures) pool ws ≡ st .storage
+      storage-lent = ap₂ (storageIn (shapeOf table .measures)) (sym (found h .bytes)) ew ∙ sound-storage s st sound
 
       pub versions-lent : versionsIn (shapeOf table .measures .blockBytes) (getD table 2 0) n ss ≡ vs
       unfolding tillOf emptyTill
@@ -167,8 +167,8 @@ module _ {pool table : List ℕ} (h : Sound pool table) (t : ℕ) (in-table : t 
   pub lent : Lent m (getD table 2 0) (r .held - j) pool words-lent slots-part
   lent = rw em (all-lent h t in-table j held-j words-lent slots-part (r .held - j) words-are slots-are-lent count-is)
 
-  pub from-there : (output : List ℕ) → restoreFrom (m .blockBytes) (shelfIn m pool words-lent) (firstOf 0 [] (versionsIn (m .blockBytes) (getD table 2 0) (r .held - j) slots-part)) output
-      ≡ restoreFrom (shapeOf table .measures .blockBytes) (stateIn (shapeOf table) pool table .shelf) (firstOf 0 [] (drop j (tillOf (stateIn (shapeOf table) pool table) t .versions))) output
+  pub from-there : (output : List ℕ) → restoreFrom (m .blockBytes) (storageIn m pool words-lent) (firstOf 0 [] (versionsIn (m .blockBytes) (getD table 2 0) (r .held - j) slots-part)) output
+      ≡ restoreFrom (shapeOf table .measures .blockBytes) (stateIn (shapeOf table) pool table .storage) (firstOf 0 [] (drop j (tillOf (stateIn (shapeOf table) pool table) t .versions))) output
   from-there output =
-      rw em (ap₂ (λ (x : Shelf) (us : List Version). restoreFrom (shapeOf table .measures .blockBytes) x (firstOf 0 [] us) output) (shelf-lent h t in-table j held-j words-lent slots-part (r .held - j) words-are slots-are-lent count-is)
+      rw em (ap₂ (λ (x : Storage) (us : List Version). restoreFrom (shapeOf table .measures .blockBytes) x (firstOf 0 [] us) output) (storage-lent h t in-table j held-j words-lent slots-part (r .held - j) words-are slots-are-lent count-is)
       (versions-lent h t in-table j held-j words-lent slots-part (r .held - j) words-are slots-are-lent count-is))

@@ -6,8 +6,8 @@ use lib.ListN.{length, getD}
 use Rattle.model.specs.Measures.{Measures, partsFor}
 use Rattle.model.specs.Table.{versionsIn}
 use Rattle.model.specs.Calls.{RestoreAnswer}
-use Rattle.shelf.specs.Stored.{Stored}
-use Rattle.trace.specs.Versions.{pointersAt, Traceable, Direct}
+use Rattle.storage.specs.Stored.{Stored}
+use Rattle.restore_trace.specs.Versions.{pointersAt, Traceable, Direct}
 use Rattle.restore.specs.declared.Restored.{Restored}
 
 pub record Lent (m : Measures) (b h : ℕ) (pool words slots : List ℕ) : Type 0 where

@@ -3,7 +3,7 @@ ghost use mathlib.Core.Path.{_≡_};
 ghost use mathlib.Core.List.{[]};
 ghost use Prim.Native.Nat.{ℕ, _+_, _-_, _<_};
 ghost use lib.ListN.{length, getD, drop};
-ghost use Rattle.model.specs.Table.{shapeOf, stateIn, shelfIn, versionsIn};
+ghost use Rattle.model.specs.Table.{shapeOf, stateIn, storageIn, versionsIn};
 ghost use Rattle.model.specs.Calls.{tillOf, firstOf, restoreFrom, restoreOf};
 ghost use Rattle.laws.specs.Stores.{Sound};
 ghost use Rattle.numbers.specs.Measures.{measuresOf};
@@ -41,13 +41,13 @@ fn restore_slots(
     m: Measures,
 ) -> Restored
     requires { ⌜ Lent (measuresOf m) b h (now pool) (now words) (now slots) ⌝ }
-    ensures { λ r. ⌜ restoreAnswer r (now (output .exit)) ≡ restoreFrom (m .bytes) (shelfIn (measuresOf m) (now (pool .entry)) (now (words .entry))) (firstOf 0 [] (versionsIn (m .bytes) b h (now (slots .entry)))) (now (output .entry)) ⌝ }
+    ensures { λ r. ⌜ restoreAnswer r (now (output .exit)) ≡ restoreFrom (m .bytes) (storageIn (measuresOf m) (now (pool .entry)) (now (words .entry))) (firstOf 0 [] (versionsIn (m .bytes) b h (now (slots .entry)))) (now (output .entry)) ⌝ }
 {
     let length = slots[1];
     if output.len() < length as usize {
         return refused(5);
     }
-    let hops = trace::restore_image(pool, words, slots, b, h, output, m);
+    let hops = restore_trace::restore_image(pool, words, slots, b, h, output, m);
     Restored {
         refusal: 0,
         length: length,
@@ -66,7 +66,7 @@ fn restore_held(
     m: Measures,
 ) -> Restored
     requires { ⌜ Sound (now pool) (now table) × (till < getD (now table) 0 0) × HeadOf (now pool) (now table) till head × (j < head .held) × (measuresOf m ≡ shapeOf (now table) .measures) ⌝ }
-    ensures { λ r. ⌜ restoreAnswer r (now (output .exit)) ≡ restoreFrom (shapeOf (now (table .entry)) .measures .blockBytes) (stateIn (shapeOf (now (table .entry))) (now (pool .entry)) (now (table .entry)) .shelf) (firstOf 0 [] (drop j (tillOf (stateIn (shapeOf (now (table .entry))) (now (pool .entry)) (now (table .entry))) till .versions))) (now (output .entry)) ⌝ }
+    ensures { λ r. ⌜ restoreAnswer r (now (output .exit)) ≡ restoreFrom (shapeOf (now (table .entry)) .measures .blockBytes) (stateIn (shapeOf (now (table .entry))) (now (pool .entry)) (now (table .entry)) .storage) (firstOf 0 [] (drop j (tillOf (stateIn (shapeOf (now (table .entry))) (now (pool .entry)) (now (table .entry))) till .versions))) (now (output .entry)) ⌝ }
 {
     let records = tills::records_at(table);
     let blocks = table[2] as usize;

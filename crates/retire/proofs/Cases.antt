@@ -12,10 +12,10 @@ use Rattle.lists.specs.Each.{Each}
 use Rattle.lists.proofs.Each.{each-at, each-take}
 use Rattle.lists.proofs.Slices.{drop-end, drop-next, take-next, tail-all, part-part, part-get}
 use Rattle.model.specs.Measures.{Measures, Shape, Capacities, partsFor, tillWords, recordWords, tableWords}
-use Rattle.model.specs.State.{Pointer, Version, Rights, Till, Shelf, State, Outcome, refused, done}
+use Rattle.model.specs.State.{Pointer, Version, Rights, Till, Storage, State, Outcome, refused, done}
 use Rattle.model.specs.Records.{countOf}
 use Rattle.model.specs.Sweep.{release, claim, sweep}
-use Rattle.model.specs.Table.{pointerWord, wordToPointer, versionToWords, tillToWords, recordToWords, recordsPart, recordsIn, shapeOf, stateIn, shelfIn, stateToWords, stateToBytes}
+use Rattle.model.specs.Table.{pointerWord, wordToPointer, versionToWords, tillToWords, recordToWords, recordsPart, recordsIn, shapeOf, stateIn, storageIn, stateToWords, stateToBytes}
 use Rattle.model.specs.Calls.{After, emptyTill, tillOf, Lookup, missing, firstOf, lookUp, newestPointers, withNewestPointers, taken, takeOver, closeUp, withTill, retireFrom, retire, retireIn, retireOf}
 use Rattle.model.specs.Calls as calls
 use Rattle.laws.proofs.Bounds.{count-bound}
@@ -26,17 +26,17 @@ use Rattle.laws.proofs.RoundTrip.{length-till, held-word, pointers-back}
 use Rattle.laws.specs.Stores.{tillAt, recordsFrom, Sound}
 use Rattle.laws.proofs.Stores.{till-is, till-put, records-put, header, found, fits, fit, long}
 use Rattle.laws.proofs.Tills.{there, till-words, few, in-words, slot-in}
-use Rattle.meets.proofs.Records.{part-is, shelf-is}
-use Rattle.trace.specs.Versions.{noVersion}
-use Rattle.shelf.specs.Stored.{Told, Stored, positionIn}
-use Rattle.shelf.specs.Fits.{Fits, NamesHeld}
+use Rattle.sound_laws.proofs.Records.{part-is, storage-is}
+use Rattle.restore_trace.specs.Versions.{noVersion}
+use Rattle.storage.specs.Stored.{Encodes, Stored, positionIn}
+use Rattle.storage.specs.Fits.{WithinRecords, NamesHeld}
 use Rattle.slots.specs.Slots.{HasSlot}
-use Rattle.meets.proofs.Slots as slots
-use Rattle.meets.proofs.Pointers.{null-word, slot-row, version-words, version-pointers, version-fit, version-held}
+use Rattle.sound_laws.proofs.Slots as slots
+use Rattle.sound_laws.proofs.Pointers.{null-word, slot-row, version-words, version-pointers, version-fit, version-held}
 use Rattle.tills.specs.declared.Found.{Found}
 use Rattle.tills.specs.declared.Head.{Head}
 use Rattle.tills.specs.Answers.{tillSize, HeadOf, versionsHeld, LookedUp}
-use Rattle.retire.specs.Answers.{versionAt, Holds, Copied, takenWord, takeOverWord, exchanged, stateWithout, Are, Placed, retiredAt}
+use Rattle.retire.specs.Answers.{versionAt, HoldsVersion, Copied, takenWord, takeOverWord, exchanged, stateWithout, EncodesState, TillPlace, retiredAt}
 use Rattle.retire.proofs.Words.{taken-pointers, taken-each, over-words}
 
 -- room for pointers
@@ -62,7 +62,7 @@ table-most {pool} {table} h =
 
 -- ---- the slot of the version at place j
 
-module _ {pool table : List ℕ} {t at j : ℕ} (h : Holds pool table t at j) where
+module _ {pool table : List ℕ} {t at j : ℕ} (h : HoldsVersion pool table t at j) where
   abbrev caps : Capacities
   caps = shapeOf table .capacities
 
@@ -189,14 +189,14 @@ module _ {pool table : List ℕ} {t at j : ℕ} (h : Holds pool table t at j) wh
     front-long = length-take-le k ws (front-room .0)
 
   -- its pointers can be followed, and name held positions
-  pub gone-fit : (i : ℕ) → Fits (shapeOf table .measures .segmentBlocks) (length (drop (recordsFrom (shapeOf table)) table)) (wordToPointer (getD (map pointerWord (versionAt pool table t j .pointers)) i 0))
+  pub gone-fit : (i : ℕ) → WithinRecords (shapeOf table .measures .segmentBlocks) (length (drop (recordsFrom (shapeOf table)) table)) (wordToPointer (getD (map pointerWord (versionAt pool table t j .pointers)) i 0))
   unfolding shapeOf tillOf emptyTill
   gone-fit i =
-      subst (λ (w : List ℕ). Fits (shapeOf table .measures .segmentBlocks) (length (recordsPart caps w)) (wordToPointer (getD (map pointerWord (versionAt pool table t j .pointers)) i 0))) (found (h .sound) .words)
+      subst (λ (w : List ℕ). WithinRecords (shapeOf table .measures .segmentBlocks) (length (recordsPart caps w)) (wordToPointer (getD (map pointerWord (versionAt pool table t j .pointers)) i 0))) (found (h .sound) .words)
       (version-fit (shapeOf table) state (found (h .sound) .sound) t ht j (h .held) i)
 
   pub gone-held : (i : ℕ) → NamesHeld (recordsIn (shapeOf table .measures .segmentBlocks) (drop (recordsFrom (shapeOf table)) table)) (wordToPointer (getD (map pointerWord (versionAt pool table t j .pointers)) i 0))
-  unfolding shapeOf tillOf emptyTill stateIn shelfIn
+  unfolding shapeOf tillOf emptyTill stateIn storageIn
   gone-held i = version-held (shapeOf table) state (found (h .sound) .sound) t ht j (h .held) i
 
 -- ---- the older neighbour
@@ -206,8 +206,8 @@ older-is vs j z h =
     let e : j ≡ j - 1 + 1 = omega (arith, z) in
     ap (λ (k : ℕ). newestPointers (take k vs)) e ∙ ap newestPointers (take-next vs (j - 1) noVersion (omega (arith, z, h))) ∙ newest-last (take (j - 1) vs) (getD vs (j - 1) noVersion)
 
-module _ {pool table : List ℕ} {t at j : ℕ} (h : Holds pool table t at j) where
-  pub holds-older : (j ≡ 0 → ⊥) → Holds pool table t at (j - 1)
+module _ {pool table : List ℕ} {t at j : ℕ} (h : HoldsVersion pool table t at j) where
+  pub holds-older : (j ≡ 0 → ⊥) → HoldsVersion pool table t at (j - 1)
   holds-older z = record { sound = h .sound; inside = h .inside; begins = h .begins; held = omega (arith, h .held) }
 
   pub older-none : j ≡ 0 → (ws : List ℕ) → take 0 ws ≡ map pointerWord (newestPointers (take j (versionsHeld pool table t)))
@@ -240,27 +240,27 @@ module _ {pool table : List ℕ} (h : Sound pool table) (r : ℕ) (e : r ≡ rec
   records-in = let (a, b) = table-most h in (omega (arith, e, b), a)
 
   exchanges : (p w : List ℕ) (ts gs : List Pointer)
-      → Told (shapeOf table .measures) p w (sweep (shapeOf table .measures) (release (claim (shelfIn (shapeOf table .measures) pool (take (length table - r) (drop r table))) ts) gs))
-      → Are (shapeOf table) (exchanged pool table ts gs) p (take r table ++ (w ++ drop (length table - r) (drop r table)))
+      → Encodes (shapeOf table .measures) p w (sweep (shapeOf table .measures) (release (claim (storageIn (shapeOf table .measures) pool (take (length table - r) (drop r table))) ts) gs))
+      → EncodesState (shapeOf table) (exchanged pool table ts gs) p (take r table ++ (w ++ drop (length table - r) (drop r table)))
   unfolding stateToBytes
   exchanges p w ts gs o =
       let s : Shape = shapeOf table in
       let st : State = stateIn (shapeOf table) pool table in
-      let to : Shelf = sweep (shapeOf table .measures) (release (claim (st .shelf) ts) gs) in
-      let q : Told (shapeOf table .measures) p w to = subst (λ (x : Shelf). Told (shapeOf table .measures) p w (sweep (shapeOf table .measures) (release (claim x ts) gs))) (shelf-is h r e) o in
+      let to : Storage = sweep (shapeOf table .measures) (release (claim (st .storage) ts) gs) in
+      let q : Encodes (shapeOf table .measures) p w to = subst (λ (x : Storage). Encodes (shapeOf table .measures) p w (sweep (shapeOf table .measures) (release (claim x ts) gs))) (storage-is h r e) o in
       record {
         bytes = q .cells .joins;
         words =
             ap (λ (k : ℕ). take k table ++ (w ++ drop (length table - k) (drop k table))) e
             ∙ ap (λ (l : List ℕ). take (recordsFrom s) table ++ (l ++ drop (length table - recordsFrom s) (drop (recordsFrom s) table))) (q .records .words)
-            ∙ subst (λ (l : List ℕ). take (recordsFrom s) l ++ (rows recordToWords (to .records) ++ drop (length l - recordsFrom s) (drop (recordsFrom s) l)) ≡ stateToWords s (record { tills = st .tills; shelf = record { records = to .records; cells = to .cells } }))
+            ∙ subst (λ (l : List ℕ). take (recordsFrom s) l ++ (rows recordToWords (to .records) ++ drop (length l - recordsFrom s) (drop (recordsFrom s) l)) ≡ stateToWords s (record { tills = st .tills; storage = record { records = to .records; cells = to .cells } }))
             (found h .words) (records-put s st (fits h .tillCount) (to .records) (to .cells));
       }
 
   counts-few : (k i : ℕ) → countOf (positionIn (recordsIn (shapeOf table .measures .segmentBlocks) (take (length table - r) (drop r table))) k i) ≤ 1048576
-  unfolding shelfIn
+  unfolding storageIn
   counts-few k i =
-      subst (λ (x : Shelf). countOf (positionIn (x .records) k i) ≤ 1048576) (sym (shelf-is h r e))
+      subst (λ (x : Storage). countOf (positionIn (x .records) k i) ≤ 1048576) (sym (storage-is h r e))
       (count-bound (shapeOf table) (fit h) (stateIn (shapeOf table) pool table) (found h .sound) k i)
 
   -- with the measures as the code read them
@@ -272,13 +272,13 @@ module _ {pool table : List ℕ} (h : Sound pool table) (r : ℕ) (e : r ≡ rec
     pub counts-read : (n : ℕ) → n ≤ 1024 → (k i : ℕ) → countOf (positionIn (recordsIn (m .segmentBlocks) (take (length table - r) (drop r table))) k i) + n < 2 ^ 32
     counts-read n l k i = rw em (omega (arith, counts-few k i, l))
 
-    pub exchanged-read : (p w : List ℕ) (ts gs : List Pointer) → Told m p w (sweep m (release (claim (shelfIn m pool (take (length table - r) (drop r table))) ts) gs))
-        → Are (shapeOf table) (exchanged pool table ts gs) p (take r table ++ (w ++ drop (length table - r) (drop r table)))
-    exchanged-read p w ts gs o = exchanges p w ts gs (subst (λ (n : Measures). Told n p w (sweep n (release (claim (shelfIn n pool (take (length table - r) (drop r table))) ts) gs))) em o)
+    pub exchanged-read : (p w : List ℕ) (ts gs : List Pointer) → Encodes m p w (sweep m (release (claim (storageIn m pool (take (length table - r) (drop r table))) ts) gs))
+        → EncodesState (shapeOf table) (exchanged pool table ts gs) p (take r table ++ (w ++ drop (length table - r) (drop r table)))
+    exchanged-read p w ts gs o = exchanges p w ts gs (subst (λ (n : Measures). Encodes n p w (sweep n (release (claim (storageIn n pool (take (length table - r) (drop r table))) ts) gs))) em o)
 
 -- ---- the slot goes
 
-module _ (s : Shape) (st : State) (t at n b : ℕ) (p : Placed s st t at n b) (ws : List ℕ) (e : ws ≡ stateToWords s st) where
+module _ (s : Shape) (st : State) (t at n b : ℕ) (p : TillPlace s st t at n b) (ws : List ℕ) (e : ws ≡ stateToWords s st) where
   till-part : take n (drop at ws) ≡ tillToWords (s .capacities .versions) b (tillOf st t)
   till-part = rw (e, p .begins, p .size, p .blocks) (till-is s st t (p .there))
 
@@ -304,7 +304,7 @@ module _ (s : Shape) (st : State) (t at n b : ℕ) (p : Placed s st t at n b) (w
       → take (at + n - at) (drop at ws) ≡ tillToWords v b (record { last = last; rights = rights; versions = os ++ (x ∷ ns) }) → pws ≡ map pointerWord qs → length qs ≡ length (newestPointers os)
       → ys ≡ tillToWords v b (record { last = last; rights = rights; versions = withNewestPointers os qs ++ ns }))
       → length older ≡ j → pws ≡ map pointerWord ps → length ps ≡ length (newestPointers older)
-      → take at ws ++ (ys ++ drop (at + n - at) (drop at ws)) ≡ stateToWords s (record { tills = set (st .tills) t (record { last = tillOf st t .last; rights = tillOf st t .rights; versions = withNewestPointers older ps ++ newer }); shelf = st .shelf })
+      → take at ws ++ (ys ++ drop (at + n - at) (drop at ws)) ≡ stateToWords s (record { tills = set (st .tills) t (record { last = tillOf st t .last; rights = tillOf st t .rights; versions = withNewestPointers older ps ++ newer }); storage = st .storage })
   slot-closed j older u newer ps pws ys ev f lo ep lp =
       let k : at + n - at ≡ n = omega arith in
       let new : Till = record { last = tillOf st t .last; rights = tillOf st t .rights; versions = withNewestPointers older ps ++ newer } in
@@ -315,7 +315,7 @@ module _ (s : Shape) (st : State) (t at n b : ℕ) (p : Placed s st t at n b) (w
 
 -- ---- the whole
 
-module _ {pool table : List ℕ} {t at j : ℕ} (h : Holds pool table t at j) where
+module _ {pool table : List ℕ} {t at j : ℕ} (h : HoldsVersion pool table t at j) where
   abbrev vs : List Version
   vs = versionsHeld pool table t
 
@@ -336,7 +336,7 @@ module _ {pool table : List ℕ} {t at j : ℕ} (h : Holds pool table t at j) wh
   pub before-long : length (take j (versionsHeld pool table t)) ≡ j
   before-long = length-take-le j (versionsHeld pool table t) (omega (arith, h .held))
 
-  pub placed : (ts gs : List Pointer) (n : ℕ) → n ≡ tillSize table → Placed (shapeOf table) (exchanged pool table ts gs) t at n (getD table 2 0)
+  pub placed : (ts gs : List Pointer) (n : ℕ) → n ≡ tillSize table → TillPlace (shapeOf table) (exchanged pool table ts gs) t at n (getD table 2 0)
   unfolding shapeOf tillOf
   placed ts gs n e = record {
     there = there (h .sound) t (h .inside);
@@ -367,13 +367,13 @@ module _ {pool table : List ℕ} {t at j : ℕ} (h : Holds pool table t at j) wh
 
   -- what is taken over can be followed too
   pub taken-there : (gone older : List ℕ) → gone ≡ map pointerWord gonePointers → (i : ℕ)
-      → Fits (shapeOf table .measures .segmentBlocks) (length (drop (recordsFrom (shapeOf table)) table)) (wordToPointer (getD (map (takenWord gone) older) i 0))
+      → WithinRecords (shapeOf table .measures .segmentBlocks) (length (drop (recordsFrom (shapeOf table)) table)) (wordToPointer (getD (map (takenWord gone) older) i 0))
       × NamesHeld (recordsIn (shapeOf table .measures .segmentBlocks) (drop (recordsFrom (shapeOf table)) table)) (wordToPointer (getD (map (takenWord gone) older) i 0))
   taken-there gone older e i =
       let segs = recordsIn (shapeOf table .measures .segmentBlocks) (drop (recordsFrom (shapeOf table)) table) in
       let l : ℕ = length (drop (recordsFrom (shapeOf table)) table) in
-      taken-each (λ (w : ℕ). Fits (shapeOf table .measures .segmentBlocks) l (wordToPointer w) × NamesHeld segs (wordToPointer w)) gone older
-      (rw null-word (unfold Fits NamesHeld in (tt, tt))) (λ n. rw e (gone-fit h n, gone-held h n)) i
+      taken-each (λ (w : ℕ). WithinRecords (shapeOf table .measures .segmentBlocks) l (wordToPointer w) × NamesHeld segs (wordToPointer w)) gone older
+      (rw null-word (unfold WithinRecords NamesHeld in (tt, tt))) (λ n. rw e (gone-fit h n, gone-held h n)) i
 
   pub taken-words : (gone older : List ℕ) → gone ≡ map pointerWord gonePointers → older ≡ map pointerWord olderPointers → map wordToPointer (map (takenWord gone) older) ≡ map (taken gonePointers) olderPointers
   unfolding shapeOf tillOf emptyTill
@@ -389,23 +389,23 @@ module _ {pool table : List ℕ} {t at j : ℕ} (h : Holds pool table t at j) wh
   pub over-pointers : (gone older : List ℕ) → gone ≡ map pointerWord gonePointers → older ≡ map pointerWord olderPointers → map (takeOverWord gone) older ≡ map pointerWord (map (takeOver gonePointers) olderPointers)
   over-pointers gone older eg eo = rw (eg, eo) (over-words gonePointers olderPointers (older-fit h))
 
-  without : (ts gs : List Pointer) → ts ≡ map (taken gonePointers) olderPointers → gs ≡ gonePointers → (p w w′ : List ℕ) → Are (shapeOf table) (exchanged pool table ts gs) p w
+  without : (ts gs : List Pointer) → ts ≡ map (taken gonePointers) olderPointers → gs ≡ gonePointers → (p w w′ : List ℕ) → EncodesState (shapeOf table) (exchanged pool table ts gs) p w
       → w′ ≡ stateToWords (shapeOf table) (record {
         tills = set (exchanged pool table ts gs .tills) t (record {
           last = tillOf (exchanged pool table ts gs) t .last;
           rights = tillOf (exchanged pool table ts gs) t .rights;
           versions = withNewestPointers (take j (versionsHeld pool table t)) (map (takeOver gonePointers) olderPointers) ++ drop (suc j) (versionsHeld pool table t);
         });
-        shelf = exchanged pool table ts gs .shelf;
+        storage = exchanged pool table ts gs .storage;
       })
-      → Are (shapeOf table) (stateWithout pool table t j) p w′
+      → EncodesState (shapeOf table) (stateWithout pool table t j) p w′
   unfolding withTill closeUp tillOf stateToBytes
   without ts gs et eg p w w′ a e =
       let st : State = stateIn (shapeOf table) pool table in
       let cells : State = exchanged pool table (map (taken gonePointers) olderPointers) gonePointers in
       record {
         bytes = a .bytes ∙ ap₂ (λ (x y : List Pointer). stateToBytes (exchanged pool table x y)) et eg;
-        words = e ∙ ap₂ (λ (x y : List Pointer). stateToWords (shapeOf table) (record { tills = set (st .tills) t (record { last = tillOf st t .last; rights = tillOf st t .rights; versions = withNewestPointers (take j (versionsHeld pool table t)) (map (takeOver gonePointers) olderPointers) ++ drop (suc j) (versionsHeld pool table t) }); shelf = exchanged pool table x y .shelf })) et eg;
+        words = e ∙ ap₂ (λ (x y : List Pointer). stateToWords (shapeOf table) (record { tills = set (st .tills) t (record { last = tillOf st t .last; rights = tillOf st t .rights; versions = withNewestPointers (take j (versionsHeld pool table t)) (map (takeOver gonePointers) olderPointers) ++ drop (suc j) (versionsHeld pool table t) }); storage = exchanged pool table x y .storage })) et eg;
       }
 
   -- the steps of the call, with the words as they pass them on
@@ -423,7 +423,7 @@ module _ {pool table : List ℕ} {t at j : ℕ} (h : Holds pool table t at j) wh
           header (h .sound) .blocks,
         )
 
-    module _ (n : ℕ) (en : n ≡ tillSize table) (p w : List ℕ) (a : Are (shapeOf table) (exchanged pool table (map wordToPointer took) (map wordToPointer gone)) p w) where
+    module _ (n : ℕ) (en : n ≡ tillSize table) (p w : List ℕ) (a : EncodesState (shapeOf table) (exchanged pool table (map wordToPointer took) (map wordToPointer gone)) p w) where
       pub close-meets : (at + n ≤ length w) × HasSlot (getD table 2 0) j (take n (drop at w)) × (length over ≤ getD table 2 0)
       unfolding tillOf
       close-meets =
@@ -435,10 +435,10 @@ module _ {pool table : List ℕ} {t at j : ℕ} (h : Holds pool table t at j) wh
           )
 
       pub finished : (w′ : List ℕ)
-          → ((s : Shape) (st : State) (u : ℕ) (before : List Version) (x : Version) (newer : List Version) (ps : List Pointer) → Placed s st u at n (getD table 2 0) → tillOf st u .versions ≡ before ++ (x ∷ newer) → length before ≡ j
+          → ((s : Shape) (st : State) (u : ℕ) (before : List Version) (x : Version) (newer : List Version) (ps : List Pointer) → TillPlace s st u at n (getD table 2 0) → tillOf st u .versions ≡ before ++ (x ∷ newer) → length before ≡ j
           → w ≡ stateToWords s st → over ≡ map pointerWord ps → length ps ≡ length (newestPointers before)
-          → w′ ≡ stateToWords s (record { tills = set (st .tills) u (record { last = tillOf st u .last; rights = tillOf st u .rights; versions = withNewestPointers before ps ++ newer }); shelf = st .shelf }))
-          → Are (shapeOf table) (stateWithout pool table t j) p w′
+          → w′ ≡ stateToWords s (record { tills = set (st .tills) u (record { last = tillOf st u .last; rights = tillOf st u .rights; versions = withNewestPointers before ps ++ newer }); storage = st .storage }))
+          → EncodesState (shapeOf table) (stateWithout pool table t j) p w′
       unfolding tillOf
       finished w′ f =
           let ts : List Pointer = map wordToPointer took in
@@ -447,7 +447,7 @@ module _ {pool table : List ℕ} {t at j : ℕ} (h : Holds pool table t at j) wh
           (f (shapeOf table) (exchanged pool table ts gs) t (take j (versionsHeld pool table t)) (versionAt pool table t j) (drop (suc j) (versionsHeld pool table t)) (map (takeOver gonePointers) olderPointers)
           (placed ts gs n en) split before-long (a .words) (ev ∙ over-pointers gone older eg eo) (length-map olderPointers (takeOver gonePointers)))
 
-  pub answered : (n : ℕ) (p w : List ℕ) → n ≡ versionAt pool table t j .length → Are (shapeOf table) (stateWithout pool table t j) p w
+  pub answered : (n : ℕ) (p w : List ℕ) → n ≡ versionAt pool table t j .length → EncodesState (shapeOf table) (stateWithout pool table t j) p w
       → record { refusal = 0; length = n; pool = p; table = w } ≡ retiredAt pool table t j
   unfolding calls.retireAnswer retireFrom firstOf
   answered n p w en a =
@@ -474,5 +474,5 @@ module _ {pool table : List ℕ} (h : Sound pool table) (t n : ℕ) where
     unfolding calls.retireAnswer retireFrom
     not-held k e z = sym (answer (missing k) (rw e (p .missing (λ q. z (e ∙ q)))))
 
-    pub holds : f .refusal ≡ 0 → Holds pool table t (r .at) (f .place)
+    pub holds : f .refusal ≡ 0 → HoldsVersion pool table t (r .at) (f .place)
     holds z = record { sound = h; inside = in-table; begins = o .at; held = p .inside z }

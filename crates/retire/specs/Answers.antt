@@ -12,14 +12,14 @@ use Rattle.model.specs.Table.{kindUnit, pointerWord, shapeOf, stateIn, stateToW
 use Rattle.model.specs.Calls as calls
 use Rattle.laws.specs.Stores.{tillAt, Sound}
 use Rattle.tills.specs.Answers.{versionsHeld}
-use Rattle.trace.specs.Versions.{noVersion}
+use Rattle.restore_trace.specs.Versions.{noVersion}
 use Rattle.retire.specs.declared.Retired.{Retired}
 
 abbrev pub versionAt : List ℕ → List ℕ → ℕ → ℕ → Version
 versionAt pool table t j = getD (versionsHeld pool table t) j noVersion
 
 -- till t of a sound store, which begins at a word, holds a version at place j, the oldest first
-pub record Holds (pool table : List ℕ) (t at j : ℕ) : Type 0 where
+pub record HoldsVersion (pool table : List ℕ) (t at j : ℕ) : Type 0 where
   pub sound : Sound pool table
   pub inside : t < getD table 0 0
   pub begins : at ≡ tillAt (shapeOf table) t
@@ -42,7 +42,7 @@ takeOverWord gone w = cond (eqb (w / kindUnit) 2) (getD gone (w % kindUnit) 0) w
 abbrev pub exchanged : List ℕ → List ℕ → List Pointer → List Pointer → State
 exchanged pool table taken gone = record {
   tills = stateIn (shapeOf table) pool table .tills;
-  shelf = sweep (shapeOf table .measures) (release (claim (stateIn (shapeOf table) pool table .shelf) taken) gone);
+  storage = sweep (shapeOf table .measures) (release (claim (stateIn (shapeOf table) pool table .storage) taken) gone);
 }
 
 -- the version at place j has gone from between its neighbours
@@ -52,23 +52,23 @@ stateWithout pool table t j =
     let older = take j (versionsHeld pool table t) in
     let gone = versionAt pool table t j in
     calls.withTill st t (record { last = calls.tillOf st t .last; rights = calls.tillOf st t .rights; versions = calls.closeUp older gone (drop (suc j) (versionsHeld pool table t)) })
-    (sweep (shapeOf table .measures) (release (claim (st .shelf) (map (calls.taken (gone .pointers)) (calls.newestPointers older))) (gone .pointers)))
+    (sweep (shapeOf table .measures) (release (claim (st .storage) (map (calls.taken (gone .pointers)) (calls.newestPointers older))) (gone .pointers)))
 
 -- the buffers are those of a state
-pub record Are (s : Shape) (st : State) (pool table : List ℕ) : Type 0 where
+pub record EncodesState (s : Shape) (st : State) (pool table : List ℕ) : Type 0 where
   pub bytes : pool ≡ stateToBytes st
   pub words : table ≡ stateToWords s st
 
 -- the place and the size of till t of a state
-pub record Placed (s : Shape) (st : State) (t at n b : ℕ) : Type 0 where
+pub record TillPlace (s : Shape) (st : State) (t at n b : ℕ) : Type 0 where
   pub there : t < length (st .tills)
   pub begins : at ≡ tillAt s t
   pub blocks : b ≡ s .capacities .blocks
   pub size : n ≡ tillWords (s .capacities .versions) (s .capacities .blocks)
   pub few : length (calls.tillOf st t .versions) ≤ s .capacities .versions
 
-abbrev pub retireAnswer : Retired → List ℕ → List ℕ → calls.RetireAnswer
-retireAnswer r pool table = record { refusal = r .refusal; length = r .length; pool = pool; table = table }
+abbrev pub retiredAnswer : Retired → List ℕ → List ℕ → calls.RetireAnswer
+retiredAnswer r pool table = record { refusal = r .refusal; length = r .length; pool = pool; table = table }
 
 -- the answer of a call that retires the version at place j
 abbrev pub retiredAt : List ℕ → List ℕ → ℕ → ℕ → calls.RetireAnswer

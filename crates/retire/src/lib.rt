@@ -9,10 +9,10 @@ ghost use Rattle.model.specs.Table.{pointerWord, wordToPointer, recordsIn, shap
 ghost use Rattle.model.specs.Calls.{tillOf, newestPointers, withNewestPointers, retireOf};
 ghost use Rattle.laws.specs.Stores.{recordsFrom, Sound};
 ghost use Rattle.numbers.specs.Measures.{measuresOf};
-ghost use Rattle.shelf.specs.Fits.{Fits, NamesHeld};
+ghost use Rattle.storage.specs.Fits.{WithinRecords, NamesHeld};
 ghost use Rattle.slots.specs.Slots.{HasSlot};
 ghost use Rattle.tills.specs.Answers.{versionsHeld};
-ghost use Rattle.retire.specs.Answers.{versionAt, Holds, Copied, takenWord, takeOverWord, exchanged, stateWithout, Are, Placed, retireAnswer, retiredAt};
+ghost use Rattle.retire.specs.Answers.{versionAt, HoldsVersion, Copied, takenWord, takeOverWord, exchanged, stateWithout, EncodesState, TillPlace, retiredAnswer, retiredAt};
 use numbers::Measures;
 
 // Refusal 0 is an accepted call.
@@ -32,7 +32,7 @@ fn copy_version(
     pointers: &mut [u32],
     bytes: usize,
 ) -> u32
-    requires { ⌜ Holds (now pool) (now table) till at j × (length (now pointers) ≡ 1024) × (bytes ≡ shapeOf (now table) .measures .blockBytes) ⌝ }
+    requires { ⌜ HoldsVersion (now pool) (now table) till at j × (length (now pointers) ≡ 1024) × (bytes ≡ shapeOf (now table) .measures .blockBytes) ⌝ }
     ensures { λ r. ⌜ Copied (now (pool .entry)) (now (table .entry)) till j r (now (pointers .exit)) ⌝ }
 {
     let width = 3 + table[2] as usize;
@@ -53,7 +53,7 @@ fn copy_older(
     older: &mut [u32],
     bytes: usize,
 ) -> usize
-    requires { ⌜ Holds (now pool) (now table) till at j × (length (now older) ≡ 1024) × (bytes ≡ shapeOf (now table) .measures .blockBytes) ⌝ }
+    requires { ⌜ HoldsVersion (now pool) (now table) till at j × (length (now older) ≡ 1024) × (bytes ≡ shapeOf (now table) .measures .blockBytes) ⌝ }
     ensures { λ r. ⌜ (take r (now (older .exit)) ≡ map pointerWord (newestPointers (take j (versionsHeld (now (pool .entry)) (now (table .entry)) till)))) × (r ≤ 1024) ⌝ }
 {
     if j == 0 {
@@ -108,9 +108,9 @@ fn take_over(older: &mut [u32], gone: &[u32], taken: &mut [u32])
 // Pointers taken over claim their blocks, before the others let go of theirs.
 fn exchange(pool: &mut [u8], table: &mut [u32], taken: &[u32], gone: &[u32], m: Measures)
     requires { ⌜ Sound (now pool) (now table) × (measuresOf m ≡ shapeOf (now table) .measures) × (length (now taken) ≤ 1024) ⌝ }
-    requires { ⌜ ((i : ℕ) → i < length (now taken) → Fits (shapeOf (now table) .measures .segmentBlocks) (length (drop (recordsFrom (shapeOf (now table))) (now table))) (wordToPointer (getD (now taken) i 0)) × NamesHeld (recordsIn (shapeOf (now table) .measures .segmentBlocks) (drop (recordsFrom (shapeOf (now table))) (now table))) (wordToPointer (getD (now taken) i 0))) ⌝ }
-    requires { ⌜ ((i : ℕ) → i < length (now gone) → Fits (shapeOf (now table) .measures .segmentBlocks) (length (drop (recordsFrom (shapeOf (now table))) (now table))) (wordToPointer (getD (now gone) i 0))) ⌝ }
-    ensures { λ _. ⌜ Are (shapeOf (now (table .entry))) (exchanged (now (pool .entry)) (now (table .entry)) (map wordToPointer (now (taken .entry))) (map wordToPointer (now (gone .entry)))) (now (pool .exit)) (now (table .exit)) ⌝ }
+    requires { ⌜ ((i : ℕ) → i < length (now taken) → WithinRecords (shapeOf (now table) .measures .segmentBlocks) (length (drop (recordsFrom (shapeOf (now table))) (now table))) (wordToPointer (getD (now taken) i 0)) × NamesHeld (recordsIn (shapeOf (now table) .measures .segmentBlocks) (drop (recordsFrom (shapeOf (now table))) (now table))) (wordToPointer (getD (now taken) i 0))) ⌝ }
+    requires { ⌜ ((i : ℕ) → i < length (now gone) → WithinRecords (shapeOf (now table) .measures .segmentBlocks) (length (drop (recordsFrom (shapeOf (now table))) (now table))) (wordToPointer (getD (now gone) i 0))) ⌝ }
+    ensures { λ _. ⌜ EncodesState (shapeOf (now (table .entry))) (exchanged (now (pool .entry)) (now (table .entry)) (map wordToPointer (now (taken .entry))) (map wordToPointer (now (gone .entry)))) (now (pool .exit)) (now (table .exit)) ⌝ }
 {
     let records = tills::records_at(table);
     sweep::exchange(pool, &mut table[records..], taken, gone, m);
@@ -119,7 +119,7 @@ fn exchange(pool: &mut [u8], table: &mut [u32], taken: &[u32], gone: &[u32], m: 
 // The till loses the version at place j, and its older neighbour has other pointers.
 fn close_up(table: &mut [u32], at: usize, size: usize, blocks: usize, j: usize, pointers: &[u32])
     requires { ⌜ (at + size ≤ length (now table)) × HasSlot blocks j (take size (drop at (now table))) × (length (now pointers) ≤ blocks) ⌝ }
-    ensures { λ _. ⌜ ((s : Shape) (st : State) (t : ℕ) (older : List Version) (u : Version) (newer : List Version) (ps : List Pointer) → Placed s st t at size blocks → tillOf st t .versions ≡ older ++ (u ∷ newer) → length older ≡ j → now (table .entry) ≡ stateToWords s st → now (pointers .entry) ≡ map pointerWord ps → length ps ≡ length (newestPointers older) → now (table .exit) ≡ stateToWords s (record { tills = set (st .tills) t (record { last = tillOf st t .last; rights = tillOf st t .rights; versions = withNewestPointers older ps ++ newer }); shelf = st .shelf })) ⌝ }
+    ensures { λ _. ⌜ ((s : Shape) (st : State) (t : ℕ) (older : List Version) (u : Version) (newer : List Version) (ps : List Pointer) → TillPlace s st t at size blocks → tillOf st t .versions ≡ older ++ (u ∷ newer) → length older ≡ j → now (table .entry) ≡ stateToWords s st → now (pointers .entry) ≡ map pointerWord ps → length ps ≡ length (newestPointers older) → now (table .exit) ≡ stateToWords s (record { tills = set (st .tills) t (record { last = tillOf st t .last; rights = tillOf st t .rights; versions = withNewestPointers older ps ++ newer }); storage = st .storage })) ⌝ }
 {
     slots::close_up(&mut table[at..at + size], blocks, j, pointers);
 }
@@ -136,9 +136,9 @@ fn retire_slot(
     taken: &mut [u32],
     m: Measures,
 )
-    requires { ⌜ Holds (now pool) (now table) till at j × (measuresOf m ≡ shapeOf (now table) .measures) × (length (now taken) ≡ length (now older)) ⌝ }
+    requires { ⌜ HoldsVersion (now pool) (now table) till at j × (measuresOf m ≡ shapeOf (now table) .measures) × (length (now taken) ≡ length (now older)) ⌝ }
     requires { ⌜ (now gone ≡ map pointerWord (versionAt (now pool) (now table) till j .pointers)) × (now older ≡ map pointerWord (newestPointers (take j (versionsHeld (now pool) (now table) till)))) ⌝ }
-    ensures { λ _. ⌜ Are (shapeOf (now (table .entry))) (stateWithout (now (pool .entry)) (now (table .entry)) till j) (now (pool .exit)) (now (table .exit)) ⌝ }
+    ensures { λ _. ⌜ EncodesState (shapeOf (now (table .entry))) (stateWithout (now (pool .entry)) (now (table .entry)) till j) (now (pool .exit)) (now (table .exit)) ⌝ }
 {
     let blocks = table[2] as usize;
     let size = tills::till_words(table);
@@ -159,8 +159,8 @@ fn retire_with(
     taken: &mut [u32],
     m: Measures,
 ) -> u32
-    requires { ⌜ Holds (now pool) (now table) till at j × (length (now gone) ≡ 1024) × (length (now older) ≡ 1024) × (length (now taken) ≡ 1024) × (measuresOf m ≡ shapeOf (now table) .measures) ⌝ }
-    ensures { λ r. ⌜ retireAnswer (record { refusal = 0; length = r }) (now (pool .exit)) (now (table .exit)) ≡ retiredAt (now (pool .entry)) (now (table .entry)) till j ⌝ }
+    requires { ⌜ HoldsVersion (now pool) (now table) till at j × (length (now gone) ≡ 1024) × (length (now older) ≡ 1024) × (length (now taken) ≡ 1024) × (measuresOf m ≡ shapeOf (now table) .measures) ⌝ }
+    ensures { λ r. ⌜ retiredAnswer (record { refusal = 0; length = r }) (now (pool .exit)) (now (table .exit)) ≡ retiredAt (now (pool .entry)) (now (table .entry)) till j ⌝ }
 {
     let length = copy_version(pool, table, till, at, j, gone, m.bytes);
     let count = numbers::parts_for(m.bytes, length as usize);
@@ -187,8 +187,8 @@ fn retire_held(
     j: usize,
     m: Measures,
 ) -> u32
-    requires { ⌜ Holds (now pool) (now table) till at j × (measuresOf m ≡ shapeOf (now table) .measures) ⌝ }
-    ensures { λ r. ⌜ retireAnswer (record { refusal = 0; length = r }) (now (pool .exit)) (now (table .exit)) ≡ retiredAt (now (pool .entry)) (now (table .entry)) till j ⌝ }
+    requires { ⌜ HoldsVersion (now pool) (now table) till at j × (measuresOf m ≡ shapeOf (now table) .measures) ⌝ }
+    ensures { λ r. ⌜ retiredAnswer (record { refusal = 0; length = r }) (now (pool .exit)) (now (table .exit)) ≡ retiredAt (now (pool .entry)) (now (table .entry)) till j ⌝ }
 {
     let mut gone = [0u32; 1024];
     let mut older = [0u32; 1024];
@@ -208,7 +208,7 @@ fn retire_held(
 
 pub fn retire_version(pool: &mut [u8], table: &mut [u32], till: u32, version: u32) -> Retired
     requires { ⌜ Sound (now pool) (now table) ⌝ }
-    ensures { λ r. ⌜ retireAnswer r (now (pool .exit)) (now (table .exit)) ≡ retireOf (now (pool .entry)) (now (table .entry)) till version ⌝ }
+    ensures { λ r. ⌜ retiredAnswer r (now (pool .exit)) (now (table .exit)) ≡ retireOf (now (pool .entry)) (now (table .entry)) till version ⌝ }
 {
     if table[0] <= till {
         return Retired {

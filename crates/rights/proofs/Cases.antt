@@ -162,14 +162,14 @@ module _ {pool table : List ℕ} (h : Sound pool table) (t : ℕ) (n : t < getD 
   rights-read = ap (rightsIn staff) rights-word ∙ rights-back staff (till h t n .rights) rights-count
 
   pub rights-put : (subject : ℕ) (r : Rights) (w : ℕ) → w ≡ rightsWord (set (till h t n .rights) (subject - 1) r)
-      → set table (at) w ≡ stateToWords (shapeOf table) (withTill (stateIn (shapeOf table) pool table) t (withRights (till h t n) subject r) (stateIn (shapeOf table) pool table .shelf))
+      → set table (at) w ≡ stateToWords (shapeOf table) (withTill (stateIn (shapeOf table) pool table) t (withRights (till h t n) subject r) (stateIn (shapeOf table) pool table .storage))
   unfolding withTill withRights tillToWords shapeOf
   rights-put subject r w q =
       ap (λ (k : ℕ). set table k w) (o .is)
       ∙ put-inside table (tillAt (shapeOf table) t) (tillWords (getD table 1 0) (getD table 2 0)) 2 w (omega (arith, in-words h t n)) (omega arith)
       ∙ ap (λ (ws : List ℕ). take (tillAt (shapeOf table) t) table ++ (set ws 2 w ++ drop (tillWords (getD table 1 0) (getD table 2 0)) (drop (tillAt (shapeOf table) t) table))) (till-words h t n)
       ∙ ap (λ (x : ℕ). take (tillAt (shapeOf table) t) table ++ (set (tillToWords (getD table 1 0) (getD table 2 0) (till h t n)) 2 x ++ drop (tillWords (getD table 1 0) (getD table 2 0)) (drop (tillAt (shapeOf table) t) table))) q
-      ∙ subst (λ (ws : List ℕ). take (tillAt (shapeOf table) t) ws ++ (tillToWords (getD table 1 0) (getD table 2 0) (withRights (till h t n) subject r) ++ drop (tillWords (getD table 1 0) (getD table 2 0)) (drop (tillAt (shapeOf table) t) ws)) ≡ stateToWords (shapeOf table) (withTill (stateIn (shapeOf table) pool table) t (withRights (till h t n) subject r) (stateIn (shapeOf table) pool table .shelf)))
+      ∙ subst (λ (ws : List ℕ). take (tillAt (shapeOf table) t) ws ++ (tillToWords (getD table 1 0) (getD table 2 0) (withRights (till h t n) subject r) ++ drop (tillWords (getD table 1 0) (getD table 2 0)) (drop (tillAt (shapeOf table) t) ws)) ≡ stateToWords (shapeOf table) (withTill (stateIn (shapeOf table) pool table) t (withRights (till h t n) subject r) (stateIn (shapeOf table) pool table .storage)))
       (found h .words) (till-put (shapeOf table) (stateIn (shapeOf table) pool table) t (there h t n) (withRights (till h t n) subject r))
 
   -- what one of the staff may
@@ -185,7 +185,7 @@ module _ {pool table : List ℕ} (h : Sound pool table) (user subject t : ℕ) (
   old = stateIn (shapeOf table) pool table
 
   abbrev new : State
-  new = withTill old t (withRights (tillOf old t) subject r) (old .shelf)
+  new = withTill old t (withRights (tillOf old t) subject r) (old .storage)
 
   pub refused-set : (k : ℕ) → k ≡ setRefusal table user subject t → ¬ (k ≡ 0) → rightsAnswered k table ≡ setRightsOf pool table user subject t r
   unfolding setRightsOf setRightsIn setRights rightsAnswer shapeOf

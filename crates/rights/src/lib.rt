@@ -7,7 +7,7 @@ ghost use Rattle.model.specs.Sound.{storeOf};
 ghost use Rattle.model.specs.Table.{rightsBits, rightsWord, rightsIn};
 ghost use Rattle.model.specs.Calls.{noRights};
 ghost use Rattle.model.specs.Rights.{has, refusalFor, notOwner, setRightsOf};
-ghost use Rattle.laws.specs.Stores.{Sound, Header};
+ghost use Rattle.laws.specs.Stores.{Sound, HeaderRanges};
 ghost use Rattle.rights.specs.Answers.{rightOf, placeOf, rightsGiven, RightsAt, setRefusal, rightsAnswered};
 
 // How many users there are beside the owner: 1 to 7.
@@ -112,7 +112,7 @@ fn word_with(word: u32, subject: u32, rights: Rights) -> u32
 
 // The refusal of a change: 3, 22 or 23; 0 where there is none.
 fn set_refusal(table: &[u32], user: u32, subject: u32, till: u32) -> u32
-    requires { ⌜ Header (now table) ⌝ }
+    requires { ⌜ HeaderRanges (now table) ⌝ }
     ensures { λ r. ⌜ r ≡ setRefusal (now (table .entry)) user subject till ⌝ }
 {
     if table[0] <= till {

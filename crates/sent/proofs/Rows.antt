@@ -94,7 +94,7 @@ rows =
     -- 12 before 19 and 20
     ∷ record {
       shape = box 8 32;
-      start = record { tills = record { last = 65535; rights = []; versions = [] } ∷ []; shelf = emptyState (box 8 32) .shelf };
+      start = record { tills = record { last = 65535; rights = []; versions = [] } ∷ []; storage = emptyState (box 8 32) .storage };
       steps =
           sending 0 512 (prints (66 ∷ [])) (1 ∷ []) (blocks ABCDEFGH) 12 0
           ∷ sending 0 512 (prints (66 ∷ [])) (0 ∷ []) [] 12 0

@@ -11,7 +11,7 @@ use Rattle.lists.specs.Rows.{joined, rows}
 use Rattle.lists.specs.Each.{Each}
 use Rattle.sha1.specs.Sha1.{sha1}
 use Rattle.model.specs.Measures.{Measures}
-use Rattle.model.specs.State.{Shelf}
+use Rattle.model.specs.State.{Storage}
 use Rattle.model.specs.Table.{shapeOf}
 use Rattle.model.specs.Sound.{Store, storeOf}
 use Rattle.model.specs.Calls.{BackupAnswer, backupOf}
@@ -33,7 +33,7 @@ sentFor print pool table t image marks =
 -- the zero segment and the contents of the records that can match; none where the buffers are no store
 unfoldable pub knownIn : Option Store → List (List ℕ)
 knownIn none = []
-knownIn (some store) = zeroSegment (store .shape .measures) ∷ contents (store .shape .measures) (store .state .shelf)
+knownIn (some store) = zeroSegment (store .shape .measures) ∷ contents (store .shape .measures) (store .state .storage)
 
 -- the segments of so many bytes that a second message sends: one for each mark of 1
 unfoldable pub segmentsSent : ℕ → List ℕ → List ℕ → List (List ℕ)
@@ -46,11 +46,11 @@ abbrev pub NoneShare : Print → List (List ℕ) → Type 0
 NoneShare print segs = Each (λ y. Each (λ x. print x ≡ print y → x ≡ y) segs) segs
 
 -- every segment that is not sent is marked by the first message
-abbrev pub AllHad : Print → Measures → Shelf → List (List ℕ) → List ℕ → Type 0
-AllHad print m shelf [] marks = Unit {0}
-AllHad print m shelf (x ∷ segs) [] = Unit {0}
-AllHad print m shelf (x ∷ segs) (zero ∷ marks) = (isSome (had print m shelf [] (print x)) ≡ true) × AllHad print m shelf segs marks
-AllHad print m shelf (x ∷ segs) (suc i ∷ marks) = AllHad print m shelf segs marks
+abbrev pub AllHad : Print → Measures → Storage → List (List ℕ) → List ℕ → Type 0
+AllHad print m storage [] marks = Unit {0}
+AllHad print m storage (x ∷ segs) [] = Unit {0}
+AllHad print m storage (x ∷ segs) (zero ∷ marks) = (isSome (had print m storage [] (print x)) ≡ true) × AllHad print m storage segs marks
+AllHad print m storage (x ∷ segs) (suc i ∷ marks) = AllHad print m storage segs marks
 
 -- a mark of 0 or 1 for each segment of the image
 abbrev pub MarksFor : List ℕ → List ℕ → List ℕ → Type 0

@@ -11,7 +11,7 @@ use Rattle.lists.specs.Rows.{parts}
 use Rattle.lists.specs.Search.{asOption}
 use Rattle.sha1.specs.Sha1.{sha1}
 use Rattle.model.specs.Measures.{Measures, partsFor}
-use Rattle.model.specs.State.{Segment, Shelf, Outcome, refused, done}
+use Rattle.model.specs.State.{Segment, Storage, Outcome, refused, done}
 use Rattle.sent.specs.Sent.{Print, segmentBytes, canMatch, contentIn, had}
 
 -- fingerprint j
@@ -19,14 +19,14 @@ abbrev pub printAt : List ℕ → ℕ → List ℕ
 printAt fingerprints j = take 20 (drop (j * 20) fingerprints)
 
 -- the record can match and has the fingerprint
-abbrev pub isPrinted : Print → Measures → Shelf → List ℕ → Segment → Bool
-isPrinted print m shelf f seg = cond (canMatch shelf seg) (sameNumbers (print (contentIn m shelf seg)) f) false
+abbrev pub isPrinted : Print → Measures → Storage → List ℕ → Segment → Bool
+isPrinted print m storage f seg = cond (canMatch storage seg) (sameNumbers (print (contentIn m storage seg)) f) false
 
 -- for each fingerprint the lowest record that can match and has it, or how many records there are
-abbrev pub RecordsFor : Measures → Shelf → List ℕ → List ℕ → Type 0
-RecordsFor m shelf fingerprints numbers =
+abbrev pub RecordsFor : Measures → Storage → List ℕ → List ℕ → Type 0
+RecordsFor m storage fingerprints numbers =
     (j : ℕ) → j < length numbers
-    → asOption (length (shelf .records)) (getD numbers j 0) ≡ firstFrom (isPrinted sha1 m shelf (printAt fingerprints j)) 0 (shelf .records)
+    → asOption (length (storage .records)) (getD numbers j 0) ≡ firstFrom (isPrinted sha1 m storage (printAt fingerprints j)) 0 (storage .records)
 
 -- the fingerprint of each part of so many bytes that there is
 abbrev pub PrintsOf : ℕ → List ℕ → List ℕ → Type 0
@@ -48,9 +48,9 @@ abbrev pub sentAt : ℕ → ℕ → List ℕ → List ℕ
 sentAt width s segments = take width (drop (s * width) segments)
 
 -- a segment by its mark: the next of those sent, or one that is had, after s were sent
-abbrev pub source : Measures → Shelf → ℕ → ℕ → List ℕ → List ℕ → Outcome (List ℕ)
-source m shelf zero s segments f = orTwenty (had sha1 m shelf (parts (segmentBytes m) s segments) f)
-source m shelf (suc i) s segments f =
+abbrev pub source : Measures → Storage → ℕ → ℕ → List ℕ → List ℕ → Outcome (List ℕ)
+source m storage zero s segments f = orTwenty (had sha1 m storage (parts (segmentBytes m) s segments) f)
+source m storage (suc i) s segments f =
     let seg = sentAt (segmentBytes m) s segments in cond (sameNumbers (sha1 seg) f) (done seg) (refused 19)
 
 -- 19 where a byte other than zero follows the image's last

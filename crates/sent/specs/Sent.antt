@@ -10,7 +10,7 @@ use Rattle.lists.specs.Lists.{every, keep, total, isSome, allOf, allZero, sameN
 use Rattle.lists.specs.Rows.{rows, chunks}
 use Rattle.sha1.specs.Sha1.{sha1}
 use Rattle.model.specs.Measures.{Measures, Shape, partsFor}
-use Rattle.model.specs.State.{Block, Position, nullPosition, blankPosition, held, removed, Segment, Shelf, State, Outcome, refused, done}
+use Rattle.model.specs.State.{Block, Position, nullPosition, blankPosition, held, removed, Segment, Storage, State, Outcome, refused, done}
 use Rattle.model.specs.Image.{zeroBlock, blankBlock, withBlanks, isBlank, imageBlocks}
 use Rattle.model.specs.Records.{cellAt, isFree}
 use Rattle.model.specs.Sound.{Store, storeOf}
@@ -30,28 +30,28 @@ segmentsOf m image = imageBlocks (segmentBytes m) image
 -- ---- what the box has
 
 -- A removed position, or an occupied cell of 255s, keeps its record from matching.
-abbrev pub lets : Shelf → Position → Bool
-lets shelf nullPosition = true
-lets shelf blankPosition = true
-lets shelf (held c n) = not (isBlank withBlanks (cellAt shelf c))
-lets shelf removed = false
+abbrev pub lets : Storage → Position → Bool
+lets storage nullPosition = true
+lets storage blankPosition = true
+lets storage (held c n) = not (isBlank withBlanks (cellAt storage c))
+lets storage removed = false
 
-unfoldable pub canMatch : Shelf → Segment → Bool
-canMatch shelf seg = allOf (not (isFree seg) ∷ every (lets shelf) seg ∷ [])
+unfoldable pub canMatch : Storage → Segment → Bool
+canMatch storage seg = allOf (not (isFree seg) ∷ every (lets storage) seg ∷ [])
 
-abbrev pub contentOf : ℕ → Shelf → Position → Block
-contentOf bytes shelf nullPosition = zeroBlock bytes
-contentOf bytes shelf blankPosition = blankBlock bytes
-contentOf bytes shelf (held c n) = cellAt shelf c
-contentOf bytes shelf removed = zeroBlock bytes
+abbrev pub contentOf : ℕ → Storage → Position → Block
+contentOf bytes storage nullPosition = zeroBlock bytes
+contentOf bytes storage blankPosition = blankBlock bytes
+contentOf bytes storage (held c n) = cellAt storage c
+contentOf bytes storage removed = zeroBlock bytes
 
 -- a record's content
-abbrev pub contentIn : Measures → Shelf → Segment → List ℕ
-contentIn m shelf seg = rows (contentOf (m .blockBytes) shelf) seg
+abbrev pub contentIn : Measures → Storage → Segment → List ℕ
+contentIn m storage seg = rows (contentOf (m .blockBytes) storage) seg
 
 -- the contents of the records that can match, the lowest first
-unfoldable pub contents : Measures → Shelf → List (List ℕ)
-contents m shelf = map (contentIn m shelf) (keep (canMatch shelf) (shelf .records))
+unfoldable pub contents : Measures → Storage → List (List ℕ)
+contents m storage = map (contentIn m storage) (keep (canMatch storage) (storage .records))
 
 unfoldable pub zeroSegment : Measures → List ℕ
 zeroSegment m = zeroBlock (segmentBytes m)
@@ -62,8 +62,8 @@ firstWith print fingerprint [] = none
 firstWith print fingerprint (x ∷ xs) = let r = firstWith print fingerprint xs in cond (sameNumbers (print x) fingerprint) (some x) r
 
 -- the segment had for a fingerprint: the zero segment, else the lowest sent earlier in the call, else the lowest record's
-unfoldable pub had : Print → Measures → Shelf → List (List ℕ) → List ℕ → Option (List ℕ)
-had print m shelf earlier fingerprint = firstWith print fingerprint (zeroSegment m ∷ (earlier ++ contents m shelf))
+unfoldable pub had : Print → Measures → Storage → List (List ℕ) → List ℕ → Option (List ℕ)
+had print m storage earlier fingerprint = firstWith print fingerprint (zeroSegment m ∷ (earlier ++ contents m storage))
 
 -- ---- the first message: 10, 3, 4
 
@@ -84,7 +84,7 @@ unfoldable pub offer : Print → Shape → State → ℕ → List ℕ → List �
 offer print s st t fingerprints marks =
     cond (leb (s .capacities .tills) t) (refused 3)
     (cond (not (offerFits s fingerprints marks)) (refused 4)
-    (done (map (λ f. cond (isSome (had print (s .measures) (st .shelf) [] f)) 1 0) (chunks 20 fingerprints))))
+    (done (map (λ f. cond (isSome (had print (s .measures) (st .storage) [] f)) 1 0) (chunks 20 fingerprints))))
 
 unfoldable pub offerAnswer : List ℕ → Outcome (List ℕ) → OfferAnswer
 offerAnswer marks (refused n) = record { refusal = n; marks = marks }
@@ -114,17 +114,17 @@ unfoldable pub goOnWith : ℕ → Option (List ℕ) → Gathered → Outcome Gat
 goOnWith left none g = refused 20
 goOnWith left (some seg) g = goOn left seg (g .sent) g
 
-unfoldable pub takeHad : Print → Measures → Shelf → ℕ → List ℕ → Outcome Gathered → Outcome Gathered
-takeHad print m shelf left fingerprint (refused n) = refused n
-takeHad print m shelf left fingerprint (done g) = goOnWith left (had print m shelf (g .sent) fingerprint) g
+unfoldable pub takeHad : Print → Measures → Storage → ℕ → List ℕ → Outcome Gathered → Outcome Gathered
+takeHad print m storage left fingerprint (refused n) = refused n
+takeHad print m storage left fingerprint (done g) = goOnWith left (had print m storage (g .sent) fingerprint) g
 
 -- segment by segment, with `left` bytes of the image left: by the mark it is the next of those sent, or had
-unfoldable pub gather : Print → Measures → Shelf → ℕ → Outcome Gathered → List ℕ → List ℕ → List ℕ → Outcome Gathered
-gather print m shelf left g [] fingerprints segments = g
-gather print m shelf left g (zero ∷ marks) fingerprints segments =
-    gather print m shelf (left - segmentBytes m) (takeHad print m shelf left (take 20 fingerprints) g) marks (drop 20 fingerprints) segments
-gather print m shelf left g (suc i ∷ marks) fingerprints segments =
-    gather print m shelf (left - segmentBytes m) (takeSent print left (take 20 fingerprints) (take (segmentBytes m) segments) g) marks
+unfoldable pub gather : Print → Measures → Storage → ℕ → Outcome Gathered → List ℕ → List ℕ → List ℕ → Outcome Gathered
+gather print m storage left g [] fingerprints segments = g
+gather print m storage left g (zero ∷ marks) fingerprints segments =
+    gather print m storage (left - segmentBytes m) (takeHad print m storage left (take 20 fingerprints) g) marks (drop 20 fingerprints) segments
+gather print m storage left g (suc i ∷ marks) fingerprints segments =
+    gather print m storage (left - segmentBytes m) (takeSent print left (take 20 fingerprints) (take (segmentBytes m) segments) g) marks
     (drop 20 fingerprints) (drop (segmentBytes m) segments)
 
 unfoldable pub cutTo : ℕ → Outcome Gathered → Outcome (List ℕ)
@@ -132,9 +132,9 @@ cutTo bytes (refused n) = refused n
 cutTo bytes (done g) = done (take bytes (g .image))
 
 -- the image put together, or 19 or 20
-unfoldable pub assembled : Print → Measures → Shelf → ℕ → List ℕ → List ℕ → List ℕ → Outcome (List ℕ)
-assembled print m shelf bytes fingerprints marks segments =
-    cutTo bytes (gather print m shelf bytes (done (record { image = []; sent = [] })) marks fingerprints segments)
+unfoldable pub assembled : Print → Measures → Storage → ℕ → List ℕ → List ℕ → List ℕ → Outcome (List ℕ)
+assembled print m storage bytes fingerprints marks segments =
+    cutTo bytes (gather print m storage bytes (done (record { image = []; sent = [] })) marks fingerprints segments)
 
 -- a length as an image has, a mark of 0 or 1 and a whole fingerprint for each segment, and the segments marked with 1
 unfoldable pub sentFits : Shape → ℕ → List ℕ → List ℕ → List ℕ → Bool
@@ -154,7 +154,7 @@ made print s st t bytes fingerprints marks segments =
     (cond (not (sentFits s bytes fingerprints marks segments)) (refused 4)
     (cond (leb (s .capacities .versions) (length (tillOf st t .versions))) (refused 11)
     (cond (eqb (tillOf st t .last) 65535) (refused 12)
-    (assembled print (s .measures) (st .shelf) bytes fingerprints marks segments))))
+    (assembled print (s .measures) (st .storage) bytes fingerprints marks segments))))
 
 unfoldable pub backupOn : Shape → State → ℕ → Outcome (List ℕ) → Outcome After
 backupOn s st t (refused n) = refused n

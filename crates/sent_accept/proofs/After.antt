@@ -13,7 +13,7 @@ use Rattle.model.specs.State.{State, Outcome, refused, done}
 use Rattle.model.specs.Table.{shapeOf, stateIn}
 use Rattle.model.specs.Calls.{BackupAnswer, tillOf, backupAnswer, backupIn, backupBy, backupOf}
 use Rattle.laws.specs.Stores.{Sound}
-use Rattle.accept.specs.Accept.{refusedBackup}
+use Rattle.backup_accept.specs.Accept.{refusedBackup}
 use Rattle.sent.specs.Sent.{sentFits, assembled, made, backupOn, backupSent, backupSentIn, backupSentBy, backupSentOf}
 use Rattle.sent.specs.Found.{Brings}
 use Rattle.sent_laws.proofs.Numbers.{NotZero, made-or-refused}
@@ -46,7 +46,7 @@ module _ {pool table : List ℕ} (h : Sound pool table) (t bytes : ℕ) (fs mark
   state = stateIn (shapeOf table) pool table
 
   abbrev image : Outcome (List ℕ)
-  image = assembled sha1 (shapeOf table .measures) (state .shelf) bytes fs marks ss
+  image = assembled sha1 (shapeOf table .measures) (state .storage) bytes fs marks ss
 
   abbrev all : Outcome (List ℕ)
   all = made sha1 (shapeOf table) state t bytes fs marks ss

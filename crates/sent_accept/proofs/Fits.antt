@@ -15,9 +15,9 @@ use Rattle.model.specs.Measures.{Measures, Shape, partsFor}
 use Rattle.model.specs.State.{State}
 use Rattle.model.specs.Table.{shapeOf}
 use Rattle.laws.specs.Ranges.{Measured}
-use Rattle.laws.specs.Stores.{Header}
+use Rattle.laws.specs.Stores.{HeaderRanges}
 use Rattle.laws.proofs.Measures.{parts-least}
-use Rattle.accept.specs.Accept.{mostBytes, tillRefusal}
+use Rattle.backup_accept.specs.Accept.{mostBytes, tillRefusal}
 use Rattle.sent.specs.Sent.{segmentBytes, offerFits, sentFits}
 use Rattle.sent.specs.Found.{Message}
 use Rattle.sent_accept.specs.Refusals.{offerRefusal, sentRefusal}
@@ -55,11 +55,11 @@ module _ (table : List ℕ) (t : ℕ) (fs marks : List ℕ) where
     offer-fits z l n = rw (as-tests, lt-ltb 0 (length marks) (omega arith), le-leb (length marks) most l, eq-eqb (length fs) (20 * length marks) n)
 
 -- the longest image's segments can be counted
-pub blocks-few : (table : List ℕ) → Header table → (m : Measures) → m ≡ shapeOf table .measures
+pub blocks-few : (table : List ℕ) → HeaderRanges table → (m : Measures) → m ≡ shapeOf table .measures
     → (0 < m .segmentBlocks) × (m .segmentBlocks ≤ 512) × (getD table 2 0 ≤ 4294967295)
 blocks-few table h m e = rw e (omega (arith, h .measured .someBlocks), omega (arith, h .measured .mostBlocks), omega (arith, h .blocks))
 
-pub most-few : (table : List ℕ) → Header table → (m : Measures) → m ≡ shapeOf table .measures → partsFor (m .segmentBlocks) (getD table 2 0) ≤ 1024
+pub most-few : (table : List ℕ) → HeaderRanges table → (m : Measures) → m ≡ shapeOf table .measures → partsFor (m .segmentBlocks) (getD table 2 0) ≤ 1024
 most-few table h m e =
     let k : 0 < m .segmentBlocks = blocks-few table h m e .0 in
     parts-least (m .segmentBlocks) (getD table 2 0) 1024 k (omega (arith, h .blocks, mul-le-mul-left 1024 k))
@@ -67,7 +67,7 @@ most-few table h m e =
 -- ---- the second message
 
 -- the measures that the code read, and an image's bytes and segments
-module _ (table : List ℕ) (h : Header table) (m : Measures) (e : m ≡ shapeOf table .measures) where
+module _ (table : List ℕ) (h : HeaderRanges table) (m : Measures) (e : m ≡ shapeOf table .measures) where
   pub measured-read : Measured m
   measured-read = rw e (h .measured)
 
@@ -151,7 +151,7 @@ each-of : (marks : List ℕ) → every (λ i. leb i 1) marks ≡ true → Each (
 each-of [] h = tt
 each-of (x ∷ marks) h = (leb-true x 1 (every-head (λ i. leb i 1) x marks h), each-of marks (every-tail (λ i. leb i 1) x marks h))
 
-module _ (table : List ℕ) (h : Header table) (bytes : ℕ) (fs marks ss : List ℕ) (f : sentFits (shapeOf table) bytes fs marks ss ≡ true) where
+module _ (table : List ℕ) (h : HeaderRanges table) (bytes : ℕ) (fs marks ss : List ℕ) (f : sentFits (shapeOf table) bytes fs marks ss ≡ true) where
   abbrev m : Measures
   m = shapeOf table .measures
 

@@ -37,7 +37,7 @@ module _ {pool table : List ℕ} (h : Sound pool table) (t : ℕ) (fs marks : Li
   state = stateIn (shapeOf table) pool table
 
   abbrev answered : Outcome (List ℕ)
-  answered = done (map (λ f. cond (isSome (had sha1 (shapeOf table .measures) (state .shelf) [] f)) 1 0) (chunks 20 fs))
+  answered = done (map (λ f. cond (isSome (had sha1 (shapeOf table .measures) (state .storage) [] f)) 1 0) (chunks 20 fs))
 
   answer-is : offerOf pool table t fs marks
       ≡ offerAnswer marks (cond (leb (shapeOf table .capacities .tills) t) (refused 3) (cond (not (offerFits (shapeOf table) fs marks)) (refused 4) answered))
@@ -54,7 +54,7 @@ module _ {pool table : List ℕ} (h : Sound pool table) (t : ℕ) (fs marks : Li
     fits : offerFits (shapeOf table) fs marks ≡ true
     fits = not-not _ (tests-pass (leb (shapeOf table .capacities .tills) t) (not (offerFits (shapeOf table) fs marks)) answered e .1)
 
-    pub offer-done : (ms : List ℕ) → ms ≡ map (λ f. cond (isSome (had sha1 (shapeOf table .measures) (state .shelf) [] f)) 1 0) (chunks 20 fs)
+    pub offer-done : (ms : List ℕ) → ms ≡ map (λ f. cond (isSome (had sha1 (shapeOf table .measures) (state .storage) [] f)) 1 0) (chunks 20 fs)
         → record { refusal = 0; marks = ms } ≡ offerOf pool table t fs marks
     unfolding offerAnswer
     offer-done ms q =

@@ -5,7 +5,7 @@ use Prim.Native.Nat.{ℕ}
 use lib.Dec.{leb}
 use Rattle.model.specs.Measures.{Shape}
 use Rattle.model.specs.State.{State}
-use Rattle.accept.specs.Accept.{tillRefusal}
+use Rattle.backup_accept.specs.Accept.{tillRefusal}
 use Rattle.sent.specs.Sent.{offerFits, sentFits}
 
 -- the first message's: 3, 4, or 0

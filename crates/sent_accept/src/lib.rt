@@ -5,13 +5,13 @@ ghost use lib.Dec.{leb};
 ghost use lib.ListN.{length};
 ghost use Rattle.lists.specs.Lists.{every, total};
 ghost use Rattle.model.specs.Table.{shapeOf, stateIn};
-ghost use Rattle.laws.specs.Stores.{Sound, Header};
+ghost use Rattle.laws.specs.Stores.{Sound, HeaderRanges};
 ghost use Rattle.sent.specs.Sent.{sentFits};
 ghost use Rattle.sent_accept.specs.Refusals.{offerRefusal, sentRefusal};
 
 // The first message: refusals 3 and 4; 0 where there is none.
 pub fn offer_refusal(table: &[u32], till: u32, fingerprints: &[u8], marks: &[u8]) -> u32
-    requires { ⌜ Header (now table) ⌝ }
+    requires { ⌜ HeaderRanges (now table) ⌝ }
     ensures { λ r. ⌜ r ≡ offerRefusal (shapeOf (now (table .entry))) till (now (fingerprints .entry)) (now (marks .entry)) ⌝ }
 {
     if table[0] <= till {
@@ -61,14 +61,14 @@ fn marked(marks: &[u8]) -> usize
 
 // Whether the lists fit the length.
 fn lists_fit(table: &[u32], length: u32, fingerprints: &[u8], marks: &[u8], segments: &[u8]) -> bool
-    requires { ⌜ Header (now table) ⌝ }
+    requires { ⌜ HeaderRanges (now table) ⌝ }
     ensures { λ r. ⌜ r ≡ sentFits (shapeOf (now (table .entry))) length (now (fingerprints .entry)) (now (marks .entry)) (now (segments .entry)) ⌝ }
 {
     if length == 0 {
         return false;
     }
     let bytes = length as usize;
-    if bytes > accept::most_bytes(table) {
+    if bytes > backup_accept::most_bytes(table) {
         return false;
     }
     let m = layout::measures_in(table);
@@ -104,5 +104,5 @@ pub fn sent_refusal(
     if !lists_fit(table, length, fingerprints, marks, segments) {
         return 4;
     }
-    accept::till_refusal(pool, table, till)
+    backup_accept::till_refusal(pool, table, till)
 }

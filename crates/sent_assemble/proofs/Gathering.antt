@@ -14,8 +14,8 @@ use Rattle.lists.proofs.Counts.{sum-next}
 use Rattle.lists.proofs.Each.{each-at}
 use Rattle.lists.proofs.Places.{row-next, row-room, rows-few}
 use Rattle.model.specs.Measures.{Measures, partsFor}
-use Rattle.model.specs.State.{Shelf}
-use Rattle.model.specs.Table.{recordsIn, shelfIn}
+use Rattle.model.specs.State.{Storage}
+use Rattle.model.specs.Table.{recordsIn, storageIn}
 use Rattle.sha1.specs.Sha1.{sha1}
 use Rattle.laws.specs.Ranges.{Measured}
 use Rattle.laws.proofs.Measures.{parts-few, parts-least}
@@ -48,12 +48,12 @@ module _ (m : Measures) (h : Measured m) where
   pub marks-few : (bytes : ℕ) (fs marks ss : List ℕ) → Message m bytes fs marks ss → length marks ≤ 256
   marks-few bytes fs marks ss g = omega (arith, g .all, parts-least width bytes 256 (omega (arith, wide)) (omega (arith, wide, g .few)))
 
-  module _ (shelf : Shelf) (bytes : ℕ) (fs marks ss : List ℕ) (g : Message m bytes fs marks ss) where
+  module _ (storage : Storage) (bytes : ℕ) (fs marks ss : List ℕ) (g : Message m bytes fs marks ss) where
     -- there is room for the fingerprints of what was sent
     pub sent-few : total (λ i. i) marks ≤ 256
     sent-few = omega (arith, total-few marks (g .marked), marks-few bytes fs marks ss g)
 
-    module _ {j s : ℕ} {out : List ℕ} (a : At m shelf bytes fs marks ss j s out) (l : j < length marks) where
+    module _ {j s : ℕ} {out : List ℕ} (a : At m storage bytes fs marks ss j s out) (l : j < length marks) where
       before : j * width + width < bytes + width
       before = omega (arith, row-room j (length marks) width l, ap (λ (k : ℕ). k * width) (g .all), parts-few width bytes (omega (arith, wide)))
 
@@ -87,17 +87,17 @@ one-more w v j e out part h l =
     subst (λ (k : ℕ). take ((j + 1) * k) (putMid (j * w) (j * w + w - j * w) out part) ≡ take (j * k) out ++ part) e
     (ap (take ((j + 1) * w)) (sym (append-assoc (take (j * w) out) part _)) ∙ take-at (take (j * w) out ++ part) _ ((j + 1) * w) n)
 
-module _ (m : Measures) (shelf : Shelf) (bytes : ℕ) (fs marks ss : List ℕ) where
+module _ (m : Measures) (storage : Storage) (bytes : ℕ) (fs marks ss : List ℕ) where
   -- what segment j brings, with its width and its fingerprint as code has them
   pub next-is : (j s w : ℕ) → w ≡ segmentBytes m → (f : List ℕ) → f ≡ printAt fs j → (r : ℕ) (part : List ℕ)
-      → Brings (ended (bytes - j * w) (source m shelf (getD marks j 0) s ss f)) r part
-      → Brings (ended (bytes - j * segmentBytes m) (source m shelf (getD marks j 0) s ss (printAt fs j))) r part
+      → Brings (ended (bytes - j * w) (source m storage (getD marks j 0) s ss f)) r part
+      → Brings (ended (bytes - j * segmentBytes m) (source m storage (getD marks j 0) s ss (printAt fs j))) r part
   next-is j s w e f q r part b = rw (e, q) at b
 
 -- the number found for fingerprint j
-pub number-is : (m : Measures) (pool words fs numbers : List ℕ) → RecordsFor m (shelfIn m pool words) fs numbers → (j : ℕ) → j < length numbers → (f : List ℕ) → f ≡ printAt fs j
-    → asOption (length (recordsIn (m .segmentBlocks) words)) (getD numbers j 0) ≡ firstFrom (isPrinted sha1 m (shelfIn m pool words) f) 0 (recordsIn (m .segmentBlocks) words)
-unfolding shelfIn
+pub number-is : (m : Measures) (pool words fs numbers : List ℕ) → RecordsFor m (storageIn m pool words) fs numbers → (j : ℕ) → j < length numbers → (f : List ℕ) → f ≡ printAt fs j
+    → asOption (length (recordsIn (m .segmentBlocks) words)) (getD numbers j 0) ≡ firstFrom (isPrinted sha1 m (storageIn m pool words) f) 0 (recordsIn (m .segmentBlocks) words)
+unfolding storageIn
 number-is m pool words fs numbers r j l f e = rw e (r j l)
 
 -- there is room for the fingerprints of all that were sent
@@ -111,5 +111,5 @@ prints-fit m h bytes fs marks ss g w e =
 pub prints-read : {w v : ℕ} → w ≡ v → (ss ps : List ℕ) → PrintsOf w ss ps → PrintsOf v ss ps
 prints-read e ss ps p = subst (λ (k : ℕ). PrintsOf k ss ps) e p
 
-pub records-read : (m : Measures) (shelf : Shelf) (fs front found : List ℕ) → front ≡ found → RecordsFor m shelf fs found → RecordsFor m shelf fs front
-records-read m shelf fs front found e r = subst (λ (ns : List ℕ). RecordsFor m shelf fs ns) (sym e) r
+pub records-read : (m : Measures) (storage : Storage) (fs front found : List ℕ) → front ≡ found → RecordsFor m storage fs found → RecordsFor m storage fs front
+records-read m storage fs front found e r = subst (λ (ns : List ℕ). RecordsFor m storage fs ns) (sym e) r

@@ -11,7 +11,7 @@ use Rattle.lists.specs.Rows.{parts}
 use Rattle.lists.proofs.Places.{row-next}
 use Rattle.sha1.specs.Sha1.{sha1}
 use Rattle.model.specs.Measures.{Measures}
-use Rattle.model.specs.State.{Shelf, Outcome, refused, done}
+use Rattle.model.specs.State.{Storage, Outcome, refused, done}
 use Rattle.sent.specs.Sent.{segmentBytes, had}
 use Rattle.sent.specs.Found.{PrintsOf, Brings, orTwenty, sentAt, source, ended}
 use Rattle.sent_laws.proofs.Numbers.{NotZero}
@@ -41,33 +41,33 @@ module _ (m : Measures) (mark s : ℕ) (ss ps : List ℕ) where
       let k : s + mark ≡ s = omega (arith, z) in
       (z, subst (λ (i : ℕ). i * width ≤ length ss) k a, subst (λ (i : ℕ). i * 20 ≤ length ps) k b)
 
-module _ (m : Measures) (shelf : Shelf) (mark s : ℕ) (ss f : List ℕ) (r : ℕ) (out : List ℕ) where
+module _ (m : Measures) (storage : Storage) (mark s : ℕ) (ss f : List ℕ) (r : ℕ) (out : List ℕ) where
   pub sent-brought : (w : ℕ) → w ≡ segmentBytes m → mark ≡ 1
-      → Brings (cond (sameNumbers (sha1 (take w (drop (s * w) ss))) f) (done (take w (drop (s * w) ss))) (refused 19)) r out → Brings (source m shelf mark s ss f) r out
+      → Brings (cond (sameNumbers (sha1 (take w (drop (s * w) ss))) f) (done (take w (drop (s * w) ss))) (refused 19)) r out → Brings (source m storage mark s ss f) r out
   sent-brought w e one b = rw one (rw e at b)
 
-  pub had-brought : mark ≡ 0 → Brings (orTwenty (had sha1 m shelf (parts (segmentBytes m) s ss) f)) r out → Brings (source m shelf mark s ss f) r out
+  pub had-brought : mark ≡ 0 → Brings (orTwenty (had sha1 m storage (parts (segmentBytes m) s ss) f)) r out → Brings (source m storage mark s ss f) r out
   had-brought z b = rw z b
 
   -- ---- its end
 
-  module _ (left : ℕ) (b : Brings (source m shelf mark s ss f) r out) where
-    pub end-refused : ¬ (r ≡ 0) → Brings (ended left (source m shelf mark s ss f)) r out
-    end-refused z = go (source m shelf mark s ss f) b
+  module _ (left : ℕ) (b : Brings (source m storage mark s ss f) r out) where
+    pub end-refused : ¬ (r ≡ 0) → Brings (ended left (source m storage mark s ss f)) r out
+    end-refused z = go (source m storage mark s ss f) b
       where
         go : (o : Outcome (List ℕ)) → Brings o r out → Brings (ended left o) r out
         go (refused n) q = q
         go (done seg) q = absurd (z (q .0))
 
-    pub end-other : r ≡ 0 → allZero (drop left out) ≡ false → Brings (ended left (source m shelf mark s ss f)) 19 out
-    end-other z e = go (source m shelf mark s ss f) b (source-number m shelf mark s ss f)
+    pub end-other : r ≡ 0 → allZero (drop left out) ≡ false → Brings (ended left (source m storage mark s ss f)) 19 out
+    end-other z e = go (source m storage mark s ss f) b (source-number m storage mark s ss f)
       where
         go : (o : Outcome (List ℕ)) → Brings o r out → NotZero o → Brings (ended left o) 19 out
         go (refused n) q h = absurd (h (sym q ∙ z))
         go (done seg) q h = rw (← q .1, e) refl
 
-    pub end-zeros : r ≡ 0 → allZero (drop left out) ≡ true → Brings (ended left (source m shelf mark s ss f)) 0 out
-    end-zeros z e = go (source m shelf mark s ss f) b (source-number m shelf mark s ss f)
+    pub end-zeros : r ≡ 0 → allZero (drop left out) ≡ true → Brings (ended left (source m storage mark s ss f)) 0 out
+    end-zeros z e = go (source m storage mark s ss f) b (source-number m storage mark s ss f)
       where
         go : (o : Outcome (List ℕ)) → Brings o r out → NotZero o → Brings (ended left o) 0 out
         go (refused n) q h = absurd (h (sym q ∙ z))

@@ -5,9 +5,9 @@ ghost use lib.Dec.{leb};
 ghost use lib.ListN.{length, getD, take, drop};
 ghost use Rattle.lists.specs.Lists.{allZero, firstFrom};
 ghost use Rattle.lists.specs.Search.{asOption};
-ghost use Rattle.model.specs.Table.{recordsIn, shelfIn};
+ghost use Rattle.model.specs.Table.{recordsIn, storageIn};
 ghost use Rattle.numbers.specs.Measures.{measuresOf};
-ghost use Rattle.shelf.specs.Stored.{Stored};
+ghost use Rattle.storage.specs.Stored.{Stored};
 ghost use Rattle.sha1.specs.Sha1.{sha1, digest};
 ghost use Rattle.sent.specs.Sent.{segmentBytes, zeroSegment, assembled};
 ghost use Rattle.sent.specs.Found.{isPrinted, PrintsOf, RecordsFor, Brings, ended, source, Message};
@@ -40,8 +40,8 @@ fn bring(
     m: Measures,
 ) -> u32
     requires { ⌜ Stored (measuresOf m) (now pool) (now words) × PrintsOf (segmentBytes (measuresOf m)) (now segments) (now prints) × (mark ≤ 1) × ((s + mark) * segmentBytes (measuresOf m) ≤ length (now segments)) × ((s + mark) * 20 ≤ length (now prints)) × (zero ≡ digest (zeroSegment (measuresOf m))) × (length (now out) ≡ segmentBytes (measuresOf m)) ⌝ }
-    requires { ⌜ asOption (length (recordsIn (m .blocks) (now words))) (number .0) ≡ firstFrom (isPrinted sha1 (measuresOf m) (shelfIn (measuresOf m) (now pool) (now words)) (now fingerprint)) 0 (recordsIn (m .blocks) (now words)) ⌝ }
-    ensures { λ r. ⌜ Brings (source (measuresOf m) (shelfIn (measuresOf m) (now (pool .entry)) (now (words .entry))) mark s (now (segments .entry)) (now (fingerprint .entry))) r (now (out .exit)) ⌝ }
+    requires { ⌜ asOption (length (recordsIn (m .blocks) (now words))) (number .0) ≡ firstFrom (isPrinted sha1 (measuresOf m) (storageIn (measuresOf m) (now pool) (now words)) (now fingerprint)) 0 (recordsIn (m .blocks) (now words)) ⌝ }
+    ensures { λ r. ⌜ Brings (source (measuresOf m) (storageIn (measuresOf m) (now (pool .entry)) (now (words .entry))) mark s (now (segments .entry)) (now (fingerprint .entry))) r (now (out .exit)) ⌝ }
 {
     if mark == 1 {
         let width = m.segment_bytes();
@@ -77,8 +77,8 @@ fn take_segment(
     m: Measures,
 ) -> u32
     requires { ⌜ Stored (measuresOf m) (now pool) (now words) × PrintsOf (segmentBytes (measuresOf m)) (now segments) (now prints) × (mark ≤ 1) × ((s + mark) * segmentBytes (measuresOf m) ≤ length (now segments)) × ((s + mark) * 20 ≤ length (now prints)) × (zero ≡ digest (zeroSegment (measuresOf m))) × (length (now out) ≡ segmentBytes (measuresOf m)) ⌝ }
-    requires { ⌜ asOption (length (recordsIn (m .blocks) (now words))) (number .0) ≡ firstFrom (isPrinted sha1 (measuresOf m) (shelfIn (measuresOf m) (now pool) (now words)) (now fingerprint)) 0 (recordsIn (m .blocks) (now words)) ⌝ }
-    ensures { λ r. ⌜ Brings (ended left (source (measuresOf m) (shelfIn (measuresOf m) (now (pool .entry)) (now (words .entry))) mark s (now (segments .entry)) (now (fingerprint .entry)))) r (now (out .exit)) ⌝ }
+    requires { ⌜ asOption (length (recordsIn (m .blocks) (now words))) (number .0) ≡ firstFrom (isPrinted sha1 (measuresOf m) (storageIn (measuresOf m) (now pool) (now words)) (now fingerprint)) 0 (recordsIn (m .blocks) (now words)) ⌝ }
+    ensures { λ r. ⌜ Brings (ended left (source (measuresOf m) (storageIn (measuresOf m) (now (pool .entry)) (now (words .entry))) mark s (now (segments .entry)) (now (fingerprint .entry)))) r (now (out .exit)) ⌝ }
 {
     let r = bring(
         pool,
@@ -115,8 +115,8 @@ fn gather(
     out: &mut [u8],
     m: Measures,
 ) -> u32
-    requires { ⌜ Stored (measuresOf m) (now pool) (now words) × Message (measuresOf m) bytes (now fingerprints) (now marks) (now segments) × PrintsOf (segmentBytes (measuresOf m)) (now segments) (now prints) × (5120 ≤ length (now prints)) × (length (now numbers) ≡ length (now marks)) × RecordsFor (measuresOf m) (shelfIn (measuresOf m) (now pool) (now words)) (now fingerprints) (now numbers) × (73728 ≤ length (now out)) ⌝ }
-    ensures { λ r. ⌜ Brings (assembled sha1 (measuresOf m) (shelfIn (measuresOf m) (now (pool .entry)) (now (words .entry))) bytes (now (fingerprints .entry)) (now (marks .entry)) (now (segments .entry))) r (take bytes (now (out .exit))) ⌝ }
+    requires { ⌜ Stored (measuresOf m) (now pool) (now words) × Message (measuresOf m) bytes (now fingerprints) (now marks) (now segments) × PrintsOf (segmentBytes (measuresOf m)) (now segments) (now prints) × (5120 ≤ length (now prints)) × (length (now numbers) ≡ length (now marks)) × RecordsFor (measuresOf m) (storageIn (measuresOf m) (now pool) (now words)) (now fingerprints) (now numbers) × (73728 ≤ length (now out)) ⌝ }
+    ensures { λ r. ⌜ Brings (assembled sha1 (measuresOf m) (storageIn (measuresOf m) (now (pool .entry)) (now (words .entry))) bytes (now (fingerprints .entry)) (now (marks .entry)) (now (segments .entry))) r (take bytes (now (out .exit))) ⌝ }
 {
     let width = m.segment_bytes();
     let zero = sent_prints::zero_digest(m);
@@ -164,7 +164,7 @@ fn assemble_with(
     m: Measures,
 ) -> u32
     requires { ⌜ Stored (measuresOf m) (now pool) (now words) × Message (measuresOf m) bytes (now fingerprints) (now marks) (now segments) × (length (now prints) ≡ 5120) × (length (now numbers) ≡ 256) × (73728 ≤ length (now out)) ⌝ }
-    ensures { λ r. ⌜ Brings (assembled sha1 (measuresOf m) (shelfIn (measuresOf m) (now (pool .entry)) (now (words .entry))) bytes (now (fingerprints .entry)) (now (marks .entry)) (now (segments .entry))) r (take bytes (now (out .exit))) ⌝ }
+    ensures { λ r. ⌜ Brings (assembled sha1 (measuresOf m) (storageIn (measuresOf m) (now (pool .entry)) (now (words .entry))) bytes (now (fingerprints .entry)) (now (marks .entry)) (now (segments .entry))) r (take bytes (now (out .exit))) ⌝ }
 {
     let n = marks.len();
     sent_bring::print_segments(segments, m.segment_bytes(), prints);
@@ -195,7 +195,7 @@ pub fn assemble(
     m: Measures,
 ) -> u32
     requires { ⌜ Stored (measuresOf m) (now pool) (now words) × Message (measuresOf m) bytes (now fingerprints) (now marks) (now segments) × (73728 ≤ length (now out)) ⌝ }
-    ensures { λ r. ⌜ Brings (assembled sha1 (measuresOf m) (shelfIn (measuresOf m) (now (pool .entry)) (now (words .entry))) bytes (now (fingerprints .entry)) (now (marks .entry)) (now (segments .entry))) r (take bytes (now (out .exit))) ⌝ }
+    ensures { λ r. ⌜ Brings (assembled sha1 (measuresOf m) (storageIn (measuresOf m) (now (pool .entry)) (now (words .entry))) bytes (now (fingerprints .entry)) (now (marks .entry)) (now (segments .entry))) r (take bytes (now (out .exit))) ⌝ }
 {
     let mut prints = [0u8; 5120];
     let mut numbers = [0u32; 256];

@@ -6,10 +6,10 @@ use native.Mathlib.Omega.{arith}
 use lib.ListN.{length, take, drop}
 use Rattle.sha1.specs.Sha1.{sha1}
 use Rattle.model.specs.Measures.{Measures}
-use Rattle.model.specs.State.{Shelf, Outcome}
-use Rattle.model.specs.Table.{shapeOf, stateIn, shelfIn}
+use Rattle.model.specs.State.{Storage, Outcome}
+use Rattle.model.specs.Table.{shapeOf, stateIn, storageIn}
 use Rattle.laws.specs.Stores.{Sound, recordsFrom}
-use Rattle.meets.proofs.Records.{shelf-is}
+use Rattle.sound_laws.proofs.Records.{storage-is}
 use Rattle.sent.specs.Sent.{assembled}
 use Rattle.sent.specs.Found.{Brings, Message}
 
@@ -18,8 +18,8 @@ message-read m n e bytes fs marks ss g = subst (λ (k : Measures). Message k byt
 
 module _ {pool table : List ℕ} (h : Sound pool table) (at : ℕ) (e : at ≡ recordsFrom (shapeOf table)) (m : Measures) (q : m ≡ shapeOf table .measures) where
   pub assembled-read : (bytes : ℕ) (fs marks ss : List ℕ) (r : ℕ) (out : List ℕ)
-      → Brings (assembled sha1 m (shelfIn m pool (take (length table - at) (drop at table))) bytes fs marks ss) r out
-      → Brings (assembled sha1 (shapeOf table .measures) (stateIn (shapeOf table) pool table .shelf) bytes fs marks ss) r out
+      → Brings (assembled sha1 m (storageIn m pool (take (length table - at) (drop at table))) bytes fs marks ss) r out
+      → Brings (assembled sha1 (shapeOf table .measures) (stateIn (shapeOf table) pool table .storage) bytes fs marks ss) r out
   assembled-read bytes fs marks ss r out b =
       subst (λ (o : Outcome (List ℕ)). Brings o r out)
-      (ap₂ (λ (n : Measures) (s : Shelf). assembled sha1 n s bytes fs marks ss) q (ap (λ (n : Measures). shelfIn n pool (take (length table - at) (drop at table))) q ∙ shelf-is h at e)) b
+      (ap₂ (λ (n : Measures) (s : Storage). assembled sha1 n s bytes fs marks ss) q (ap (λ (n : Measures). storageIn n pool (take (length table - at) (drop at table))) q ∙ storage-is h at e)) b

@@ -11,7 +11,7 @@ ghost use Rattle.sha1.specs.Sha1.{sha1};
 ghost use Rattle.sent.specs.Sent.{sentFits, assembled, backupSentOf};
 ghost use Rattle.sent.specs.Found.{Brings};
 use backup::BackedUp;
-use shelve::Limit;
+use backup_steps::Limit;
 
 // The image of a message that fits goes to the front of the output; the refusal, 19 or 20, or 0.
 fn assemble_in(
@@ -24,7 +24,7 @@ fn assemble_in(
     out: &mut [u8],
 ) -> u32
     requires { ⌜ Sound (now pool) (now table) × (sentFits (shapeOf (now table)) bytes (now fingerprints) (now marks) (now segments) ≡ true) × (73728 ≤ length (now out)) ⌝ }
-    ensures { λ r. ⌜ Brings (assembled sha1 (shapeOf (now (table .entry)) .measures) (stateIn (shapeOf (now (table .entry))) (now (pool .entry)) (now (table .entry)) .shelf) bytes (now (fingerprints .entry)) (now (marks .entry)) (now (segments .entry))) r (take bytes (now (out .exit))) ⌝ }
+    ensures { λ r. ⌜ Brings (assembled sha1 (shapeOf (now (table .entry)) .measures) (stateIn (shapeOf (now (table .entry))) (now (pool .entry)) (now (table .entry)) .storage) bytes (now (fingerprints .entry)) (now (marks .entry)) (now (segments .entry))) r (take bytes (now (out .exit))) ⌝ }
 {
     let m = layout::measures_in(table);
     let from = tills::records_at(table);

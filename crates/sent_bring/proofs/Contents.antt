@@ -13,33 +13,33 @@ use Rattle.lists.proofs.Places.{row-next}
 use Rattle.lists.proofs.Rows.{rows-append}
 use Rattle.lists.proofs.Slices.{front-more, take-next}
 use Rattle.lists.proofs.Walks.{mask-after, mask-here}
-use Rattle.model.specs.State.{Position, nullPosition, Segment, Shelf}
+use Rattle.model.specs.State.{Position, nullPosition, Segment, Storage}
 use Rattle.model.specs.Records.{isHeld, isBlankPosition, cellOf}
 use Rattle.model.specs.Table.{cellsIn, recordToWords}
-use Rattle.shelf.proofs.Inside.{cell-is}
-use Rattle.shelf.proofs.Row.{blank-word, cell-word, held-word}
+use Rattle.storage.proofs.Inside.{cell-is}
+use Rattle.storage.proofs.Row.{blank-word, cell-word, held-word}
 use Rattle.sent.specs.Sent.{contentOf}
 use Rattle.sent_laws.proofs.Content.{content-held}
 
-module _ (bytes : ℕ) (pool : List ℕ) (s : Shelf) (c : ℕ) (e : s .cells ≡ cellsIn bytes pool) (z : 0 < bytes) (room : c * bytes + bytes ≤ length pool) where
+module _ (bytes : ℕ) (pool : List ℕ) (s : Storage) (c : ℕ) (e : s .cells ≡ cellsIn bytes pool) (z : 0 < bytes) (room : c * bytes + bytes ≤ length pool) where
   -- a held position's content is its cell's bytes
   pub held-bytes : (p : Position) (h : ℕ) → h ≡ cond (isHeld p) 1 0 → h ≡ 1 → c ≡ cellOf p → take bytes (drop (c * bytes) pool) ≡ contentOf bytes s p
   held-bytes p h q o r = cell-is bytes pool c z room s e ∙ content-held bytes s p h c q o r
 
 -- the contents of the first i positions are at the front, and the masks are those of the others
-pub record PutTo (bytes : ℕ) (s : Shelf) (seg : Segment) (out : List ℕ) (h b i : ℕ) : Type 0 where
+pub record PutTo (bytes : ℕ) (s : Storage) (seg : Segment) (out : List ℕ) (h b i : ℕ) : Type 0 where
   pub mask : h ≡ maskOf isHeld (drop i seg)
   pub blank : b ≡ maskOf isBlankPosition (drop i seg)
   pub front : take (i * bytes) out ≡ rows (contentOf bytes s) (take i seg)
 
-pub put-start : (bytes : ℕ) (s : Shelf) (seg : Segment) (out row : List ℕ) → row ≡ recordToWords seg → PutTo bytes s seg out (getD row 0 0) (getD row 2 0) 0
+pub put-start : (bytes : ℕ) (s : Storage) (seg : Segment) (out row : List ℕ) → row ≡ recordToWords seg → PutTo bytes s seg out (getD row 0 0) (getD row 2 0) 0
 put-start bytes s seg out row e = record {
   mask = ap (λ (l : List ℕ). getD l 0 0) e ∙ held-word seg;
   blank = ap (λ (l : List ℕ). getD l 2 0) e ∙ blank-word seg;
   front = unfold joined in (ap (λ (i : ℕ). take i out) (zero-mul bytes));
 }
 
-module _ {bytes : ℕ} {s : Shelf} {seg : Segment} {out : List ℕ} {h b i : ℕ} (t : PutTo bytes s seg out h b i) where
+module _ {bytes : ℕ} {s : Storage} {seg : Segment} {out : List ℕ} {h b i : ℕ} (t : PutTo bytes s seg out h b i) where
   module _ (l : i < length seg) (row : List ℕ) (e : row ≡ recordToWords seg) where
     abbrev p : Position
     p = getD seg i nullPosition

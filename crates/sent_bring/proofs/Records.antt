@@ -7,12 +7,12 @@ use lib.ListN.{length, getD}
 use Rattle.lists.specs.Rows.{rows}
 use Rattle.lists.proofs.Places.{row-room}
 use Rattle.model.specs.Measures.{Measures}
-use Rattle.model.specs.State.{Segment, Shelf}
-use Rattle.model.specs.Table.{cellsIn, recordToWords, recordsIn, shelfIn}
-use Rattle.shelf.specs.Stored.{Stored}
-use Rattle.shelf.proofs.Inside.{cell-inside, cell-room}
-use Rattle.shelf.proofs.Read.{cells-of, count-at, records-of, stored-records}
-use Rattle.shelf.proofs.Row.{cells-below}
+use Rattle.model.specs.State.{Segment, Storage}
+use Rattle.model.specs.Table.{cellsIn, recordToWords, recordsIn, storageIn}
+use Rattle.storage.specs.Stored.{Stored}
+use Rattle.storage.proofs.Inside.{cell-inside, cell-room}
+use Rattle.storage.proofs.Read.{cells-of, count-at, records-of, stored-records}
+use Rattle.storage.proofs.Row.{cells-below}
 use Rattle.sent.specs.Sent.{segmentBytes, contentOf, contentIn}
 
 pub segment-long : (m : Measures) → segmentBytes m ≡ m .segmentBlocks * m .blockBytes
@@ -39,8 +39,8 @@ module _ {m : Measures} {pool words : List ℕ} (t : Stored m pool words) (k : �
 
   -- its content is the record's
   pub row-content : (out : List ℕ)
-      → ((s : Shelf) (seg : Segment) → s .cells ≡ cellsIn (m .blockBytes) pool → length seg ≡ m .segmentBlocks → row ≡ recordToWords seg → out ≡ rows (contentOf (m .blockBytes) s) seg)
-      → out ≡ contentIn m (shelfIn m pool words) (getD (shelfIn m pool words .records) k [])
+      → ((s : Storage) (seg : Segment) → s .cells ≡ cellsIn (m .blockBytes) pool → length seg ≡ m .segmentBlocks → row ≡ recordToWords seg → out ≡ rows (contentOf (m .blockBytes) s) seg)
+      → out ≡ contentIn m (storageIn m pool words) (getD (storageIn m pool words .records) k [])
   row-content out f =
-      f (shelfIn m pool words) seg (cells-of m pool words) sized e
-      ∙ ap (λ (l : List Segment). contentIn m (shelfIn m pool words) (getD l k [])) (sym (records-of m pool words))
+      f (storageIn m pool words) seg (cells-of m pool words) sized e
+      ∙ ap (λ (l : List Segment). contentIn m (storageIn m pool words) (getD l k [])) (sym (records-of m pool words))

@@ -8,11 +8,11 @@ ghost use Rattle.lists.specs.Lists.{firstFrom, sameNumbers};
 ghost use Rattle.lists.specs.Rows.{parts, rows};
 ghost use Rattle.lists.specs.Search.{asOption};
 ghost use Rattle.model.specs.Measures.{recordWords};
-ghost use Rattle.model.specs.State.{Position, Segment, Shelf, refused, done};
+ghost use Rattle.model.specs.State.{Position, Segment, Storage, refused, done};
 ghost use Rattle.model.specs.Records.{isHeld, isBlankPosition, cellOf};
-ghost use Rattle.model.specs.Table.{cellsIn, recordToWords, recordsIn, shelfIn};
+ghost use Rattle.model.specs.Table.{cellsIn, recordToWords, recordsIn, storageIn};
 ghost use Rattle.numbers.specs.Measures.{measuresOf};
-ghost use Rattle.shelf.specs.Stored.{Stored};
+ghost use Rattle.storage.specs.Stored.{Stored};
 ghost use Rattle.sha1.specs.Sha1.{sha1, digest};
 ghost use Rattle.sent.specs.Sent.{segmentBytes, contentOf, contentIn, zeroSegment, had};
 ghost use Rattle.sent.specs.Found.{isPrinted, PrintsOf, Brings, orTwenty};
@@ -66,7 +66,7 @@ fn put_position(
     bytes: usize,
 )
     requires { ⌜ (held < 2) × (blank < 2) × (cell .0 * bytes + bytes ≤ length (now pool)) × (64 ≤ bytes) × (bytes ≤ 512) × (block .0 * bytes + bytes ≤ length (now out)) ⌝ }
-    ensures { λ _. ⌜ ((s : Shelf) (p : Position) → s .cells ≡ cellsIn bytes (now (pool .entry)) → held ≡ cond (isHeld p) 1 0 → blank ≡ cond (isBlankPosition p) 1 0 → cell .0 ≡ cellOf p → now (out .exit) ≡ take (block .0 * bytes) (now (out .entry)) ++ (contentOf bytes s p ++ drop (block .0 * bytes + bytes) (now (out .entry)))) ⌝ }
+    ensures { λ _. ⌜ ((s : Storage) (p : Position) → s .cells ≡ cellsIn bytes (now (pool .entry)) → held ≡ cond (isHeld p) 1 0 → blank ≡ cond (isBlankPosition p) 1 0 → cell .0 ≡ cellOf p → now (out .exit) ≡ take (block .0 * bytes) (now (out .entry)) ++ (contentOf bytes s p ++ drop (block .0 * bytes + bytes) (now (out .entry)))) ⌝ }
 {
     if held == 1 {
         blocks::copy_block(pool, cell, out, block, bytes, bytes);
@@ -82,7 +82,7 @@ fn put_position(
 // A record's content.
 fn put_content(pool: &[u8], row: &[u32], out: &mut [u8], bytes: usize, n: usize)
     requires { ⌜ (length (now row) ≡ recordWords n) × ((i : ℕ) → i < n → getD (now row) (3 + i) 0 * bytes + bytes ≤ length (now pool)) × (64 ≤ bytes) × (bytes ≤ 512) × (n ≤ 16) × (length (now out) ≡ n * bytes) ⌝ }
-    ensures { λ _. ⌜ ((s : Shelf) (seg : Segment) → s .cells ≡ cellsIn bytes (now (pool .entry)) → length seg ≡ n → now (row .entry) ≡ recordToWords seg → now (out .exit) ≡ rows (contentOf bytes s) seg) ⌝ }
+    ensures { λ _. ⌜ ((s : Storage) (seg : Segment) → s .cells ≡ cellsIn bytes (now (pool .entry)) → length seg ≡ n → now (row .entry) ≡ recordToWords seg → now (out .exit) ≡ rows (contentOf bytes s) seg) ⌝ }
 {
     let mut held = row[0];
     let mut blank = row[2];
@@ -107,7 +107,7 @@ fn put_content(pool: &[u8], row: &[u32], out: &mut [u8], bytes: usize, n: usize)
 // The content of a record that is there, by its number.
 fn put_record(pool: &[u8], words: &[u32], number: RecordNumber, out: &mut [u8], m: Measures)
     requires { ⌜ Stored (measuresOf m) (now pool) (now words) × (number .0 < length (recordsIn (m .blocks) (now words))) × (length (now out) ≡ segmentBytes (measuresOf m)) ⌝ }
-    ensures { λ _. ⌜ (let shelf = shelfIn (measuresOf m) (now (pool .entry)) (now (words .entry)) in now (out .exit) ≡ contentIn (measuresOf m) shelf (getD (shelf .records) (number .0) [])) ⌝ }
+    ensures { λ _. ⌜ (let storage = storageIn (measuresOf m) (now (pool .entry)) (now (words .entry)) in now (out .exit) ≡ contentIn (measuresOf m) storage (getD (storage .records) (number .0) [])) ⌝ }
 {
     let at = number.word(m.blocks);
     let end = at + numbers::row_words(m.blocks);
@@ -149,8 +149,8 @@ pub fn bring_had(
     m: Measures,
 ) -> u32
     requires { ⌜ Stored (measuresOf m) (now pool) (now words) × PrintsOf (segmentBytes (measuresOf m)) (now segments) (now prints) × (s * segmentBytes (measuresOf m) ≤ length (now segments)) × (s * 20 ≤ length (now prints)) × (zero ≡ digest (zeroSegment (measuresOf m))) × (length (now out) ≡ segmentBytes (measuresOf m)) ⌝ }
-    requires { ⌜ asOption (length (recordsIn (m .blocks) (now words))) (number .0) ≡ firstFrom (isPrinted sha1 (measuresOf m) (shelfIn (measuresOf m) (now pool) (now words)) (now fingerprint)) 0 (recordsIn (m .blocks) (now words)) ⌝ }
-    ensures { λ r. ⌜ Brings (orTwenty (had sha1 (measuresOf m) (shelfIn (measuresOf m) (now (pool .entry)) (now (words .entry))) (parts (segmentBytes (measuresOf m)) s (now (segments .entry))) (now (fingerprint .entry)))) r (now (out .exit)) ⌝ }
+    requires { ⌜ asOption (length (recordsIn (m .blocks) (now words))) (number .0) ≡ firstFrom (isPrinted sha1 (measuresOf m) (storageIn (measuresOf m) (now pool) (now words)) (now fingerprint)) 0 (recordsIn (m .blocks) (now words)) ⌝ }
+    ensures { λ r. ⌜ Brings (orTwenty (had sha1 (measuresOf m) (storageIn (measuresOf m) (now (pool .entry)) (now (words .entry))) (parts (segmentBytes (measuresOf m)) s (now (segments .entry))) (now (fingerprint .entry)))) r (now (out .exit)) ⌝ }
 {
     let print = sha1_message::digest_bytes(zero);
     if blocks::same(&print, fingerprint) {

@@ -11,7 +11,7 @@ use Rattle.lists.specs.Lists.{firstFrom, sameNumbers}
 use Rattle.lists.specs.Search.{asOption}
 use Rattle.lists.proofs.Puts.{as-none, as-some, first-end, first-step}
 use Rattle.model.specs.Measures.{Measures}
-use Rattle.model.specs.State.{Segment, Shelf}
+use Rattle.model.specs.State.{Segment, Storage}
 use Rattle.sha1.specs.declared.Digest.{Digest}
 use Rattle.sha1.specs.Sha1.{sha1, digest, digestBytes}
 use Rattle.sent.specs.Sent.{canMatch, contentIn}
@@ -19,7 +19,7 @@ use Rattle.sent.specs.Found.{printAt, isPrinted, RecordsFor}
 
 -- ---- one record
 
-module _ (m : Measures) (s : Shelf) (seg : Segment) (f : List ℕ) (number before : ℕ) where
+module _ (m : Measures) (s : Storage) (seg : Segment) (f : List ℕ) (number before : ℕ) where
   pub none-put : false ≡ canMatch s seg → before ≡ cond (isPrinted sha1 m s f seg) number before
   none-put e = ap (λ (b : Bool). cond (cond b (sameNumbers (sha1 (contentIn m s seg)) f) false) number before) e
 
@@ -34,12 +34,12 @@ module _ (m : Measures) (s : Shelf) (seg : Segment) (f : List ℕ) (number befor
 -- ---- all records
 
 -- the records from k on are looked at
-pub record FoundTo (m : Measures) (s : Shelf) (segs : List Segment) (fingerprints before numbers : List ℕ) (k : ℕ) : Type 0 where
+pub record FoundTo (m : Measures) (s : Storage) (segs : List Segment) (fingerprints before numbers : List ℕ) (k : ℕ) : Type 0 where
   pub within : k ≤ length segs
   pub same : length numbers ≡ length before
   pub found : (j : ℕ) → j < length before → asOption (length segs) (getD numbers j 0) ≡ firstFrom (isPrinted sha1 m s (printAt fingerprints j)) k (drop k segs)
 
-module _ {m : Measures} {s : Shelf} {segs : List Segment} {fingerprints before : List ℕ} where
+module _ {m : Measures} {s : Storage} {segs : List Segment} {fingerprints before : List ℕ} where
   pub found-start : (k : ℕ) → k ≡ length segs → length segs ≤ 4096 → ((j : ℕ) → j < length before → 4096 ≤ getD before j 0) → FoundTo m s segs fingerprints before before k
   found-start k e few none = record {
     within = omega (arith, e);

@@ -5,11 +5,11 @@ ghost use Prim.Native.Nat.{ℕ, _+_, _*_, _%_, _≤_, _<_};
 ghost use lib.ListN.{length, getD};
 ghost use Rattle.lists.specs.Lists.{sameNumbers};
 ghost use Rattle.model.specs.Measures.{recordWords};
-ghost use Rattle.model.specs.State.{Segment, Shelf};
-ghost use Rattle.model.specs.Table.{cellsIn, recordToWords, recordsIn, shelfIn};
+ghost use Rattle.model.specs.State.{Segment, Storage};
+ghost use Rattle.model.specs.Table.{cellsIn, recordToWords, recordsIn, storageIn};
 ghost use Rattle.numbers.specs.Measures.{measuresOf};
 ghost use Rattle.laws.specs.Ranges.{Measured};
-ghost use Rattle.shelf.specs.Stored.{Stored};
+ghost use Rattle.storage.specs.Stored.{Stored};
 ghost use Rattle.sha1.specs.Sha1.{sha1, digestBytes};
 ghost use Rattle.sent.specs.Found.{printAt, isPrinted, RecordsFor};
 use numbers::Measures;
@@ -55,7 +55,7 @@ fn find_record(
     m: Measures,
 )
     requires { ⌜ Measured (measuresOf m) × (length (now row) ≡ recordWords (m .blocks)) × ((i : ℕ) → i < m .blocks → getD (now row) (3 + i) 0 * m .bytes + m .bytes ≤ length (now pool)) × (length (now fingerprints) ≡ length (now numbers) * 20) ⌝ }
-    ensures { λ _. ⌜ (length (now (numbers .exit)) ≡ length (now (numbers .entry))) × ((s : Shelf) (seg : Segment) → s .cells ≡ cellsIn (m .bytes) (now (pool .entry)) → length seg ≡ m .blocks → now (row .entry) ≡ recordToWords seg → (j : ℕ) → j < length (now (numbers .entry)) → getD (now (numbers .exit)) j 0 ≡ cond (isPrinted sha1 (measuresOf m) s (printAt (now (fingerprints .entry)) j) seg) (number .0) (getD (now (numbers .entry)) j 0)) ⌝ }
+    ensures { λ _. ⌜ (length (now (numbers .exit)) ≡ length (now (numbers .entry))) × ((s : Storage) (seg : Segment) → s .cells ≡ cellsIn (m .bytes) (now (pool .entry)) → length seg ≡ m .blocks → now (row .entry) ≡ recordToWords seg → (j : ℕ) → j < length (now (numbers .entry)) → getD (now (numbers .exit)) j 0 ≡ cond (isPrinted sha1 (measuresOf m) s (printAt (now (fingerprints .entry)) j) seg) (number .0) (getD (now (numbers .entry)) j 0)) ⌝ }
 {
     if !sent_prints::can_match(pool, row, m.bytes, m.blocks) {
         return;
@@ -67,7 +67,7 @@ fn find_record(
 // The records' numbers, from the highest record down. Before, no place has a record's number.
 fn find_down(pool: &[u8], words: &[u32], fingerprints: &[u8], numbers: &mut [u32], m: Measures)
     requires { ⌜ Stored (measuresOf m) (now pool) (now words) × (length (now fingerprints) ≡ length (now numbers) * 20) × ((j : ℕ) → j < length (now numbers) → 4096 ≤ getD (now numbers) j 0) ⌝ }
-    ensures { λ _. ⌜ (length (now (numbers .exit)) ≡ length (now (numbers .entry))) × RecordsFor (measuresOf m) (shelfIn (measuresOf m) (now (pool .entry)) (now (words .entry))) (now (fingerprints .entry)) (now (numbers .exit)) ⌝ }
+    ensures { λ _. ⌜ (length (now (numbers .exit)) ≡ length (now (numbers .entry))) × RecordsFor (measuresOf m) (storageIn (measuresOf m) (now (pool .entry)) (now (words .entry))) (now (fingerprints .entry)) (now (numbers .exit)) ⌝ }
 {
     let width = numbers::row_words(m.blocks);
     let mut k = numbers::rows(words.len(), m.blocks);
@@ -89,7 +89,7 @@ pub fn find_records(
     m: Measures,
 )
     requires { ⌜ Stored (measuresOf m) (now pool) (now words) × (length (now fingerprints) ≡ length (now numbers) * 20) ⌝ }
-    ensures { λ _. ⌜ (length (now (numbers .exit)) ≡ length (now (numbers .entry))) × RecordsFor (measuresOf m) (shelfIn (measuresOf m) (now (pool .entry)) (now (words .entry))) (now (fingerprints .entry)) (now (numbers .exit)) ⌝ }
+    ensures { λ _. ⌜ (length (now (numbers .exit)) ≡ length (now (numbers .entry))) × RecordsFor (measuresOf m) (storageIn (measuresOf m) (now (pool .entry)) (now (words .entry))) (now (fingerprints .entry)) (now (numbers .exit)) ⌝ }
 {
     words::fill_with(numbers, RecordNumber::MOST);
     find_down(pool, words, fingerprints, numbers, m);

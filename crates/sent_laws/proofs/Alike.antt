@@ -1,4 +1,4 @@
--- Two shelves put a second message together to the same image, unless one lacks a segment, if no two different segments that they have or that it sends share
+-- Two storages put a second message together to the same image, unless one lacks a segment, if no two different segments that they have or that it sends share
 -- a fingerprint.
 use mathlib.Core.Path.{_≡_, refl, sym, ap, _∙_}
 use mathlib.Core.Bool.{Bool, true, false, cond}
@@ -11,7 +11,7 @@ use Rattle.lists.specs.Each.{Each}
 use Rattle.lists.proofs.Each.{each-append}
 use Rattle.lists.proofs.Same.{same-eq}
 use Rattle.model.specs.Measures.{Measures}
-use Rattle.model.specs.State.{Shelf, Outcome, refused, done}
+use Rattle.model.specs.State.{Storage, Outcome, refused, done}
 use Rattle.sent.specs.Sent.{Print, segmentBytes, contents, zeroSegment, firstWith, had, Gathered, goOn, takeSent, goOnWith, takeHad, gather, cutTo, assembled}
 use Rattle.sent.specs.Claims.{segmentsSent}
 
@@ -42,7 +42,7 @@ module _ (print : Print) (m : Measures) (Known : List ℕ → Type 0) (one : (x 
       go true = k
       go false = tt
 
-  module _ (a : Shelf) (ka : Each Known (contents m a)) where
+  module _ (a : Storage) (ka : Each Known (contents m a)) where
     known-had : (g : Gathered) → Each Known (g .sent) → (f : List ℕ) → Found f (had print m a (g .sent) f)
     unfolding had
     known-had g k f = found f (zeroSegment m ∷ (g .sent ++ contents m a)) (none-zero, each-append Known (g .sent) (contents m a) k ka)
@@ -53,7 +53,7 @@ module _ (print : Print) (m : Measures) (Known : List ℕ → Type 0) (one : (x 
     gather-refused left n (zero ∷ marks) fs ss = gather-refused (left - segmentBytes m) n marks (drop 20 fs) ss
     gather-refused left n (suc i ∷ marks) fs ss = gather-refused (left - segmentBytes m) n marks (drop 20 fs) (drop (segmentBytes m) ss)
 
-  module _ (a b : Shelf) (ka : Each Known (contents m a)) (kb : Each Known (contents m b)) where
+  module _ (a b : Storage) (ka : Each Known (contents m a)) (kb : Each Known (contents m b)) where
     -- a segment that is had
     data Had (o q : Outcome Gathered) : Type 0 where
       lacking : o ≡ refused 20 → Had o q

@@ -20,13 +20,13 @@ use Rattle.lists.proofs.Slices.{drop-next, drop-end}
 use Rattle.lists.proofs.Tests.{by-test}
 use Rattle.sha1.specs.Sha1.{sha1}
 use Rattle.model.specs.Measures.{Measures, partsFor}
-use Rattle.model.specs.State.{Shelf, Outcome, refused, done}
+use Rattle.model.specs.State.{Storage, Outcome, refused, done}
 use Rattle.laws.proofs.Measures.{parts-enough}
 use Rattle.sent.specs.Sent.{segmentBytes, had, Gathered, goOn, takeSent, goOnWith, takeHad, gather, cutTo, assembled}
 use Rattle.sent.specs.Found.{printAt, Brings, orTwenty, sentAt, source, ended, Message}
 use Rattle.sent_laws.proofs.Numbers.{NotZero}
 
-module _ (m : Measures) (shelf : Shelf) where
+module _ (m : Measures) (storage : Storage) where
   abbrev width : ℕ
   width = segmentBytes m
 
@@ -44,9 +44,9 @@ module _ (m : Measures) (shelf : Shelf) where
       go true = refl
       go false = refl
 
-  had-grows : (left : ℕ) (f : List ℕ) (g : Gathered) → takeHad sha1 m shelf left f (done g) ≡ grow (g .sent) g (ended left (orTwenty (had sha1 m shelf (g .sent) f)))
+  had-grows : (left : ℕ) (f : List ℕ) (g : Gathered) → takeHad sha1 m storage left f (done g) ≡ grow (g .sent) g (ended left (orTwenty (had sha1 m storage (g .sent) f)))
   unfolding takeHad goOnWith
-  had-grows left f g = go (had sha1 m shelf (g .sent) f)
+  had-grows left f g = go (had sha1 m storage (g .sent) f)
     where
       go : (o : Option (List ℕ)) → goOnWith left o g ≡ grow (g .sent) g (ended left (orTwenty o))
       go none = unfold goOnWith in refl
@@ -62,15 +62,15 @@ module _ (m : Measures) (shelf : Shelf) where
       go false = refl
 
   -- a refusal stays
-  stays : (marks : List ℕ) (left n : ℕ) (fs ss : List ℕ) → gather sha1 m shelf left (refused n) marks fs ss ≡ refused n
+  stays : (marks : List ℕ) (left n : ℕ) (fs ss : List ℕ) → gather sha1 m storage left (refused n) marks fs ss ≡ refused n
   unfolding gather takeHad takeSent
   stays [] left n fs ss = refl
   stays (zero ∷ marks) left n fs ss = stays marks (left - width) n (drop 20 fs) ss
   stays (suc i ∷ marks) left n fs ss = stays marks (left - width) n (drop 20 fs) (drop width ss)
 
   -- and has a number
-  pub source-number : (i s : ℕ) (ss f : List ℕ) → NotZero (source m shelf i s ss f)
-  source-number zero s ss f = go (had sha1 m shelf (parts width s ss) f)
+  pub source-number : (i s : ℕ) (ss f : List ℕ) → NotZero (source m storage i s ss f)
+  source-number zero s ss f = go (had sha1 m storage (parts width s ss) f)
     where
       go : (o : Option (List ℕ)) → NotZero (orTwenty o)
       go none = λ n. absurd (omega (arith, n))
@@ -87,12 +87,12 @@ module _ (m : Measures) (shelf : Shelf) where
     soFar j s out = record { image = take (j * width) out; sent = parts width s ss }
 
     abbrev rest : ℕ → ℕ → ℕ → Outcome Gathered → Outcome Gathered
-    rest j s left o = gather sha1 m shelf left o (drop j marks) (drop (j * 20) fs) (drop (s * width) ss)
+    rest j s left o = gather sha1 m storage left o (drop j marks) (drop (j * 20) fs) (drop (s * width) ss)
 
     pub record At (j s : ℕ) (out : List ℕ) : Type 0 where
       pub within : j ≤ length marks
       pub follow : s + total (λ i. i) (drop j marks) ≡ total (λ i. i) marks
-      pub same : rest j s (bytes - j * width) (done (soFar j s out)) ≡ gather sha1 m shelf bytes (done (record { image = []; sent = [] })) marks fs ss
+      pub same : rest j s (bytes - j * width) (done (soFar j s out)) ≡ gather sha1 m storage bytes (done (record { image = []; sent = [] })) marks fs ss
 
     pub at-start : (out : List ℕ) → At 0 0 out
     unfolding parts
@@ -112,30 +112,30 @@ module _ (m : Measures) (shelf : Shelf) where
 
       -- what segment j is
       abbrev pub next : Outcome (List ℕ)
-      next = ended left (source m shelf mark s ss (printAt fs j))
+      next = ended left (source m storage mark s ss (printAt fs j))
 
       step : rest j s left (done (soFar j s out)) ≡ rest (j + 1) (s + mark) (left - width) (grow (parts width (s + mark) ss) (soFar j s out) next)
-      step = ap (λ (l : List ℕ). gather sha1 m shelf left (done (soFar j s out)) l (drop (j * 20) fs) (drop (s * width) ss)) (drop-next marks j 0 h) ∙ go mark one
+      step = ap (λ (l : List ℕ). gather sha1 m storage left (done (soFar j s out)) l (drop (j * 20) fs) (drop (s * width) ss)) (drop-next marks j 0 h) ∙ go mark one
         where
           prints : drop 20 (drop (j * 20) fs) ≡ drop ((j + 1) * 20) fs
           prints = drop-drop 20 (j * 20) fs ∙ ap (λ (i : ℕ). drop i fs) (sym (row-next j 20))
 
           go : (i : ℕ) → i ≤ 1
-              → gather sha1 m shelf left (done (soFar j s out)) (i ∷ drop (j + 1) marks) (drop (j * 20) fs) (drop (s * width) ss)
-              ≡ rest (j + 1) (s + i) (left - width) (grow (parts width (s + i) ss) (soFar j s out) (ended left (source m shelf i s ss (printAt fs j))))
+              → gather sha1 m storage left (done (soFar j s out)) (i ∷ drop (j + 1) marks) (drop (j * 20) fs) (drop (s * width) ss)
+              ≡ rest (j + 1) (s + i) (left - width) (grow (parts width (s + i) ss) (soFar j s out) (ended left (source m storage i s ss (printAt fs j))))
           go zero l =
               unfold gather in
-              (ap₂ (λ (o : Outcome Gathered) (p : List ℕ). gather sha1 m shelf (left - width) o (drop (j + 1) marks) p (drop (s * width) ss)) (had-grows left (printAt fs j) (soFar j s out)) prints
-              ∙ ap (λ (k : ℕ). rest (j + 1) k (left - width) (grow (parts width k ss) (soFar j s out) (ended left (source m shelf 0 s ss (printAt fs j))))) (sym (add-zero s)))
+              (ap₂ (λ (o : Outcome Gathered) (p : List ℕ). gather sha1 m storage (left - width) o (drop (j + 1) marks) p (drop (s * width) ss)) (had-grows left (printAt fs j) (soFar j s out)) prints
+              ∙ ap (λ (k : ℕ). rest (j + 1) k (left - width) (grow (parts width k ss) (soFar j s out) (ended left (source m storage 0 s ss (printAt fs j))))) (sym (add-zero s)))
           go (suc zero) l =
               unfold gather in
-              (ap₂ (λ (o : Outcome Gathered) (p : List ℕ). gather sha1 m shelf (left - width) o (drop (j + 1) marks) p (drop width (drop (s * width) ss))) (sent-grows left (printAt fs j) (sentAt width s ss) (soFar j s out)) prints
-              ∙ ap₂ (λ (ps : List (List ℕ)) (q : List ℕ). gather sha1 m shelf (left - width) (grow ps (soFar j s out) (ended left (source m shelf 1 s ss (printAt fs j)))) (drop (j + 1) marks) (drop ((j + 1) * 20) fs) q)
+              (ap₂ (λ (o : Outcome Gathered) (p : List ℕ). gather sha1 m storage (left - width) o (drop (j + 1) marks) p (drop width (drop (s * width) ss))) (sent-grows left (printAt fs j) (sentAt width s ss) (soFar j s out)) prints
+              ∙ ap₂ (λ (ps : List (List ℕ)) (q : List ℕ). gather sha1 m storage (left - width) (grow ps (soFar j s out) (ended left (source m storage 1 s ss (printAt fs j)))) (drop (j + 1) marks) (drop ((j + 1) * 20) fs) q)
               (sym (parts-next width s ss)) (drop-drop width (s * width) ss ∙ ap (λ (i : ℕ). drop i ss) (sym (row-next s width))))
           go (suc (suc i)) l = absurd (not-suc-le-zero (le-of-suc-le-suc l))
 
       -- it is refused
-      pub at-refused : (r : ℕ) (part : List ℕ) → Brings next r part → ¬ (r ≡ 0) → (all : List ℕ) → Brings (assembled sha1 m shelf bytes fs marks ss) r all
+      pub at-refused : (r : ℕ) (part : List ℕ) → Brings next r part → ¬ (r ≡ 0) → (all : List ℕ) → Brings (assembled sha1 m storage bytes fs marks ss) r all
       unfolding assembled
       at-refused r part b z all = subst (λ (o : Outcome Gathered). Brings (cutTo bytes o) r all) (sym step ∙ a .same) (go next b)
         where
@@ -149,7 +149,7 @@ module _ (m : Measures) (shelf : Shelf) where
       at-next r part b z out′ e = record {
         within = omega arith;
         follow = sum-next marks j s h (a .follow);
-        same = go next b (ended-number left (source m shelf mark s ss (printAt fs j)) (source-number mark s ss (printAt fs j))) step ∙ a .same;
+        same = go next b (ended-number left (source m storage mark s ss (printAt fs j)) (source-number mark s ss (printAt fs j))) step ∙ a .same;
       }
         where
           l : bytes - (j + 1) * width ≡ left - width
@@ -164,11 +164,11 @@ module _ (m : Measures) (shelf : Shelf) where
 
     -- all are in their places
     pub at-end : (j s : ℕ) (out : List ℕ) → At j s out → length marks ≤ j → length marks ≡ partsFor width bytes → 0 < width
-        → Brings (assembled sha1 m shelf bytes fs marks ss) 0 (take bytes out)
+        → Brings (assembled sha1 m storage bytes fs marks ss) 0 (take bytes out)
     unfolding assembled
     at-end j s out a h n p =
         subst (λ (o : Outcome Gathered). Brings (cutTo bytes o) 0 (take bytes out)) (a .same)
-        (subst (λ (l : List ℕ). Brings (cutTo bytes (gather sha1 m shelf (bytes - j * width) (done (soFar j s out)) l (drop (j * 20) fs) (drop (s * width) ss))) 0 (take bytes out)) (sym (drop-end marks j h))
+        (subst (λ (l : List ℕ). Brings (cutTo bytes (gather sha1 m storage (bytes - j * width) (done (soFar j s out)) l (drop (j * 20) fs) (drop (s * width) ss))) 0 (take bytes out)) (sym (drop-end marks j h))
         (unfold gather cutTo in (refl, sym cut)))
       where
         cut : take bytes (take (j * width) out) ≡ take bytes out

@@ -4,12 +4,12 @@ use mathlib.Core.Bool.{cond}
 use Prim.Native.Nat.{ℕ}
 use native.Mathlib.Omega.{arith}
 use lib.ListN.{replicate}
-use Rattle.model.specs.State.{Position, nullPosition, blankPosition, held, removed, Shelf}
+use Rattle.model.specs.State.{Position, nullPosition, blankPosition, held, removed, Storage}
 use Rattle.model.specs.Image.{zeroBlock, blankBlock}
 use Rattle.model.specs.Records.{isHeld, isBlankPosition, cellOf, cellAt}
 use Rattle.sent.specs.Sent.{contentOf}
 
-module _ (bytes : ℕ) (s : Shelf) where
+module _ (bytes : ℕ) (s : Storage) where
   pub content-held : (p : Position) (h c : ℕ) → h ≡ cond (isHeld p) 1 0 → h ≡ 1 → c ≡ cellOf p → cellAt s c ≡ contentOf bytes s p
   content-held nullPosition h c q o r = absurd (omega (arith, q, o))
   content-held blankPosition h c q o r = absurd (omega (arith, q, o))

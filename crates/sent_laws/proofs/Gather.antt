@@ -15,7 +15,7 @@ use Rattle.lists.proofs.Tests.{by-test}
 use Rattle.lists.proofs.Each.{each-weaken, each-both, each-append}
 use Rattle.lists.proofs.Same.{same-refl, same-eq}
 use Rattle.model.specs.Measures.{Measures}
-use Rattle.model.specs.State.{Shelf, Outcome, refused, done}
+use Rattle.model.specs.State.{Storage, Outcome, refused, done}
 use Rattle.sent.specs.Sent.{Print, segmentBytes, segmentsOf, contents, zeroSegment, firstWith, had, Gathered, goOn, takeSent, goOnWith, takeHad, gather, cutTo, assembled}
 use Rattle.sent.specs.Claims.{sentOf, NoneShare, AllHad}
 use Rattle.sent_laws.proofs.Segments.{segments-whole, segments-end, put-together, Ends}
@@ -28,7 +28,7 @@ each-split P (x ∷ xs) ys h = let r = each-split P xs ys (h .1) in ((h .0, r .0
 
 -- ---- the image is put together, or 20
 
-module _ (print : Print) (wide : (x : List ℕ) → length (print x) ≡ 20) (m : Measures) (shelf : Shelf) where
+module _ (print : Print) (wide : (x : List ℕ) → length (print x) ≡ 20) (m : Measures) (storage : Storage) where
   abbrev Alike : List ℕ → List ℕ → Type 0
   Alike y x = print x ≡ print y → x ≡ y
 
@@ -43,18 +43,18 @@ module _ (print : Print) (wide : (x : List ℕ) → length (print x) ≡ 20) (m 
       by-test (FoundIs seg) (sameNumbers (print x) (print seg)) (λ e. h .0 (same-eq (print x) (print seg) e)) (λ e. first-is seg xs (h .1))
 
   abbrev Covered : List (List ℕ) → List ℕ → Type 0
-  Covered segs marks = AllHad print m shelf segs marks
+  Covered segs marks = AllHad print m storage segs marks
 
   -- put together, or 20 where not C
-  abbrev Good : Type 0 → List ℕ → Outcome Gathered → Type 0
-  Good C whole (refused n) = (n ≡ 20) × (¬ C)
-  Good C whole (done g) = g .image ≡ whole
+  abbrev IsWhole : Type 0 → List ℕ → Outcome Gathered → Type 0
+  IsWhole C whole (refused n) = (n ≡ 20) × (¬ C)
+  IsWhole C whole (done g) = g .image ≡ whole
 
-  good-if : (C D : Type 0) → (D → C) → (whole : List ℕ) (o : Outcome Gathered) → Good C whole o → Good D whole o
+  good-if : (C D : Type 0) → (D → C) → (whole : List ℕ) (o : Outcome Gathered) → IsWhole C whole o → IsWhole D whole o
   good-if C D f whole (refused n) h = (h .0, λ d. h .1 (f d))
   good-if C D f whole (done g) h = h
 
-  stays-20 : (C : Type 0) → ¬ C → (whole : List ℕ) (marks : List ℕ) (left : ℕ) (fingerprints segments : List ℕ) → Good C whole (gather print m shelf left (refused 20) marks fingerprints segments)
+  stays-20 : (C : Type 0) → ¬ C → (whole : List ℕ) (marks : List ℕ) (left : ℕ) (fingerprints segments : List ℕ) → IsWhole C whole (gather print m storage left (refused 20) marks fingerprints segments)
   unfolding gather takeHad takeSent
   stays-20 C h whole [] left fs ss = (refl, h)
   stays-20 C h whole (zero ∷ marks) left fs ss = stays-20 C h whole marks (left - segmentBytes m) (drop 20 fs) ss
@@ -79,28 +79,28 @@ module _ (print : Print) (wide : (x : List ℕ) → length (print x) ≡ 20) (m 
       go true r h = absurd (false≢true (sym (ap isSome h)))
       go false r h = r h
 
-  not-had : (sent : List (List ℕ)) (f : List ℕ) → had print m shelf sent f ≡ none → ¬ (isSome (had print m shelf [] f) ≡ true)
+  not-had : (sent : List (List ℕ)) (f : List ℕ) → had print m storage sent f ≡ none → ¬ (isSome (had print m storage [] f) ≡ true)
   unfolding had firstWith isSome
   not-had sent f = go (sameNumbers (print (zeroSegment m)) f)
     where
-      go : (b : Bool) → cond b (some (zeroSegment m)) (firstWith print f (sent ++ contents m shelf)) ≡ none → ¬ (isSome (cond b (some (zeroSegment m)) (firstWith print f (contents m shelf))) ≡ true)
+      go : (b : Bool) → cond b (some (zeroSegment m)) (firstWith print f (sent ++ contents m storage)) ≡ none → ¬ (isSome (cond b (some (zeroSegment m)) (firstWith print f (contents m storage))) ≡ true)
       go true h = λ e. absurd (false≢true (sym (ap isSome h)))
-      go false h = λ e. false≢true (sym (ap isSome (none-less f sent (contents m shelf) h)) ∙ e)
+      go false h = λ e. false≢true (sym (ap isSome (none-less f sent (contents m storage) h)) ∙ e)
 
   abbrev HadNext : ℕ → List ℕ → Gathered → Outcome Gathered → Type 0
-  HadNext left x g o = ((o ≡ refused 20) × (¬ (isSome (had print m shelf [] (print x)) ≡ true))) ⊎ (o ≡ done (grown g x (g .sent)))
+  HadNext left x g o = ((o ≡ refused 20) × (¬ (isSome (had print m storage [] (print x)) ≡ true))) ⊎ (o ≡ done (grown g x (g .sent)))
 
-  had-next : (left : ℕ) (x : List ℕ) (g : Gathered) → allZero (drop left x) ≡ true → Each (Alike x) (zeroSegment m ∷ contents m shelf) → Each (Alike x) (g .sent)
-      → HadNext left x g (takeHad print m shelf left (print x) (done g))
+  had-next : (left : ℕ) (x : List ℕ) (g : Gathered) → allZero (drop left x) ≡ true → Each (Alike x) (zeroSegment m ∷ contents m storage) → Each (Alike x) (g .sent)
+      → HadNext left x g (takeHad print m storage left (print x) (done g))
   unfolding takeHad goOnWith
-  had-next left x g z known old = go (had print m shelf (g .sent) (print x)) refl is
+  had-next left x g z known old = go (had print m storage (g .sent) (print x)) refl is
     where
-      is : FoundIs x (had print m shelf (g .sent) (print x))
+      is : FoundIs x (had print m storage (g .sent) (print x))
       is =
           unfold had in
-          first-is x (zeroSegment m ∷ (g .sent ++ contents m shelf)) (known .0, each-append (Alike x) (g .sent) (contents m shelf) old (known .1))
+          first-is x (zeroSegment m ∷ (g .sent ++ contents m storage)) (known .0, each-append (Alike x) (g .sent) (contents m storage) old (known .1))
 
-      go : (o : Option (List ℕ)) → had print m shelf (g .sent) (print x) ≡ o → FoundIs x o → HadNext left x g (goOnWith left o g)
+      go : (o : Option (List ℕ)) → had print m storage (g .sent) (print x) ≡ o → FoundIs x o → HadNext left x g (goOnWith left o g)
       go none e f = inl (refl, not-had (g .sent) (print x) e)
       go (some y) e f = inr (ap (λ (s : List ℕ). goOn left s (g .sent) g) f ∙ go-on left x (g .sent) g z)
 
@@ -111,37 +111,37 @@ module _ (print : Print) (wide : (x : List ℕ) → length (print x) ≡ 20) (m 
 
   -- the rest of the segments
   abbrev rest : ℕ → Outcome Gathered → List ℕ → List (List ℕ) → Outcome Gathered
-  rest left o marks segs = gather print m shelf left o marks (rows print segs) (joined (sentOf marks segs))
+  rest left o marks segs = gather print m storage left o marks (rows print segs) (joined (sentOf marks segs))
 
   had-step : (left : ℕ) (x : List ℕ) (g : Gathered) (marks : List ℕ) (segs : List (List ℕ))
-      → HadNext left x g (takeHad print m shelf left (print x) (done g))
-      → Good (Covered segs marks) ((g .image ++ x) ++ joined segs) (rest (left - segmentBytes m) (done (grown g x (g .sent))) marks segs)
-      → Good (Covered (x ∷ segs) (zero ∷ marks)) (g .image ++ (x ++ joined segs)) (rest left (done g) (zero ∷ marks) (x ∷ segs))
+      → HadNext left x g (takeHad print m storage left (print x) (done g))
+      → IsWhole (Covered segs marks) ((g .image ++ x) ++ joined segs) (rest (left - segmentBytes m) (done (grown g x (g .sent))) marks segs)
+      → IsWhole (Covered (x ∷ segs) (zero ∷ marks)) (g .image ++ (x ++ joined segs)) (rest left (done g) (zero ∷ marks) (x ∷ segs))
   had-step left x g marks segs o r =
-      subst (Good (Covered (x ∷ segs) (zero ∷ marks)) (g .image ++ (x ++ joined segs))) (sym next) (go o)
+      subst (IsWhole (Covered (x ∷ segs) (zero ∷ marks)) (g .image ++ (x ++ joined segs))) (sym next) (go o)
     where
-      next : rest left (done g) (zero ∷ marks) (x ∷ segs) ≡ rest (left - segmentBytes m) (takeHad print m shelf left (print x) (done g)) marks segs
+      next : rest left (done g) (zero ∷ marks) (x ∷ segs) ≡ rest (left - segmentBytes m) (takeHad print m storage left (print x) (done g)) marks segs
       next =
           unfold gather sentOf joined in
           rw (take-at (print x) (rows print segs) 20 (wide x), drop-at (print x) (rows print segs) 20 (wide x))
 
-      go : HadNext left x g (takeHad print m shelf left (print x) (done g))
-          → Good (Covered (x ∷ segs) (zero ∷ marks)) (g .image ++ (x ++ joined segs)) (rest (left - segmentBytes m) (takeHad print m shelf left (print x) (done g)) marks segs)
+      go : HadNext left x g (takeHad print m storage left (print x) (done g))
+          → IsWhole (Covered (x ∷ segs) (zero ∷ marks)) (g .image ++ (x ++ joined segs)) (rest (left - segmentBytes m) (takeHad print m storage left (print x) (done g)) marks segs)
       go (inl e) =
-          subst (λ (q : Outcome Gathered). Good (Covered (x ∷ segs) (zero ∷ marks)) (g .image ++ (x ++ joined segs)) (rest (left - segmentBytes m) q marks segs)) (sym (e .0))
+          subst (λ (q : Outcome Gathered). IsWhole (Covered (x ∷ segs) (zero ∷ marks)) (g .image ++ (x ++ joined segs)) (rest (left - segmentBytes m) q marks segs)) (sym (e .0))
           (stays-20 (Covered (x ∷ segs) (zero ∷ marks)) (λ c. e .1 (c .0)) (g .image ++ (x ++ joined segs)) marks (left - segmentBytes m) (rows print segs) (joined (sentOf marks segs)))
       go (inr e) =
-          subst (λ (q : Outcome Gathered). Good (Covered (x ∷ segs) (zero ∷ marks)) (g .image ++ (x ++ joined segs)) (rest (left - segmentBytes m) q marks segs)) (sym e)
-          (subst (λ (l : List ℕ). Good (Covered (x ∷ segs) (zero ∷ marks)) l (rest (left - segmentBytes m) (done (grown g x (g .sent))) marks segs)) (append-assoc (g .image) x (joined segs))
+          subst (λ (q : Outcome Gathered). IsWhole (Covered (x ∷ segs) (zero ∷ marks)) (g .image ++ (x ++ joined segs)) (rest (left - segmentBytes m) q marks segs)) (sym e)
+          (subst (λ (l : List ℕ). IsWhole (Covered (x ∷ segs) (zero ∷ marks)) l (rest (left - segmentBytes m) (done (grown g x (g .sent))) marks segs)) (append-assoc (g .image) x (joined segs))
           (good-if (Covered segs marks) (Covered (x ∷ segs) (zero ∷ marks)) (λ c. c .1) ((g .image ++ x) ++ joined segs)
           (rest (left - segmentBytes m) (done (grown g x (g .sent))) marks segs) r))
 
   sent-step : (left : ℕ) (x : List ℕ) (g : Gathered) (i : ℕ) (marks : List ℕ) (segs : List (List ℕ)) → length x ≡ segmentBytes m → allZero (drop left x) ≡ true
-      → Good (Covered segs marks) ((g .image ++ x) ++ joined segs) (rest (left - segmentBytes m) (done (grown g x (g .sent ++ (x ∷ [])))) marks segs)
-      → Good (Covered segs marks) (g .image ++ (x ++ joined segs)) (rest left (done g) (suc i ∷ marks) (x ∷ segs))
+      → IsWhole (Covered segs marks) ((g .image ++ x) ++ joined segs) (rest (left - segmentBytes m) (done (grown g x (g .sent ++ (x ∷ [])))) marks segs)
+      → IsWhole (Covered segs marks) (g .image ++ (x ++ joined segs)) (rest left (done g) (suc i ∷ marks) (x ∷ segs))
   sent-step left x g i marks segs w z r =
-      subst (Good (Covered segs marks) (g .image ++ (x ++ joined segs))) (sym (next ∙ ap (λ (q : Outcome Gathered). rest (left - segmentBytes m) q marks segs) (sent-next left x g z)))
-      (subst (λ (l : List ℕ). Good (Covered segs marks) l (rest (left - segmentBytes m) (done (grown g x (g .sent ++ (x ∷ [])))) marks segs)) (append-assoc (g .image) x (joined segs)) r)
+      subst (IsWhole (Covered segs marks) (g .image ++ (x ++ joined segs))) (sym (next ∙ ap (λ (q : Outcome Gathered). rest (left - segmentBytes m) q marks segs) (sent-next left x g z)))
+      (subst (λ (l : List ℕ). IsWhole (Covered segs marks) l (rest (left - segmentBytes m) (done (grown g x (g .sent ++ (x ∷ [])))) marks segs)) (append-assoc (g .image) x (joined segs)) r)
     where
       next : rest left (done g) (suc i ∷ marks) (x ∷ segs) ≡ rest (left - segmentBytes m) (takeSent print left (print x) x (done g)) marks segs
       next =
@@ -155,8 +155,8 @@ module _ (print : Print) (wide : (x : List ℕ) → length (print x) ≡ 20) (m 
 
   gather-ok : (segs : List (List ℕ)) (marks : List ℕ) → length marks ≡ length segs → Each (λ x. length x ≡ segmentBytes m) segs
       → (left : ℕ) → Ends (segmentBytes m) left segs → (g : Gathered)
-      → Each (λ y. Each (Alike y) (zeroSegment m ∷ contents m shelf)) segs → Each (λ y. Each (Alike y) (g .sent)) segs → NoneShare print segs
-      → Good (Covered segs marks) (g .image ++ joined segs) (rest left (done g) marks segs)
+      → Each (λ y. Each (Alike y) (zeroSegment m ∷ contents m storage)) segs → Each (λ y. Each (Alike y) (g .sent)) segs → NoneShare print segs
+      → IsWhole (Covered segs marks) (g .image ++ joined segs) (rest left (done g) marks segs)
   unfolding gather joined sentOf
   gather-ok [] [] e w left z g known old new = sym (append-nil (g .image))
   gather-ok [] (i ∷ marks) e w left z g known old new = absurd (omega (arith, e))
@@ -176,10 +176,10 @@ module _ (print : Print) (wide : (x : List ℕ) → length (print x) ≡ 20) (m 
 
   -- the whole call's image
   module _ (image marks : List ℕ) (p : 0 < segmentBytes m) (e : length marks ≡ length (segmentsOf m image))
-      (u : NoneShare print (zeroSegment m ∷ (contents m shelf ++ segmentsOf m image))) where
-    pub assembled-ok : ((assembled print m shelf (length image) (rows print (segmentsOf m image)) marks (joined (sentOf marks (segmentsOf m image))) ≡ refused 20)
+      (u : NoneShare print (zeroSegment m ∷ (contents m storage ++ segmentsOf m image))) where
+    pub assembled-ok : ((assembled print m storage (length image) (rows print (segmentsOf m image)) marks (joined (sentOf marks (segmentsOf m image))) ≡ refused 20)
         × (¬ (Covered (segmentsOf m image) marks)))
-        ⊎ assembled print m shelf (length image) (rows print (segmentsOf m image)) marks (joined (sentOf marks (segmentsOf m image))) ≡ done image
+        ⊎ assembled print m storage (length image) (rows print (segmentsOf m image)) marks (joined (sentOf marks (segmentsOf m image))) ≡ done image
     unfolding assembled
     assembled-ok = go _ good
       where
@@ -187,14 +187,14 @@ module _ (print : Print) (wide : (x : List ℕ) → length (print x) ≡ 20) (m 
         segs = segmentsOf m image
 
         known : List (List ℕ)
-        known = zeroSegment m ∷ contents m shelf
+        known = zeroSegment m ∷ contents m storage
 
         of-image : Each (λ y. Each (Alike y) known × Each (Alike y) segs) segs
         of-image =
             each-weaken (λ y. Each (Alike y) (known ++ segs)) (λ y. Each (Alike y) known × Each (Alike y) segs) (λ y h. each-split (Alike y) known segs h) segs
             (each-split (λ y. Each (Alike y) (known ++ segs)) known segs u .1)
 
-        good : Good (Covered segs marks) (joined segs) (rest (length image) (done (record { image = []; sent = [] })) marks segs)
+        good : IsWhole (Covered segs marks) (joined segs) (rest (length image) (done (record { image = []; sent = [] })) marks segs)
         good =
             unfold segmentsOf in
             gather-ok segs marks e (segments-whole (segmentBytes m) image) (length image) (segments-end (segmentBytes m) image) (record { image = []; sent = [] })
@@ -202,6 +202,6 @@ module _ (print : Print) (wide : (x : List ℕ) → length (print x) ≡ 20) (m 
             (each-weaken (λ y. Each (Alike y) known × Each (Alike y) segs) (λ y. Each (Alike y) []) (λ y h. tt) segs of-image)
             (each-weaken (λ y. Each (Alike y) known × Each (Alike y) segs) (λ y. Each (Alike y) segs) (λ y h. h .1) segs of-image)
 
-        go : (o : Outcome Gathered) → Good (Covered segs marks) (joined segs) o → ((cutTo (length image) o ≡ refused 20) × (¬ (Covered segs marks))) ⊎ cutTo (length image) o ≡ done image
+        go : (o : Outcome Gathered) → IsWhole (Covered segs marks) (joined segs) o → ((cutTo (length image) o ≡ refused 20) × (¬ (Covered segs marks))) ⊎ cutTo (length image) o ≡ done image
         go (refused n) h = unfold cutTo in inl (ap refused (h .0), h .1)
         go (done g) h = unfold cutTo segmentsOf in inr (ap done (ap (take (length image)) h ∙ put-together (segmentBytes m) image p))

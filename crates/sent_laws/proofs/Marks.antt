@@ -15,25 +15,25 @@ use Rattle.lists.proofs.Cuts.{length-chunks, chunk-at}
 use Rattle.lists.proofs.Puts.{getD-any}
 use Rattle.sha1.specs.Sha1.{sha1}
 use Rattle.model.specs.Measures.{Measures}
-use Rattle.model.specs.State.{Shelf}
+use Rattle.model.specs.State.{Storage}
 use Rattle.sent.specs.Sent.{contentIn, contents, zeroSegment, firstWith, had}
 use Rattle.sent.specs.Found.{printAt, isPrinted, RecordsFor}
 use Rattle.sent_laws.proofs.Search.{orElse, pick, had-is, record-at}
 
-module _ (m : Measures) (shelf : Shelf) where
+module _ (m : Measures) (storage : Storage) where
   abbrev count : ℕ
-  count = length (shelf .records)
+  count = length (storage .records)
 
   -- whether a fingerprint's segment is had, by the number found
-  pub had-by : (f : List ℕ) (n : ℕ) → asOption count n ≡ firstFrom (isPrinted sha1 m shelf f) 0 (shelf .records)
-      → isSome (had sha1 m shelf [] f) ≡ cond (sameNumbers (sha1 (zeroSegment m)) f) true (ltb n count)
+  pub had-by : (f : List ℕ) (n : ℕ) → asOption count n ≡ firstFrom (isPrinted sha1 m storage f) 0 (storage .records)
+      → isSome (had sha1 m storage [] f) ≡ cond (sameNumbers (sha1 (zeroSegment m)) f) true (ltb n count)
   unfolding firstWith isSome
   had-by f n e =
-      ap isSome (had-is sha1 f m shelf [])
-      ∙ go (sameNumbers (sha1 (zeroSegment m)) f) (firstWith sha1 f (contents m shelf)) (ap isSome (record-at sha1 f m shelf ∙ ap (pick content) (sym e)) ∙ found (ltb n count))
+      ap isSome (had-is sha1 f m storage [])
+      ∙ go (sameNumbers (sha1 (zeroSegment m)) f) (firstWith sha1 f (contents m storage)) (ap isSome (record-at sha1 f m storage ∙ ap (pick content) (sym e)) ∙ found (ltb n count))
     where
       content : ℕ → List ℕ
-      content k = contentIn m shelf (getD (shelf .records) k [])
+      content k = contentIn m storage (getD (storage .records) k [])
 
       found : (b : Bool) → isSome (pick content (cond b (some n) none)) ≡ b
       found true = refl
@@ -43,10 +43,10 @@ module _ (m : Measures) (shelf : Shelf) where
       go true o q = refl
       go false o q = q
 
-  module _ (fs numbers : List ℕ) (r : RecordsFor m shelf fs numbers) (whole : length fs ≡ 20 * length numbers) where
+  module _ (fs numbers : List ℕ) (r : RecordsFor m storage fs numbers) (whole : length fs ≡ 20 * length numbers) where
     -- fingerprint j's mark
     abbrev mark : List ℕ → ℕ
-    mark f = cond (isSome (had sha1 m shelf [] f)) 1 0
+    mark f = cond (isSome (had sha1 m storage [] f)) 1 0
 
     pub marks-are : (marks : List ℕ) → length marks ≡ length numbers
         → ((j : ℕ) → j < length marks → getD marks j 0 ≡ cond (cond (sameNumbers (sha1 (zeroSegment m)) (printAt fs j)) true (ltb (getD numbers j 0) count)) 1 0)

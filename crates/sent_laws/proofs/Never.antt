@@ -10,7 +10,7 @@ use lib.Dec.{eqb, ltb, leb}
 use Rattle.lists.specs.Lists.{every, firstFrom}
 use Rattle.lists.proofs.Tests.{by-test}
 use Rattle.model.specs.Measures.{Shape}
-use Rattle.model.specs.State.{Block, Shelf, State, Outcome, refused, done}
+use Rattle.model.specs.State.{Block, Storage, State, Outcome, refused, done}
 use Rattle.model.specs.Image.{Era, isBare, imageBlocks, imageSegments}
 use Rattle.model.specs.Records.{isFree, equals}
 use Rattle.model.specs.Runs.{Run, findRun}
@@ -22,26 +22,26 @@ Never19 (refused n) = ¬ (n ≡ 19)
 Never19 (done a) = Unit {0}
 
 module _ (era : Era) where
-  place-one : (shelf : Shelf) (seg : List Block) → Never19 (placeSegment era shelf seg)
+  place-one : (storage : Storage) (seg : List Block) → Never19 (placeSegment era storage seg)
   unfolding placeSegment
-  place-one shelf seg = by-test Never19 (every (isBare era) seg) (λ e. tt) (λ e. found (firstFrom (equals era shelf seg) 0 (shelf .records)))
+  place-one storage seg = by-test Never19 (every (isBare era) seg) (λ e. tt) (λ e. found (firstFrom (equals era storage seg) 0 (storage .records)))
     where
-      run : (k : ℕ) (o : Option Run) → Never19 (writeRun era shelf seg k o)
+      run : (k : ℕ) (o : Option Run) → Never19 (writeRun era storage seg k o)
       run k none = unfold writeRun in (λ e. absurd (omega (arith, e)))
       run k (some r) = unfold writeRun in tt
 
-      free : (o : Option ℕ) → Never19 (writeRecord era shelf seg o)
+      free : (o : Option ℕ) → Never19 (writeRecord era storage seg o)
       free none = unfold writeRecord in (λ e. absurd (omega (arith, e)))
-      free (some k) = unfold writeRecord in run k (findRun shelf (length (stored era seg)))
+      free (some k) = unfold writeRecord in run k (findRun storage (length (stored era seg)))
 
-      found : (o : Option ℕ) → Never19 (shareOrWrite era shelf seg o)
-      found none = unfold shareOrWrite in free (firstFrom isFree 0 (shelf .records))
+      found : (o : Option ℕ) → Never19 (shareOrWrite era storage seg o)
+      found none = unfold shareOrWrite in free (firstFrom isFree 0 (storage .records))
       found (some k) = unfold shareOrWrite in tt
 
   place-next : (o : Outcome Placed) (seg : List Block) → Never19 o → Never19 (placeNext era o seg)
   unfolding placeNext
   place-next (refused n) seg h = h
-  place-next (done p) seg h = go (placeSegment era (p .shelf) seg) (place-one (p .shelf) seg)
+  place-next (done p) seg h = go (placeSegment era (p .storage) seg) (place-one (p .storage) seg)
     where
       go : (o : Outcome Placed) → Never19 o → Never19 (afterSome (p .pointers) o)
       go (refused n) h = unfold afterSome in h
@@ -68,5 +68,5 @@ module _ (era : Era) where
       filed : (day : ℕ) → Never19 (placeAndFile era s st t day image (tillOf st t))
       filed day =
           unfold placeAndFile in
-          file day (placeAll era (done (record { shelf = st .shelf; pointers = [] })) (imageSegments (s .measures .blockBytes) (s .measures .segmentBlocks) image))
-          (place-every (imageSegments (s .measures .blockBytes) (s .measures .segmentBlocks) image) (done (record { shelf = st .shelf; pointers = [] })) tt)
+          file day (placeAll era (done (record { storage = st .storage; pointers = [] })) (imageSegments (s .measures .blockBytes) (s .measures .segmentBlocks) image))
+          (place-every (imageSegments (s .measures .blockBytes) (s .measures .segmentBlocks) image) (done (record { storage = st .storage; pointers = [] })) tt)

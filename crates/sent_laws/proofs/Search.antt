@@ -8,7 +8,7 @@ use native.Mathlib.Nat.{add-zero, zero-add, suc-add, add-suc}
 use lib.ListN.{getD}
 use Rattle.lists.specs.Lists.{keep, firstFrom, sameNumbers}
 use Rattle.model.specs.Measures.{Measures}
-use Rattle.model.specs.State.{Segment, Shelf}
+use Rattle.model.specs.State.{Segment, Storage}
 use Rattle.sent.specs.Sent.{Print, canMatch, contentIn, contents, zeroSegment, firstWith, had}
 use Rattle.sent.specs.Found.{isPrinted}
 
@@ -34,11 +34,11 @@ module _ (print : Print) (f : List ℕ) where
       go false r = r
 
   -- the page's order, as three searches
-  pub had-is : (m : Measures) (shelf : Shelf) (earlier : List (List ℕ))
-      → had print m shelf earlier f
-      ≡ cond (sameNumbers (print (zeroSegment m)) f) (some (zeroSegment m)) (orElse (firstWith print f earlier) (firstWith print f (contents m shelf)))
+  pub had-is : (m : Measures) (storage : Storage) (earlier : List (List ℕ))
+      → had print m storage earlier f
+      ≡ cond (sameNumbers (print (zeroSegment m)) f) (some (zeroSegment m)) (orElse (firstWith print f earlier) (firstWith print f (contents m storage)))
   unfolding had firstWith
-  had-is m shelf earlier = ap (cond (sameNumbers (print (zeroSegment m)) f) (some (zeroSegment m))) (first-append earlier (contents m shelf))
+  had-is m storage earlier = ap (cond (sameNumbers (print (zeroSegment m)) f) (some (zeroSegment m))) (first-append earlier (contents m storage))
 
   -- segments that have a number: those of `g` from i on
   sent-from : (g : ℕ → List ℕ) (xs : List (List ℕ)) (i : ℕ) → ((j : ℕ) → g (i + j) ≡ getD xs j [])
@@ -56,32 +56,32 @@ module _ (print : Print) (f : List ℕ) where
   pub sent-at : (xs : List (List ℕ)) → firstWith print f xs ≡ pick (λ k. getD xs k []) (firstFrom (λ x. sameNumbers (print x) f) 0 xs)
   sent-at xs = sent-from (λ k. getD xs k []) xs 0 (λ j. ap (λ (k : ℕ). getD xs k []) (zero-add j))
 
-  module _ (m : Measures) (shelf : Shelf) where
+  module _ (m : Measures) (storage : Storage) where
     abbrev content : Segment → List ℕ
-    content seg = contentIn m shelf seg
+    content seg = contentIn m storage seg
 
     abbrev printed : Segment → Bool
-    printed seg = isPrinted print m shelf f seg
+    printed seg = isPrinted print m storage f seg
 
     records-from : (g : ℕ → Segment) (segs : List Segment) (i : ℕ) → ((j : ℕ) → g (i + j) ≡ getD segs j [])
-        → firstWith print f (map content (keep (canMatch shelf) segs)) ≡ pick (λ k. content (g k)) (firstFrom printed i segs)
+        → firstWith print f (map content (keep (canMatch storage) segs)) ≡ pick (λ k. content (g k)) (firstFrom printed i segs)
     unfolding firstWith firstFrom keep
     records-from g [] i h = refl
     records-from g (seg ∷ segs) i h =
-        go (canMatch shelf seg) (sameNumbers (print (content seg)) f) refl (records-from g segs (suc i) (λ j. ap g (suc-add i j ∙ sym (add-suc i j)) ∙ h (suc j)))
+        go (canMatch storage seg) (sameNumbers (print (content seg)) f) refl (records-from g segs (suc i) (λ j. ap g (suc-add i j ∙ sym (add-suc i j)) ∙ h (suc j)))
       where
         -- the others
         rest : List (List ℕ)
-        rest = map content (keep (canMatch shelf) segs)
+        rest = map content (keep (canMatch storage) segs)
 
         go : (a b : Bool) → sameNumbers (print (content seg)) f ≡ b → firstWith print f rest ≡ pick (λ k. content (g k)) (firstFrom printed (suc i) segs)
-            → firstWith print f (map content (cond a (seg ∷ keep (canMatch shelf) segs) (keep (canMatch shelf) segs)))
+            → firstWith print f (map content (cond a (seg ∷ keep (canMatch storage) segs) (keep (canMatch storage) segs)))
             ≡ pick (λ k. content (g k)) (cond (cond a b false) (some i) (firstFrom printed (suc i) segs))
         go true true e r = unfold firstWith in (ap (λ (t : Bool). cond t (some (content seg)) (firstWith print f rest)) e ∙ ap (λ (x : Segment). some (content x)) (sym (h 0) ∙ ap g (add-zero i)))
         go true false e r = unfold firstWith in (ap (λ (t : Bool). cond t (some (content seg)) (firstWith print f rest)) e ∙ r)
         go false b e r = r
 
     -- the lowest record
-    pub record-at : firstWith print f (contents m shelf) ≡ pick (λ k. contentIn m shelf (getD (shelf .records) k [])) (firstFrom (isPrinted print m shelf f) 0 (shelf .records))
+    pub record-at : firstWith print f (contents m storage) ≡ pick (λ k. contentIn m storage (getD (storage .records) k [])) (firstFrom (isPrinted print m storage f) 0 (storage .records))
     unfolding contents
-    record-at = records-from (λ k. getD (shelf .records) k []) (shelf .records) 0 (λ j. ap (λ (k : ℕ). getD (shelf .records) k []) (zero-add j))
+    record-at = records-from (λ k. getD (storage .records) k []) (storage .records) 0 (λ j. ap (λ (k : ℕ). getD (storage .records) k []) (zero-add j))

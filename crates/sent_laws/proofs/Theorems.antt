@@ -84,18 +84,18 @@ module _ (print : Print) (wide : (x : List ℕ) → length (print x) ≡ 20) (s 
       go true bs h = unfold allOf in h
       go false bs h = unfold allOf in refl
 
-  sent-or-20 : (t : ℕ) → NoneShare print (zeroSegment (s .measures) ∷ (contents (s .measures) (st .shelf) ++ segmentsOf (s .measures) image))
+  sent-or-20 : (t : ℕ) → NoneShare print (zeroSegment (s .measures) ∷ (contents (s .measures) (st .storage) ++ segmentsOf (s .measures) image))
       → ((backupSent print s st t (length image) (rows print (segmentsOf (s .measures) image)) marks (joined (sentOf marks (segmentsOf (s .measures) image))) ≡ refused 20)
-      × (¬ (AllHad print (s .measures) (st .shelf) (segmentsOf (s .measures) image) marks)))
+      × (¬ (AllHad print (s .measures) (st .storage) (segmentsOf (s .measures) image) marks)))
       ⊎ backupSent print s st t (length image) (rows print (segmentsOf (s .measures) image)) marks (joined (sentOf marks (segmentsOf (s .measures) image))) ≡ backup withBlanks s st t none image
   unfolding backupSent made
   sent-or-20 t u =
       rw fits-if
       (unfold backup in
-      same-order (¬ (AllHad print (s .measures) (st .shelf) (segmentsOf (s .measures) image) marks)) s st t (leb (s .capacities .tills) t) (eqb (length image) 0 || ltb (s .measures .blockBytes * s .capacities .blocks) (length image))
+      same-order (¬ (AllHad print (s .measures) (st .storage) (segmentsOf (s .measures) image) marks)) s st t (leb (s .capacities .tills) t) (eqb (length image) 0 || ltb (s .measures .blockBytes * s .capacities .blocks) (length image))
       (leb (s .capacities .versions) (length (tillOf st t .versions))) (eqb (tillOf st t .last) 65535)
       (cond (ltb (dayFor none (tillOf st t .versions)) (newestDay (tillOf st t .versions))) (refused 28) (placeAndFile withBlanks s st t (dayFor none (tillOf st t .versions)) image (tillOf st t))) _
-      (on (assembled-ok print wide (s .measures) (st .shelf) image marks p e u)))
+      (on (assembled-ok print wide (s .measures) (st .storage) image marks p e u)))
     where
       on : {N : Type 0} {o : Outcome (List ℕ)} → ((o ≡ refused 20) × N) ⊎ (o ≡ done image) → ((backupOn s st t o ≡ refused 20) × N) ⊎ backupOn s st t o ≡ backup withBlanks s st t none image
       on (inl h) = inl (ap (backupOn s st t) (h .0) ∙ (unfold backupOn in refl), h .1)
@@ -154,7 +154,7 @@ sent-as-whole print wide pool table t image marks h u = go (storeOf pool table) 
 pub sent-if-had : (print : Print) → ((x : List ℕ) → length (print x) ≡ 20) → (pool table : List ℕ) → Sound pool table → (t : ℕ) (image marks : List ℕ)
     → MarksFor table image marks
     → NoneShare print (knownIn (storeOf pool table) ++ segmentsOf (shapeOf table .measures) image)
-    → AllHad print (shapeOf table .measures) (stateIn (shapeOf table) pool table .shelf) (segmentsOf (shapeOf table .measures) image) marks
+    → AllHad print (shapeOf table .measures) (stateIn (shapeOf table) pool table .storage) (segmentsOf (shapeOf table .measures) image) marks
     → sentFor print pool table t image marks ≡ backupOf pool table t image
 unfolding sentFor backupSentBy backupOf backupBy
 sent-if-had print wide pool table h t image marks mk u c =
@@ -165,7 +165,7 @@ sent-if-had print wide pool table h t image marks mk u c =
     segs : List (List ℕ)
     segs = segmentsOf (shapeOf table .measures) image
 
-    go : {q o : Outcome After} → ((q ≡ refused 20) × (¬ (AllHad print (shapeOf table .measures) (stateIn (shapeOf table) pool table .shelf) segs marks))) ⊎ (q ≡ o) → q ≡ o
+    go : {q o : Outcome After} → ((q ≡ refused 20) × (¬ (AllHad print (shapeOf table .measures) (stateIn (shapeOf table) pool table .storage) segs marks))) ⊎ (q ≡ o) → q ≡ o
     go (inl f) = absurd (f .1 c)
     go (inr f) = f
 

@@ -13,10 +13,10 @@ use Rattle.lists.specs.Rows.{chunks}
 use Rattle.sha1.specs.declared.Digest.{Digest}
 use Rattle.sha1.specs.Sha1.{sha1, digest, digestBytes}
 use Rattle.model.specs.Measures.{Measures}
-use Rattle.model.specs.State.{Shelf}
-use Rattle.model.specs.Table.{shapeOf, stateIn, shelfIn}
+use Rattle.model.specs.State.{Storage}
+use Rattle.model.specs.Table.{shapeOf, stateIn, storageIn}
 use Rattle.laws.specs.Stores.{Sound, recordsFrom}
-use Rattle.meets.proofs.Records.{shelf-is}
+use Rattle.sound_laws.proofs.Records.{storage-is}
 use Rattle.sent.specs.Sent.{zeroSegment, had}
 use Rattle.sent.specs.Found.{printAt, RecordsFor}
 use Rattle.sent_laws.proofs.Marks.{marks-are}
@@ -56,14 +56,14 @@ module _ (zero fingerprints numbers : List ℕ) (count : ℕ) where
       go i h false q = getD-set-other marks j i r 0 (eqb-false i j q) ∙ t .done i (omega (arith, h, eqb-false i j q))
 
 -- the marks of a whole message, from the numbers that were found
-pub all-marked : (m : Measures) (shelf : Shelf) (fs found front : List ℕ) (zero : Digest) (count : ℕ) → front ≡ found → RecordsFor m shelf fs found
-    → length fs ≡ 20 * length found → zero ≡ digest (zeroSegment m) → count ≡ length (shelf .records)
+pub all-marked : (m : Measures) (storage : Storage) (fs found front : List ℕ) (zero : Digest) (count : ℕ) → front ≡ found → RecordsFor m storage fs found
+    → length fs ≡ 20 * length found → zero ≡ digest (zeroSegment m) → count ≡ length (storage .records)
     → (before marks : List ℕ) → length before ≡ length found → length marks ≡ length before
     → ((j : ℕ) → j < length before → getD marks j 0 ≡ wanted (digestBytes zero) fs front count j)
-    → marks ≡ map (λ f. cond (isSome (had sha1 m shelf [] f)) 1 0) (chunks 20 fs)
+    → marks ≡ map (λ f. cond (isSome (had sha1 m storage [] f)) 1 0) (chunks 20 fs)
 unfolding sha1
-all-marked m shelf fs found front zero count e r whole z n before marks lb lm h =
-    marks-are m shelf fs found r whole marks (lm ∙ lb) (λ j l.
+all-marked m storage fs found front zero count e r whole z n before marks lb lm h =
+    marks-are m storage fs found r whole marks (lm ∙ lb) (λ j l.
     h j (omega (arith, l, lm))
     ∙ ap (λ (xs : List ℕ). wanted (digestBytes zero) fs xs count j) e
     ∙ ap (λ (d : Digest). wanted (digestBytes d) fs found count j) z
@@ -71,7 +71,7 @@ all-marked m shelf fs found front zero count e r whole z n before marks lb lm h 
 
 -- with the measures as the code read them
 pub marks-read : {pool table : List ℕ} → Sound pool table → (at : ℕ) → at ≡ recordsFrom (shapeOf table) → (m : Measures) → m ≡ shapeOf table .measures → (fs marks : List ℕ)
-    → marks ≡ map (λ f. cond (isSome (had sha1 m (shelfIn m pool (take (length table - at) (drop at table))) [] f)) 1 0) (chunks 20 fs)
-    → marks ≡ map (λ f. cond (isSome (had sha1 (shapeOf table .measures) (stateIn (shapeOf table) pool table .shelf) [] f)) 1 0) (chunks 20 fs)
+    → marks ≡ map (λ f. cond (isSome (had sha1 m (storageIn m pool (take (length table - at) (drop at table))) [] f)) 1 0) (chunks 20 fs)
+    → marks ≡ map (λ f. cond (isSome (had sha1 (shapeOf table .measures) (stateIn (shapeOf table) pool table .storage) [] f)) 1 0) (chunks 20 fs)
 marks-read {pool} {table} h at e m q fs marks r =
-    r ∙ ap₂ (λ (n : Measures) (s : Shelf). map (λ f. cond (isSome (had sha1 n s [] f)) 1 0) (chunks 20 fs)) q (ap (λ (n : Measures). shelfIn n pool (take (length table - at) (drop at table))) q ∙ shelf-is h at e)
+    r ∙ ap₂ (λ (n : Measures) (s : Storage). map (λ f. cond (isSome (had sha1 n s [] f)) 1 0) (chunks 20 fs)) q (ap (λ (n : Measures). storageIn n pool (take (length table - at) (drop at table))) q ∙ storage-is h at e)

@@ -7,10 +7,10 @@ ghost use lib.Dec.{ltb};
 ghost use lib.ListN.{length, getD};
 ghost use Rattle.lists.specs.Lists.{isSome, sameNumbers};
 ghost use Rattle.lists.specs.Rows.{chunks};
-ghost use Rattle.model.specs.Table.{shelfIn};
+ghost use Rattle.model.specs.Table.{storageIn};
 ghost use Rattle.numbers.specs.Measures.{measuresOf};
 ghost use Rattle.laws.specs.Stores.{Sound};
-ghost use Rattle.shelf.specs.Stored.{Stored};
+ghost use Rattle.storage.specs.Stored.{Stored};
 ghost use Rattle.sha1.specs.Sha1.{sha1, digestBytes};
 ghost use Rattle.sent.specs.Sent.{had, offerOf};
 ghost use Rattle.sent.specs.Found.{printAt};
@@ -56,7 +56,7 @@ fn mark_with(
     m: Measures,
 )
     requires { ⌜ Stored (measuresOf m) (now pool) (now words) × (length (now fingerprints) ≡ 20 * length (now marks)) × (length (now marks) ≤ 256) × (length (now numbers) ≡ 256) ⌝ }
-    ensures { λ _. ⌜ now (marks .exit) ≡ map (λ f. cond (isSome (had sha1 (measuresOf m) (shelfIn (measuresOf m) (now (pool .entry)) (now (words .entry))) [] f)) 1 0) (chunks 20 (now (fingerprints .entry))) ⌝ }
+    ensures { λ _. ⌜ now (marks .exit) ≡ map (λ f. cond (isSome (had sha1 (measuresOf m) (storageIn (measuresOf m) (now (pool .entry)) (now (words .entry))) [] f)) 1 0) (chunks 20 (now (fingerprints .entry))) ⌝ }
 {
     let n = marks.len();
     sent_find::find_records(pool, words, fingerprints, &mut numbers[..n], m);
@@ -68,7 +68,7 @@ fn mark_with(
 // An image has at most 256 segments.
 fn mark_all(pool: &[u8], words: &[u32], fingerprints: &[u8], marks: &mut [u8], m: Measures)
     requires { ⌜ Stored (measuresOf m) (now pool) (now words) × (length (now fingerprints) ≡ 20 * length (now marks)) × (length (now marks) ≤ 256) ⌝ }
-    ensures { λ _. ⌜ now (marks .exit) ≡ map (λ f. cond (isSome (had sha1 (measuresOf m) (shelfIn (measuresOf m) (now (pool .entry)) (now (words .entry))) [] f)) 1 0) (chunks 20 (now (fingerprints .entry))) ⌝ }
+    ensures { λ _. ⌜ now (marks .exit) ≡ map (λ f. cond (isSome (had sha1 (measuresOf m) (storageIn (measuresOf m) (now (pool .entry)) (now (words .entry))) [] f)) 1 0) (chunks 20 (now (fingerprints .entry))) ⌝ }
 {
     let mut numbers = [0u32; 256];
     mark_with(pool, words, fingerprints, &mut numbers, marks, m);

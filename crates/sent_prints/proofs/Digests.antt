@@ -14,7 +14,7 @@ use Rattle.lists.proofs.Rows.{length-rows}
 use Rattle.lists.proofs.Slices.{drop-next, drop-end}
 use Rattle.lists.proofs.Walks.{mask-here, mask-after}
 use Rattle.model.specs.Measures.{Measures}
-use Rattle.model.specs.State.{Position, nullPosition, blankPosition, held, removed, Segment, Shelf}
+use Rattle.model.specs.State.{Position, nullPosition, blankPosition, held, removed, Segment, Storage}
 use Rattle.model.specs.Image.{zeroBlock, blankBlock}
 use Rattle.model.specs.Records.{isHeld, isBlankPosition, cellOf}
 use Rattle.model.specs.Table.{cellsIn, recordToWords}
@@ -23,15 +23,15 @@ use Rattle.sha1.specs.Sha1.{absorb, absorbed, start, digest}
 use Rattle.sha1.specs.Chunks.{finished}
 use Rattle.sha1.proofs.Absorb.{absorbed-append}
 use Rattle.sha1.proofs.Messages.{by-parts}
-use Rattle.shelf.proofs.Free.{held-is, blank-is}
-use Rattle.shelf.proofs.Inside.{cell-is}
-use Rattle.shelf.proofs.Row.{cell-word}
+use Rattle.storage.proofs.Free.{held-is, blank-is}
+use Rattle.storage.proofs.Inside.{cell-is}
+use Rattle.storage.proofs.Row.{cell-word}
 use Rattle.sent.specs.Sent.{segmentBytes, contentOf, zeroSegment}
 
 -- ---- lengths
 
 -- a position's content is a block
-content-length : (bytes : ℕ) (pool : List ℕ) (s : Shelf) → s .cells ≡ cellsIn bytes pool → 0 < bytes
+content-length : (bytes : ℕ) (pool : List ℕ) (s : Storage) → s .cells ≡ cellsIn bytes pool → 0 < bytes
     → (p : Position) → cellOf p * bytes + bytes ≤ length pool → length (contentOf bytes s p) ≡ bytes
 unfolding zeroBlock blankBlock
 content-length bytes pool s e z nullPosition room = length-replicate {A = ℕ} bytes 0
@@ -55,24 +55,24 @@ zeros-are m e width q = rw q (ap (λ (n : ℕ). replicate {A = ℕ} n 0) (sym (w
 -- ---- the record
 
 -- what its words tell
-pub record Given (bytes : ℕ) (pool row : List ℕ) (s : Shelf) (seg : Segment) : Type 0 where
+pub record Given (bytes : ℕ) (pool row : List ℕ) (s : Storage) (seg : Segment) : Type 0 where
   pub cells : s .cells ≡ cellsIn bytes pool
   pub words : row ≡ recordToWords seg
   pub room : (i : ℕ) → i < length seg → getD row (3 + i) 0 * bytes + bytes ≤ length pool
   pub some : 64 ≤ bytes
   pub pieces : bytes % 64 ≡ 0
 
-pub given : (bytes n : ℕ) (pool row : List ℕ) (s : Shelf) (seg : Segment) → s .cells ≡ cellsIn bytes pool → length seg ≡ n → row ≡ recordToWords seg
+pub given : (bytes n : ℕ) (pool row : List ℕ) (s : Storage) (seg : Segment) → s .cells ≡ cellsIn bytes pool → length seg ≡ n → row ≡ recordToWords seg
     → ((i : ℕ) → i < n → getD row (3 + i) 0 * bytes + bytes ≤ length pool) → 64 ≤ bytes → bytes % 64 ≡ 0 → Given bytes pool row s seg
 given bytes n pool row s seg e l q r z p = record { cells = e; words = q; room = λ i h. r i (omega (arith, l, h)); some = z; pieces = p }
 
 -- i positions are taken: what is left, and its masks
-pub record DigestTo (bytes : ℕ) (s : Shelf) (seg : Segment) (h : State) (held blank i : ℕ) : Type 0 where
+pub record DigestTo (bytes : ℕ) (s : Storage) (seg : Segment) (h : State) (held blank i : ℕ) : Type 0 where
   pub heldMask : held ≡ maskOf isHeld (drop i seg)
   pub blankMask : blank ≡ maskOf isBlankPosition (drop i seg)
   pub left : absorbed h (rows (contentOf bytes s) (drop i seg)) ≡ absorbed start (rows (contentOf bytes s) seg)
 
-module _ {bytes : ℕ} {pool row : List ℕ} {s : Shelf} {seg : Segment} (g : Given bytes pool row s seg) where
+module _ {bytes : ℕ} {pool row : List ℕ} {s : Storage} {seg : Segment} (g : Given bytes pool row s seg) where
   wide-here : (i : ℕ) → i < length seg → length (contentOf bytes s (getD seg i nullPosition)) ≡ bytes
   wide-here i l =
       content-length bytes pool s (g .cells) (omega (arith, g .some)) (getD seg i nullPosition)

@@ -13,18 +13,18 @@ use Rattle.lists.proofs.Masks.{bit-false}
 use Rattle.lists.proofs.Slices.{every-next, every-stop, every-end}
 use Rattle.lists.proofs.Tests.{all-false, cond-never, cond-self}
 use Rattle.lists.proofs.Walks.{mask-here, mask-after}
-use Rattle.model.specs.State.{Block, Position, nullPosition, blankPosition, held, removed, Segment, Shelf}
+use Rattle.model.specs.State.{Block, Position, nullPosition, blankPosition, held, removed, Segment, Storage}
 use Rattle.model.specs.Image.{isBlank, withBlanks}
 use Rattle.model.specs.Records.{isHeld, isRemoved, isFree, cellOf, cellAt}
 use Rattle.model.specs.Table.{cellsIn, recordToWords}
-use Rattle.shelf.proofs.Free.{held-is, removed-is, row-not-held, row-by}
-use Rattle.shelf.proofs.Inside.{cell-is}
-use Rattle.shelf.proofs.Row.{cell-word}
+use Rattle.storage.proofs.Free.{held-is, removed-is, row-not-held, row-by}
+use Rattle.storage.proofs.Inside.{cell-is}
+use Rattle.storage.proofs.Row.{cell-word}
 use Rattle.sent.specs.Sent.{lets, canMatch}
 
 -- ---- one position
 
-module _ (s : Shelf) (h : ℕ) where
+module _ (s : Storage) (h : ℕ) where
   pub lets-bare : (p : Position) → h ≡ cond (isHeld p) 1 0 → isRemoved p ≡ false → h ≡ 0 → true ≡ lets s p
   lets-bare nullPosition e r z = refl
   lets-bare blankPosition e r z = refl
@@ -41,15 +41,15 @@ module _ (s : Shelf) (h : ℕ) where
 -- ---- all positions
 
 -- i positions let it match: what is left decides
-pub record LetsTo (s : Shelf) (seg : Segment) (h i : ℕ) : Type 0 where
+pub record LetsTo (s : Storage) (seg : Segment) (h i : ℕ) : Type 0 where
   pub mask : h ≡ maskOf isHeld (drop i seg)
   pub whole : maskOf isRemoved (drop i seg) ≡ 0
   pub left : every (lets s) (drop i seg) ≡ every (lets s) seg
 
-pub lets-start : (s : Shelf) (seg : Segment) (row : List ℕ) → row ≡ recordToWords seg → getD row 1 0 ≡ 0 → LetsTo s seg (getD row 0 0) 0
+pub lets-start : (s : Storage) (seg : Segment) (row : List ℕ) → row ≡ recordToWords seg → getD row 1 0 ≡ 0 → LetsTo s seg (getD row 0 0) 0
 lets-start s seg row e z = record { mask = held-is seg row e; whole = sym (removed-is seg row e) ∙ z; left = refl }
 
-module _ {s : Shelf} {seg : Segment} {h i : ℕ} (t : LetsTo s seg h i) where
+module _ {s : Storage} {seg : Segment} {h i : ℕ} (t : LetsTo s seg h i) where
   module _ (l : i < length seg) where
     abbrev p : Position
     p = getD seg i nullPosition
@@ -78,7 +78,7 @@ module _ {s : Shelf} {seg : Segment} {h i : ℕ} (t : LetsTo s seg h i) where
 -- ---- the record
 
 -- a removed position is one that keeps it from matching
-lost-one : (s : Shelf) (seg : Segment) → ¬ (maskOf isRemoved seg ≡ 0) → every (lets s) seg ≡ false
+lost-one : (s : Storage) (seg : Segment) → ¬ (maskOf isRemoved seg ≡ 0) → every (lets s) seg ≡ false
 unfolding every maskOf
 lost-one s [] n = absurd (n refl)
 lost-one s (nullPosition ∷ ps) n = lost-one s ps (λ e. n (omega (arith, e)))
@@ -86,7 +86,7 @@ lost-one s (blankPosition ∷ ps) n = lost-one s ps (λ e. n (omega (arith, e)))
 lost-one s (held c k ∷ ps) n = rw (lost-one s ps (λ e. n (omega (arith, e)))) (cond-never (not (isBlank withBlanks (cellAt s c))))
 lost-one s (removed ∷ ps) n = refl
 
-module _ (s : Shelf) (seg : Segment) (row : List ℕ) (e : row ≡ recordToWords seg) where
+module _ (s : Storage) (seg : Segment) (row : List ℕ) (e : row ≡ recordToWords seg) where
   pub match-lost : ¬ (getD row 1 0 ≡ 0) → false ≡ canMatch s seg
   unfolding canMatch
   match-lost n = sym (all-false (not (isFree seg) ∷ every (lets s) seg ∷ []) 1 (lost-one s seg (λ z. n (removed-is seg row e ∙ z))))

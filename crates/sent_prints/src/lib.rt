@@ -6,7 +6,7 @@ ghost use lib.ListN.{length, getD};
 ghost use Rattle.lists.specs.Lists.{every};
 ghost use Rattle.lists.specs.Rows.{rows};
 ghost use Rattle.model.specs.Measures.{recordWords};
-ghost use Rattle.model.specs.State.{Position, Segment, Shelf};
+ghost use Rattle.model.specs.State.{Position, Segment, Storage};
 ghost use Rattle.model.specs.Records.{isHeld, isRemoved, isBlankPosition, cellOf};
 ghost use Rattle.model.specs.Table.{cellsIn, recordToWords};
 ghost use Rattle.sha1.specs.Sha1.{absorbed, digest};
@@ -28,7 +28,7 @@ pub fn absorb_position(
     bytes: usize,
 ) -> State
     requires { ⌜ (held < 2) × (blank < 2) × (cell .0 * bytes + bytes ≤ length (now pool)) × (64 ≤ bytes) × (bytes ≤ 512) × (bytes % 64 ≡ 0) ⌝ }
-    ensures { λ r. ⌜ ((s : Shelf) (p : Position) → s .cells ≡ cellsIn bytes (now (pool .entry)) → held ≡ cond (isHeld p) 1 0 → blank ≡ cond (isBlankPosition p) 1 0 → cell .0 ≡ cellOf p → r ≡ absorbed h (contentOf bytes s p)) ⌝ }
+    ensures { λ r. ⌜ ((s : Storage) (p : Position) → s .cells ≡ cellsIn bytes (now (pool .entry)) → held ≡ cond (isHeld p) 1 0 → blank ≡ cond (isBlankPosition p) 1 0 → cell .0 ≡ cellOf p → r ≡ absorbed h (contentOf bytes s p)) ⌝ }
 {
     if held == 1 {
         let from = cell.byte(bytes);
@@ -45,7 +45,7 @@ pub fn absorb_position(
 // The fingerprint of a record's content, as five words.
 pub fn record_digest(pool: &[u8], row: &[u32], bytes: usize, n: usize) -> Digest
     requires { ⌜ (length (now row) ≡ recordWords n) × ((i : ℕ) → i < n → getD (now row) (3 + i) 0 * bytes + bytes ≤ length (now pool)) × (64 ≤ bytes) × (bytes ≤ 512) × (bytes % 64 ≡ 0) × (n ≤ 16) ⌝ }
-    ensures { λ r. ⌜ ((s : Shelf) (seg : Segment) → s .cells ≡ cellsIn bytes (now (pool .entry)) → length seg ≡ n → now (row .entry) ≡ recordToWords seg → r ≡ digest (rows (contentOf bytes s) seg)) ⌝ }
+    ensures { λ r. ⌜ ((s : Storage) (seg : Segment) → s .cells ≡ cellsIn bytes (now (pool .entry)) → length seg ≡ n → now (row .entry) ≡ recordToWords seg → r ≡ digest (rows (contentOf bytes s) seg)) ⌝ }
 {
     let mut h = sha1_chunk::start();
     let mut held = row[0];
@@ -72,7 +72,7 @@ pub fn zero_digest(m: Measures) -> Digest
 // Whether a position that is not removed lets its record match: it is not held, or its cell is not all 255s.
 fn position_lets(pool: &[u8], held: u32, cell: Cell, bytes: usize) -> bool
     requires { ⌜ (held < 2) × (cell .0 * bytes + bytes ≤ length (now pool)) × (64 ≤ bytes) × (bytes ≤ 512) × (bytes % 64 ≡ 0) ⌝ }
-    ensures { λ r. ⌜ ((s : Shelf) (p : Position) → s .cells ≡ cellsIn bytes (now (pool .entry)) → held ≡ cond (isHeld p) 1 0 → isRemoved p ≡ false → cell .0 ≡ cellOf p → r ≡ lets s p) ⌝ }
+    ensures { λ r. ⌜ ((s : Storage) (p : Position) → s .cells ≡ cellsIn bytes (now (pool .entry)) → held ≡ cond (isHeld p) 1 0 → isRemoved p ≡ false → cell .0 ≡ cellOf p → r ≡ lets s p) ⌝ }
 {
     if held == 0 {
         return true;
@@ -85,7 +85,7 @@ fn position_lets(pool: &[u8], held: u32, cell: Cell, bytes: usize) -> bool
 // Whether all of them do, in a record that has lost no position.
 fn positions_let(pool: &[u8], row: &[u32], bytes: usize, n: usize) -> bool
     requires { ⌜ (length (now row) ≡ recordWords n) × (getD (now row) 1 0 ≡ 0) × ((i : ℕ) → i < n → getD (now row) (3 + i) 0 * bytes + bytes ≤ length (now pool)) × (64 ≤ bytes) × (bytes ≤ 512) × (bytes % 64 ≡ 0) × (n ≤ 16) ⌝ }
-    ensures { λ r. ⌜ ((s : Shelf) (seg : Segment) → s .cells ≡ cellsIn bytes (now (pool .entry)) → length seg ≡ n → now (row .entry) ≡ recordToWords seg → r ≡ every (lets s) seg) ⌝ }
+    ensures { λ r. ⌜ ((s : Storage) (seg : Segment) → s .cells ≡ cellsIn bytes (now (pool .entry)) → length seg ≡ n → now (row .entry) ≡ recordToWords seg → r ≡ every (lets s) seg) ⌝ }
 {
     let mut held = row[0];
     let mut i: usize = 0;
@@ -103,7 +103,7 @@ fn positions_let(pool: &[u8], row: &[u32], bytes: usize, n: usize) -> bool
 // Whether a record can match: it is in use, has lost no position, and no cell of it is all 255s.
 pub fn can_match(pool: &[u8], row: &[u32], bytes: usize, n: usize) -> bool
     requires { ⌜ (length (now row) ≡ recordWords n) × ((i : ℕ) → i < n → getD (now row) (3 + i) 0 * bytes + bytes ≤ length (now pool)) × (64 ≤ bytes) × (bytes ≤ 512) × (bytes % 64 ≡ 0) × (n ≤ 16) ⌝ }
-    ensures { λ r. ⌜ ((s : Shelf) (seg : Segment) → s .cells ≡ cellsIn bytes (now (pool .entry)) → length seg ≡ n → now (row .entry) ≡ recordToWords seg → r ≡ canMatch s seg) ⌝ }
+    ensures { λ r. ⌜ ((s : Storage) (seg : Segment) → s .cells ≡ cellsIn bytes (now (pool .entry)) → length seg ≡ n → now (row .entry) ≡ recordToWords seg → r ≡ canMatch s seg) ⌝ }
 {
     if row[1] != 0 {
         return false;

@@ -3,7 +3,7 @@ ghost use mathlib.Core.Path.{_≡_};
 ghost use mathlib.Core.List.{[], _∷_, _++_};
 ghost use Prim.Native.Nat.{_-_, _*_, _<_};
 ghost use lib.ListN.{length, take, replicate};
-ghost use Rattle.lists.specs.Tells.{Tells};
+ghost use Rattle.lists.specs.Decides.{Decides};
 ghost use Rattle.sha1.specs.Sha1.{bytesOf, absorbed, zeros, digest, digestBytes};
 ghost use Rattle.sha1.specs.Chunks.{finished};
 use sha1::Digest;
@@ -154,7 +154,7 @@ pub fn digest_bytes(d: Digest) -> [u8; 20]
 
 // Whether the part is the digest's 20 bytes.
 pub fn same_digest(d: Digest, part: &[u8]) -> bool
-    ensures { λ r. ⌜ Tells r (now (part .entry) ≡ digestBytes d) ⌝ }
+    ensures { λ r. ⌜ Decides r (now (part .entry) ≡ digestBytes d) ⌝ }
 {
     let bytes = digest_bytes(d);
     check::same(part, &bytes)

@@ -8,7 +8,7 @@ ghost use Rattle.layout.specs.Layout.{shape, lengthAnswer, layoutAnswer};
 ghost use Rattle.backup.specs.Call.{backedUpAnswer};
 ghost use Rattle.tills.specs.Answers.{listingAnswer, versionFound};
 ghost use Rattle.restore.specs.Answers.{restoreAnswer};
-ghost use Rattle.retire.specs.Answers.{retireAnswer};
+ghost use Rattle.retire.specs.Answers.{retiredAnswer};
 ghost use Rattle.tally.specs.Answers.{tallyAnswer};
 ghost use Rattle.stream.specs.Version.{writeStreamAs};
 ghost use Rattle.stream_write.specs.Answers.{streamWritten};
@@ -20,6 +20,7 @@ ghost use Rattle.bill.specs.Bill.{billAs};
 ghost use Rattle.bill_sums.specs.Answers.{billed};
 ghost use Rattle.rights.specs.Answers.{rightsGiven, rightsAnswered};
 use backup::BackedUp;
+use backup_steps::Limit;
 use bill_sums::Bill;
 use closing_backup::AllBackedUp;
 use layout::Capacities;
@@ -28,7 +29,6 @@ use restore::Restored;
 use retire::Retired;
 use rights::Right;
 use rights::Rights;
-use shelve::Limit;
 use stream_write::StreamWritten;
 use tally::Tally;
 use tills::Listing;
@@ -99,7 +99,7 @@ pub fn restore(
 }
 
 pub fn retire(pool: &mut [u8], table: &mut [u32], user: u32, till: u32, version: u32) -> Retired
-    ensures { λ r. ⌜ retireAnswer r (now (pool .exit)) (now (table .exit)) ≡ retireAs (now (pool .entry)) (now (table .entry)) user till version ⌝ }
+    ensures { λ r. ⌜ retiredAnswer r (now (pool .exit)) (now (table .exit)) ≡ retireAs (now (pool .entry)) (now (table .entry)) user till version ⌝ }
 {
     if !audit::sound(pool, table) {
         return Retired {

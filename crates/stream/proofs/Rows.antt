@@ -67,14 +67,14 @@ small : Option Store
 small =
     storeWith 64 2 (record {
       tills = record { last = 3; rights = []; versions = record { number = 3; length = 65; day = 0; pointers = direct 0 0 ∷ direct 0 1 ∷ [] } ∷ [] } ∷ [];
-      shelf = record { records = (held 0 1 ∷ held 1 1 ∷ nullPosition ∷ nullPosition ∷ []) ∷ []; cells = replicate 64 12 ∷ (11 ∷ replicate 63 0) ∷ [] };
+      storage = record { records = (held 0 1 ∷ held 1 1 ∷ nullPosition ∷ nullPosition ∷ []) ∷ []; cells = replicate 64 12 ∷ (11 ∷ replicate 63 0) ∷ [] };
     })
 
 large : Option Store
 large =
     storeWith 128 1 (record {
       tills = record { last = 3; rights = []; versions = record { number = 3; length = 65; day = 0; pointers = direct 0 0 ∷ [] } ∷ [] } ∷ [];
-      shelf = record { records = (held 1 1 ∷ nullPosition ∷ nullPosition ∷ nullPosition ∷ []) ∷ []; cells = replicate 128 0 ∷ (replicate 64 12 ++ (11 ∷ replicate 63 0)) ∷ [] };
+      storage = record { records = (held 1 1 ∷ nullPosition ∷ nullPosition ∷ nullPosition ∷ []) ∷ []; cells = replicate 128 0 ∷ (replicate 64 12 ++ (11 ∷ replicate 63 0)) ∷ [] };
     })
 
 rows : List Row

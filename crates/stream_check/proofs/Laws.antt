@@ -13,16 +13,16 @@ use Rattle.lists.proofs.Tests.{cond-self}
 use Rattle.lists.proofs.Slices.{drop-take}
 use Rattle.stream.specs.Stream.{Read, passed, stopped, andThen, mayStand, readBlock, readEnd, readBody}
 use Rattle.stream_laws.proofs.Steps.{Alike, alike-then, then-alike, then-refused, groupsOf, groups-none, block-null, block-short, block-bad, block-good, body-is-then, end-none, end-more}
-use Rattle.stream_check.specs.Answers.{Reaches}
+use Rattle.stream_check.specs.Answers.{ReadsTo}
 use Rattle.stream_check.specs.declared.Place.{Place}
 
 -- ---- where a way ends
 
-pub reaches-stop : (x : Read) (s : List ℕ) (at k : ℕ) → 0 < k → x ≡ stopped k → Reaches x s (record { refusal = k; at = at })
+pub reaches-stop : (x : Read) (s : List ℕ) (at k : ℕ) → 0 < k → x ≡ stopped k → ReadsTo x s (record { refusal = k; at = at })
 unfolding stopped
 reaches-stop x s at k n e = record { told = ap (λ (y : Read). y .refusal) (sym e); within = λ z. absurd (omega (arith, z, n)); rest = λ z. absurd (omega (arith, z, n)) }
 
-pub reaches-passed : (x : Read) (s : List ℕ) (at : ℕ) (bytes : List ℕ) → at ≤ length s → x ≡ passed bytes (drop at s) → Reaches x s (record { refusal = 0; at = at })
+pub reaches-passed : (x : Read) (s : List ℕ) (at : ℕ) (bytes : List ℕ) → at ≤ length s → x ≡ passed bytes (drop at s) → ReadsTo x s (record { refusal = 0; at = at })
 unfolding passed
 reaches-passed x s at bytes h e = record { told = ap (λ (y : Read). y .refusal) (sym e); within = λ z. h; rest = λ z. ap (λ (y : Read). y .rest) (sym e) }
 
@@ -62,18 +62,18 @@ module _ (s : List ℕ) (at bit left : ℕ) (h : at ≤ length s) where
           let c : 64 - left ≡ 0 = omega arith in
           rw (b, drop-take left 64 (drop at s), c)
 
-  pub reaches-null : bit ≡ 0 → Reaches (readBlock bit left (drop at s)) s (record { refusal = 0; at = at })
+  pub reaches-null : bit ≡ 0 → ReadsTo (readBlock bit left (drop at s)) s (record { refusal = 0; at = at })
   reaches-null e = reaches-passed _ s at _ h (block-null bit left (drop at s) e)
 
   module _ (one : bit ≡ 0 → ⊥) where
-    pub reaches-short : length s - at < 64 → Reaches (readBlock bit left (drop at s)) s (record { refusal = 24; at = at })
+    pub reaches-short : length s - at < 64 → ReadsTo (readBlock bit left (drop at s)) s (record { refusal = 24; at = at })
     reaches-short l = reaches-stop _ s at 24 (omega arith) (block-short bit left (drop at s) one (omega (arith, length-drop at s)))
 
     module _ (l : 64 ≤ length s - at) where
       long : 64 ≤ length (drop at s)
       long = omega (arith, length-drop at s)
 
-      pub reaches-zero : allZero theBlock ≡ true → Reaches (readBlock bit left (drop at s)) s (record { refusal = 26; at = at })
+      pub reaches-zero : allZero theBlock ≡ true → ReadsTo (readBlock bit left (drop at s)) s (record { refusal = 26; at = at })
       reaches-zero z = reaches-stop _ s at 26 (omega arith) (block-bad bit left (drop at s) one long (may-not left (take 64 (drop at s)) (rw block-is at z)))
 
       -- by the bytes after the length
@@ -81,18 +81,18 @@ module _ (s : List ℕ) (at bit left : ℕ) (h : at ≤ length s) where
       may-be after e z t f = may-by left (take 64 (drop at s)) (rw block-is at z) ∙ ap allZero (sym tail-is) ∙ ap (λ (k : ℕ). allZero (theTail k)) (sym e) ∙ sym f
 
       pub reaches-after : (after : ℕ) → after ≡ at + min left 64 → allZero theBlock ≡ false → allZero (theTail after) ≡ false
-          → Reaches (readBlock bit left (drop at s)) s (record { refusal = 26; at = at })
+          → ReadsTo (readBlock bit left (drop at s)) s (record { refusal = 26; at = at })
       reaches-after after e z f = reaches-stop _ s at 26 (omega arith) (block-bad bit left (drop at s) one long (may-be after e z false (sym f)))
 
       pub reaches-good : (after : ℕ) → after ≡ at + min left 64 → allZero theBlock ≡ false → allZero (theTail after) ≡ true
-          → Reaches (readBlock bit left (drop at s)) s (record { refusal = 0; at = at + 64 })
+          → ReadsTo (readBlock bit left (drop at s)) s (record { refusal = 0; at = at + 64 })
       reaches-good after e z f =
           reaches-passed _ s (at + 64) (take 64 (drop at s)) (omega arith)
           (block-good bit left (drop at s) one long (may-be after e z true (sym f)) ∙ ap (passed (take 64 (drop at s))) (drop-drop 64 at s))
 
 -- ---- steps
 
-module _ (s : List ℕ) (x a whole : Read) (p : Place) (next : List ℕ → Read) (e : whole ≡ andThen a (next (a .rest))) (al : Alike x whole) (r : Reaches a s p) where
+module _ (s : List ℕ) (x a whole : Read) (p : Place) (next : List ℕ → Read) (e : whole ≡ andThen a (next (a .rest))) (al : Alike x whole) (r : ReadsTo a s p) where
   -- an accepted step leaves the rest of the way
   pub step-on : p .refusal ≡ 0 → Alike x (next (drop (p .at) s))
   step-on z =
@@ -103,11 +103,11 @@ module _ (s : List ℕ) (x a whole : Read) (p : Place) (next : List ℕ → Read
   pub step-stop : (p .refusal ≡ 0 → ⊥) → p .refusal ≡ x .refusal
   step-stop n = r .told ∙ sym (then-refused whole a (next (a .rest)) e (λ z. n (r .told ∙ z))) ∙ sym (al .refusal)
 
-  pub reaches-stopped : (p .refusal ≡ 0 → ⊥) → Reaches x s p
+  pub reaches-stopped : (p .refusal ≡ 0 → ⊥) → ReadsTo x s p
   reaches-stopped n = record { told = step-stop n; within = λ z. absurd (n z); rest = λ z. absurd (n z) }
 
 -- the last step is done
-pub reaches-end : (s : List ℕ) (at : ℕ) (x y : Read) → at ≤ length s → Alike x y → y ≡ passed [] (drop at s) → Reaches x s (record { refusal = 0; at = at })
+pub reaches-end : (s : List ℕ) (at : ℕ) (x y : Read) → at ≤ length s → Alike x y → y ≡ passed [] (drop at s) → ReadsTo x s (record { refusal = 0; at = at })
 unfolding passed
 reaches-end s at x y h al e = record { told = sym (al .refusal ∙ ap (λ (y : Read). y .refusal) e); within = λ z. h; rest = λ _. sym (al .rest ∙ ap (λ (y : Read). y .rest) e) }
 

@@ -5,7 +5,7 @@ ghost use lib.ListN.{length, drop};
 ghost use lib.Dec.{ltb};
 ghost use Rattle.model.specs.Measures.{partsFor};
 ghost use Rattle.stream.specs.Stream.{readBlock, readBlocks, readGroup, readBody};
-ghost use Rattle.stream_check.specs.Answers.{Reaches};
+ghost use Rattle.stream_check.specs.Answers.{ReadsTo};
 use numbers::Block;
 use stream::Group;
 
@@ -18,7 +18,7 @@ pub struct Place {
 // A block, by its bit, where `left` bytes of the image are left.
 fn check_block(stream: &[u8], at: usize, bit: u32, left: usize) -> Place
     requires { ⌜ at ≤ length (now stream) ⌝ }
-    ensures { λ r. ⌜ Reaches (readBlock bit left (drop at (now (stream .entry)))) (now (stream .entry)) r ⌝ }
+    ensures { λ r. ⌜ ReadsTo (readBlock bit left (drop at (now (stream .entry)))) (now (stream .entry)) r ⌝ }
 {
     if bit == 0 {
         return Place { refusal: 0, at: at };
@@ -52,7 +52,7 @@ fn check_block(stream: &[u8], at: usize, bit: u32, left: usize) -> Place
 // The eight blocks of a group, by the bits of its map.
 fn check_blocks(stream: &[u8], from: usize, bits: u32, bytes: usize) -> Place
     requires { ⌜ from ≤ length (now stream) ⌝ }
-    ensures { λ r. ⌜ Reaches (readBlocks 8 bits bytes (drop from (now (stream .entry)))) (now (stream .entry)) r ⌝ }
+    ensures { λ r. ⌜ ReadsTo (readBlocks 8 bits bytes (drop from (now (stream .entry)))) (now (stream .entry)) r ⌝ }
 {
     let mut at = from;
     let mut m = bits;
@@ -81,7 +81,7 @@ fn all_there(bits: u32, left: usize) -> bool
 
 // A group: its bit map byte, then its blocks.
 fn check_group(stream: &[u8], at: usize, left: usize) -> Place
-    ensures { λ r. ⌜ Reaches (readGroup left (drop at (now (stream .entry)))) (now (stream .entry)) r ⌝ }
+    ensures { λ r. ⌜ ReadsTo (readGroup left (drop at (now (stream .entry)))) (now (stream .entry)) r ⌝ }
 {
     if stream.len() <= at {
         return Place {
@@ -115,14 +115,14 @@ pub fn reader_at<'a>(stream: &'a [u8], at: usize) -> Reader<'a>
 
 // The group that the reader comes to next.
 pub fn next_group<'a>(r: Reader<'a>, left: usize) -> Place
-    ensures { λ p. ⌜ Reaches (readGroup left (drop (r .entry .at) (now (r .entry .stream)))) (now (r .entry .stream)) p ⌝ }
+    ensures { λ p. ⌜ ReadsTo (readGroup left (drop (r .entry .at) (now (r .entry .stream)))) (now (r .entry .stream)) p ⌝ }
 {
     check_group(r.stream, r.at, left)
 }
 
 // The same with no reader in its signature: whoever calls it needs no proof by hand.
 pub fn group_at(stream: &[u8], at: usize, left: usize) -> Place
-    ensures { λ p. ⌜ Reaches (readGroup left (drop at (now (stream .entry)))) (now (stream .entry)) p ⌝ }
+    ensures { λ p. ⌜ ReadsTo (readGroup left (drop at (now (stream .entry)))) (now (stream .entry)) p ⌝ }
 {
     next_group(reader_at(stream, at), left)
 }

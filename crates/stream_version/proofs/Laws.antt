@@ -8,7 +8,7 @@ use lib.ListN.{length, take, replicate, length-take}
 use lib.Dec.{ltb, leb}
 use borrow.Author.Tests.{eq-eqb, ne-eqb, ltb-false}
 use Rattle.lists.proofs.Tests.{by-test}
-use Rattle.model.specs.State.{Shelf, Version}
+use Rattle.model.specs.State.{Storage, Version}
 use Rattle.model.specs.Sound.{Store, storeOf}
 use Rattle.model.specs.Calls.{RestoreAnswer, restoreRefusal, restoreFrom, restore, restoreIn, restoreOf, heldFrom, tillOf, Lookup, found, missing, lookUp}
 use Rattle.stream.specs.Stream.{StreamAnswer, streamRefusal, writeStream}
@@ -17,7 +17,7 @@ use Rattle.stream.specs.Version.{longestOutput, writeRestored, writeStreamOf}
 abbrev Fits : List ℕ → RestoreAnswer → Type 0
 Fits output r = r .length ≤ length output
 
-from-fits : (bytes : ℕ) (a : Shelf) (output : List ℕ) (l : Lookup) → Fits output (restoreFrom bytes a l output)
+from-fits : (bytes : ℕ) (a : Storage) (output : List ℕ) (l : Lookup) → Fits output (restoreFrom bytes a l output)
 unfolding restoreFrom restoreRefusal
 from-fits bytes a output (missing n) = omega arith
 from-fits bytes a output (found older v newer) =
@@ -28,7 +28,7 @@ unfolding restoreIn restore restoreRefusal
 in-fits t v output none = omega arith
 in-fits t v output (some x) =
     by-test (Fits output) (leb (x .shape .capacities .tills) t) (λ e. omega arith)
-    (λ e. from-fits (x .shape .measures .blockBytes) (x .state .shelf) output (lookUp (tillOf (x .state) t) v))
+    (λ e. from-fits (x .shape .measures .blockBytes) (x .state .storage) output (lookUp (tillOf (x .state) t) v))
 
 restore-fits : (pool table : List ℕ) (t v : ℕ) (output : List ℕ) → restoreOf pool table t v output .length ≤ length output
 unfolding restoreOf

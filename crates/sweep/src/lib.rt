@@ -8,24 +8,24 @@ ghost use Rattle.lists.specs.Marks.{marked};
 ghost use Rattle.numbers.specs.Measures.{measuresOf};
 ghost use Rattle.model.specs.Measures.{recordWords};
 ghost use Rattle.model.specs.Records.{cellsOf, namedCells, countOf};
-ghost use Rattle.model.specs.Table.{wordToPointer, recordsIn, shelfIn};
+ghost use Rattle.model.specs.Table.{wordToPointer, recordsIn, storageIn};
 ghost use Rattle.model.specs.Sweep.{release, claim, sweep};
-ghost use Rattle.shelf.specs.Stored.{Told, Stored, positionIn};
-ghost use Rattle.shelf.specs.Fits.{Fits, NamesHeld};
-ghost use Rattle.kept.specs.Kept.{Coded, Kept, NamedIn};
-ghost use Rattle.kept.specs.Ways.{segmentAt};
+ghost use Rattle.storage.specs.Stored.{Encodes, Stored, positionIn};
+ghost use Rattle.storage.specs.Fits.{WithinRecords, NamesHeld};
+ghost use Rattle.sweep_laws.specs.Marked.{EncodesMarked, StoredMarked, NamedIn};
+ghost use Rattle.sweep_laws.specs.Ways.{segmentAt};
 use numbers::Measures;
 use numbers::RecordNumber;
 
 // All records, with the occupied cells marked.
 pub fn sweep_marked(pool: &mut [u8], words: &mut [u32], occupied: &mut [bool], m: Measures)
-    requires { ⌜ Kept (measuresOf m) (now pool) (now words) (now occupied) ⌝ }
-    ensures { λ _. ⌜ Coded (measuresOf m) (now (pool .exit)) (now (words .exit)) (now (occupied .exit)) (sweep (measuresOf m) (shelfIn (measuresOf m) (now (pool .entry)) (now (words .entry)))) ⌝ }
+    requires { ⌜ StoredMarked (measuresOf m) (now pool) (now words) (now occupied) ⌝ }
+    ensures { λ _. ⌜ EncodesMarked (measuresOf m) (now (pool .exit)) (now (words .exit)) (now (occupied .exit)) (sweep (measuresOf m) (storageIn (measuresOf m) (now (pool .entry)) (now (words .entry)))) ⌝ }
 {
     let n = numbers::rows(words.len(), m.blocks);
     let mut k: usize = 0;
     while k < n {
-        removal::sweep_record(pool, words, occupied, RecordNumber(k as u32), m);
+        sweep_record::sweep_record(pool, words, occupied, RecordNumber(k as u32), m);
         k = k + 1;
     }
 }
@@ -63,7 +63,7 @@ pub fn mark_named(words: &[u32], occupied: &mut [bool], n: usize)
 pub fn sweep_with(pool: &mut [u8], words: &mut [u32], occupied: &mut [bool], m: Measures)
     requires { ⌜ Stored (measuresOf m) (now pool) (now words) ⌝ }
     requires { ⌜ (now occupied ≡ replicate (length (now occupied)) false) × (length (now occupied) * m .bytes ≡ length (now pool)) ⌝ }
-    ensures { λ _. ⌜ Told (measuresOf m) (now (pool .exit)) (now (words .exit)) (sweep (measuresOf m) (shelfIn (measuresOf m) (now (pool .entry)) (now (words .entry)))) ⌝ }
+    ensures { λ _. ⌜ Encodes (measuresOf m) (now (pool .exit)) (now (words .exit)) (sweep (measuresOf m) (storageIn (measuresOf m) (now (pool .entry)) (now (words .entry)))) ⌝ }
 {
     mark_named(words, occupied, m.blocks);
     sweep_marked(pool, words, occupied, m);
@@ -71,7 +71,7 @@ pub fn sweep_with(pool: &mut [u8], words: &mut [u32], occupied: &mut [bool], m: 
 
 pub fn sweep_all(pool: &mut [u8], words: &mut [u32], m: Measures)
     requires { ⌜ Stored (measuresOf m) (now pool) (now words) ⌝ }
-    ensures { λ _. ⌜ Told (measuresOf m) (now (pool .exit)) (now (words .exit)) (sweep (measuresOf m) (shelfIn (measuresOf m) (now (pool .entry)) (now (words .entry)))) ⌝ }
+    ensures { λ _. ⌜ Encodes (measuresOf m) (now (pool .exit)) (now (words .exit)) (sweep (measuresOf m) (storageIn (measuresOf m) (now (pool .entry)) (now (words .entry)))) ⌝ }
 {
     let mut occupied = [false; 32768];
     let n = numbers::parts(pool.len(), m.bytes);
@@ -79,22 +79,22 @@ pub fn sweep_all(pool: &mut [u8], words: &mut [u32], m: Measures)
 }
 
 // Pointers let go of their blocks.
-pub fn let_go(pool: &mut [u8], words: &mut [u32], pointers: &[u32], m: Measures)
+pub fn release_and_sweep(pool: &mut [u8], words: &mut [u32], pointers: &[u32], m: Measures)
     requires { ⌜ Stored (measuresOf m) (now pool) (now words) ⌝ }
-    requires { ⌜ ((i : ℕ) → i < length (now pointers) → Fits (m .blocks) (length (now words)) (wordToPointer (getD (now pointers) i 0))) ⌝ }
-    ensures { λ _. ⌜ Told (measuresOf m) (now (pool .exit)) (now (words .exit)) (sweep (measuresOf m) (release (shelfIn (measuresOf m) (now (pool .entry)) (now (words .entry))) (map wordToPointer (now (pointers .entry))))) ⌝ }
+    requires { ⌜ ((i : ℕ) → i < length (now pointers) → WithinRecords (m .blocks) (length (now words)) (wordToPointer (getD (now pointers) i 0))) ⌝ }
+    ensures { λ _. ⌜ Encodes (measuresOf m) (now (pool .exit)) (now (words .exit)) (sweep (measuresOf m) (release (storageIn (measuresOf m) (now (pool .entry)) (now (words .entry))) (map wordToPointer (now (pointers .entry))))) ⌝ }
 {
-    release::release(words, pointers, m.blocks);
+    sweep_counts::release(words, pointers, m.blocks);
     sweep_all(pool, words, m);
 }
 
 // Pointers taken over claim their blocks, before others let go of theirs.
 pub fn exchange(pool: &mut [u8], words: &mut [u32], taken: &[u32], gone: &[u32], m: Measures)
     requires { ⌜ Stored (measuresOf m) (now pool) (now words) ⌝ }
-    requires { ⌜ ((i : ℕ) → i < length (now taken) → Fits (m .blocks) (length (now words)) (wordToPointer (getD (now taken) i 0)) × NamesHeld (recordsIn (m .blocks) (now words)) (wordToPointer (getD (now taken) i 0))) × ((i : ℕ) → i < length (now gone) → Fits (m .blocks) (length (now words)) (wordToPointer (getD (now gone) i 0))) ⌝ }
+    requires { ⌜ ((i : ℕ) → i < length (now taken) → WithinRecords (m .blocks) (length (now words)) (wordToPointer (getD (now taken) i 0)) × NamesHeld (recordsIn (m .blocks) (now words)) (wordToPointer (getD (now taken) i 0))) × ((i : ℕ) → i < length (now gone) → WithinRecords (m .blocks) (length (now words)) (wordToPointer (getD (now gone) i 0))) ⌝ }
     requires { ⌜ ((k i : ℕ) → countOf (positionIn (recordsIn (m .blocks) (now words)) k i) + length (now taken) < 2 ^ 32) ⌝ }
-    ensures { λ _. ⌜ Told (measuresOf m) (now (pool .exit)) (now (words .exit)) (sweep (measuresOf m) (release (claim (shelfIn (measuresOf m) (now (pool .entry)) (now (words .entry))) (map wordToPointer (now (taken .entry)))) (map wordToPointer (now (gone .entry))))) ⌝ }
+    ensures { λ _. ⌜ Encodes (measuresOf m) (now (pool .exit)) (now (words .exit)) (sweep (measuresOf m) (release (claim (storageIn (measuresOf m) (now (pool .entry)) (now (words .entry))) (map wordToPointer (now (taken .entry)))) (map wordToPointer (now (gone .entry))))) ⌝ }
 {
-    release::claim(words, taken, m.blocks);
-    let_go(pool, words, gone, m);
+    sweep_counts::claim(words, taken, m.blocks);
+    release_and_sweep(pool, words, gone, m);
 }

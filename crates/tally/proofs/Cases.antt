@@ -20,16 +20,16 @@ use Rattle.lists.proofs.Slices.{drop-next, drop-end, tail-all}
 use Rattle.model.specs.Measures.{Measures, recordWords, tableWords}
 use Rattle.model.specs.State.{nullPosition, blankPosition, held, removed, Segment}
 use Rattle.model.specs.Records.{isHeld, isRemoved, isFree, cellOf, cellsOf, namedCells, countOf, isBlankPosition}
-use Rattle.model.specs.Table.{recordToWords, segmentIn, recordsIn, shapeOf, stateIn, shelfIn, recordsPart}
+use Rattle.model.specs.Table.{recordToWords, segmentIn, recordsIn, shapeOf, stateIn, storageIn, recordsPart}
 use Rattle.model.specs.Calls.{TallyAnswer, tallyIn, tallyOf}
 use Rattle.laws.proofs.Bounds.{counts-most}
 use Rattle.laws.proofs.RoundTrip.{length-record, segment-back, records-part}
 use Rattle.laws.specs.Stores.{recordsFrom, Sound}
 use Rattle.laws.proofs.Stores.{header, found, fit, fits, long}
-use Rattle.shelf.specs.Stored.{RecordsTold}
-use Rattle.shelf.proofs.Read.{records-length, records-count, count-at, row-at, room-at}
+use Rattle.storage.specs.Stored.{EncodesRecords}
+use Rattle.storage.proofs.Read.{records-length, records-count, count-at, row-at, room-at}
 use Rattle.tally.specs.declared.Tally.{Tally}
-use Rattle.tally.specs.Answers.{sum, inUse, Row, Counts, Rows, tallied}
+use Rattle.tally.specs.Answers.{sum, inUse, TallyRow, TallyOfRecord, TallyRows, tallyOfRecords}
 
 -- the first k records are counted
 pub record Going (segs : List Segment) (k c r n : ℕ) : Type 0 where
@@ -78,7 +78,7 @@ use-free (blankPosition ∷ seg) = sym (in-use-blank (0 + 2 * maskOf isHeld seg)
 use-free (held c n ∷ seg) = sym (in-use-held (1 + 2 * maskOf isHeld seg) (0 + 2 * maskOf isRemoved seg) (0 + 2 * maskOf isBlankPosition seg) (λ z. omega arith))
 use-free (removed ∷ seg) = sym (in-use-removed (0 + 2 * maskOf isHeld seg) (1 + 2 * maskOf isRemoved seg) (0 + 2 * maskOf isBlankPosition seg) (λ z. omega arith))
 
-module _ (n : ℕ) (row : List ℕ) (h : Row n row) where
+module _ (n : ℕ) (row : List ℕ) (h : TallyRow n row) where
   abbrev seg : Segment
   seg = segmentIn n row
 
@@ -99,7 +99,7 @@ module _ (n : ℕ) (row : List ℕ) (h : Row n row) where
   counts-few = omega (arith, counts-sum, h .few)
 
   pub row-counted : (r k : ℕ) → r ≡ inUse (getD row 0 0) (getD row 1 0) (getD row 2 0) → k ≡ sum (take (length row - (3 + n)) (drop (3 + n) row))
-      → Counts seg (record { refusal = 0; cells = ones (getD row 0 0); records = r; counts = k })
+      → TallyOfRecord seg (record { refusal = 0; cells = ones (getD row 0 0); records = r; counts = k })
   unfolding recordToWords
   row-counted r k e f = record {
     cells = ap (λ (ws : List ℕ). ones (getD ws 0 0)) (h .words) ∙ ones-mask isHeld seg ∙ held-cells seg;
@@ -128,7 +128,7 @@ total-one zero (x ∷ xs) h = omega arith
 total-one (suc k) (x ∷ xs) h = omega (arith, total-one k xs (omega (arith, h)))
 
 -- rows of w words, as the code has their width
-module _ (n w : ℕ) (ew : w ≡ recordWords n) (most : n ≤ 16) (ws : List ℕ) (h : Rows n ws) where
+module _ (n w : ℕ) (ew : w ≡ recordWords n) (most : n ≤ 16) (ws : List ℕ) (h : TallyRows n ws) where
   abbrev segs : List Segment
   segs = recordsIn n ws
 
@@ -149,17 +149,17 @@ module _ (n w : ℕ) (ew : w ≡ recordWords n) (most : n ≤ 16) (ws : List ℕ
     inside = omega (arith, l, count-is)
 
     pub row-room : k * w + w ≤ length ws
-    row-room = rw ew (room-at n ws segs (h .told) k inside)
+    row-room = rw ew (room-at n ws segs (h .encodes) k inside)
 
     row-is : row ≡ recordToWords (getD segs k [])
-    row-is = part-is ws (k * w) w ∙ rw ew (row-at n ws segs (h .told) k inside)
+    row-is = part-is ws (k * w) w ∙ rw ew (row-at n ws segs (h .encodes) k inside)
 
     segment-is : segmentIn n row ≡ getD segs k []
-    segment-is = ap (segmentIn n) row-is ∙ segment-back n (getD segs k []) (count-at n ws segs (h .told) k inside)
+    segment-is = ap (segmentIn n) row-is ∙ segment-back n (getD segs k []) (count-at n ws segs (h .encodes) k inside)
 
-    pub row-at-k : Row n row
+    pub row-at-k : TallyRow n row
     row-at-k = record {
-      sized = ap length segment-is ∙ count-at n ws segs (h .told) k inside;
+      sized = ap length segment-is ∙ count-at n ws segs (h .encodes) k inside;
       words = row-is ∙ ap recordToWords (sym segment-is);
       few = omega (arith, ap (total countOf) segment-is, total-one k segs inside, h .few);
     }
@@ -177,9 +177,9 @@ module _ (n w : ℕ) (ew : w ≡ recordWords n) (most : n ≤ 16) (ws : List ℕ
         let d = ap (λ (xs : List Segment). length (namedCells xs)) (drop-next segs k [] inside) in
         let o : ones (getD ws (k * w) 0) ≡ length (cellsOf (getD segs k [])) = ap ones mask-is ∙ ones-mask isHeld (getD segs k []) ∙ held-cells (getD segs k []) in
         let e = named-next (getD segs k []) (drop (k + 1) segs) in
-        (omega (arith, g, d, o, e), omega (arith, g, d, o, e, named-most n segs (h .told .sized), mul-le-mul few-records most))
+        (omega (arith, g, d, o, e), omega (arith, g, d, o, e, named-most n segs (h .encodes .sized), mul-le-mul few-records most))
 
-    module _ (c r m : ℕ) (g : Going segs k c r m) (one : Tally) (o : Counts (segmentIn n row) one) where
+    module _ (c r m : ℕ) (g : Going segs k c r m) (one : Tally) (o : TallyOfRecord (segmentIn n row) one) where
       next : drop k segs ≡ getD segs k [] ∷ drop (k + 1) segs
       next = drop-next segs k [] inside
 
@@ -194,12 +194,12 @@ module _ (n w : ℕ) (ew : w ≡ recordWords n) (most : n ≤ 16) (ws : List ℕ
 
       pub going-small : (c + one .cells ≤ 65536) × (r + one .records ≤ 4096) × (m + one .counts ≤ 1048576)
       going-small = (
-        omega (arith, going-next .cells, named-most n segs (h .told .sized), mul-le-mul few-records most),
+        omega (arith, going-next .cells, named-most n segs (h .encodes .sized), mul-le-mul few-records most),
         omega (arith, going-next .records, count-most (λ (s : Segment). not (isFree s)) segs, few-records),
         omega (arith, going-next .counts, h .few),
       )
 
-  pub going-end : (k c r m : ℕ) → length ws / w ≤ k → Going segs k c r m → record { refusal = 0; cells = c; records = r; counts = m } ≡ tallied segs
+  pub going-end : (k c r m : ℕ) → length ws / w ≤ k → Going segs k c r m → record { refusal = 0; cells = c; records = r; counts = m } ≡ tallyOfRecords segs
   unfolding count total namedCells joined
   going-end k c r m l g =
       let d : drop k segs ≡ [] = drop-end segs k (omega (arith, l, count-is)) in
@@ -213,7 +213,7 @@ module _ (n w : ℕ) (ew : w ≡ recordWords n) (most : n ≤ 16) (ws : List ℕ
   cells-end k c l g =
       let d : drop k segs ≡ [] = drop-end segs k (omega (arith, l, count-is)) in
       let a = ap (λ (xs : List Segment). length (namedCells xs)) d in
-      (omega (arith, g, a), omega (arith, g, a, named-most n segs (h .told .sized), mul-le-mul few-records most))
+      (omega (arith, g, a), omega (arith, g, a, named-most n segs (h .encodes .sized), mul-le-mul few-records most))
 
 -- ---- a sound store
 
@@ -224,41 +224,41 @@ module _ {pool table : List ℕ} (h : Sound pool table) (at : ℕ) (e : at ≡ r
   lent-is : take (length table - at) (drop at table) ≡ drop (recordsFrom (shapeOf table)) table
   lent-is = tail-all table at ∙ ap (λ (k : ℕ). drop k table) e
 
-  records-are : recordsIn positions (take (length table - at) (drop at table)) ≡ stateIn (shapeOf table) pool table .shelf .records
-  unfolding stateIn shelfIn
+  records-are : recordsIn positions (take (length table - at) (drop at table)) ≡ stateIn (shapeOf table) pool table .storage .records
+  unfolding stateIn storageIn
   records-are = ap (recordsIn positions) lent-is
 
-  told : RecordsTold positions (take (length table - at) (drop at table)) (stateIn (shapeOf table) pool table .shelf .records)
+  encodes : EncodesRecords positions (take (length table - at) (drop at table)) (stateIn (shapeOf table) pool table .storage .records)
   unfolding shapeOf
-  told = record {
+  encodes = record {
     sized = fits h .records;
     words =
         lent-is
-        ∙ subst (λ (ws : List ℕ). recordsPart (shapeOf table .capacities) ws ≡ rows recordToWords (stateIn (shapeOf table) pool table .shelf .records)) (found h .words)
+        ∙ subst (λ (ws : List ℕ). recordsPart (shapeOf table .capacities) ws ≡ rows recordToWords (stateIn (shapeOf table) pool table .storage .records)) (found h .words)
         (records-part (shapeOf table) (stateIn (shapeOf table) pool table) (fits h));
   }
 
-  rows-of : Rows positions (take (length table - at) (drop at table))
+  rows-of : TallyRows positions (take (length table - at) (drop at table))
   unfolding shapeOf
   rows-of = record {
-    told = subst (λ (xs : List Segment). RecordsTold positions (take (length table - at) (drop at table)) xs) (sym records-are) told;
+    encodes = subst (λ (xs : List Segment). EncodesRecords positions (take (length table - at) (drop at table)) xs) (sym records-are) encodes;
     short =
         let w : ℕ = recordWords positions in
         let m : getD table 3 0 * w ≤ 4096 * w = mul-le-mul-right w (header h .records) in
-        omega (arith, m, records-length positions _ _ told ∙ ap (λ (k : ℕ). k * w) (fits h .recordCount));
+        omega (arith, m, records-length positions _ _ encodes ∙ ap (λ (k : ℕ). k * w) (fits h .recordCount));
     few = omega (arith, ap (total (total countOf)) records-are, counts-most (shapeOf table) (fit h) (stateIn (shapeOf table) pool table) (found h .sound));
   }
 
-  tally-is : tallied (recordsIn positions (take (length table - at) (drop at table))) ≡ tallyOf pool table
+  tally-is : tallyOfRecords (recordsIn positions (take (length table - at) (drop at table))) ≡ tallyOf pool table
   unfolding tallyOf tallyIn
-  tally-is = ap tallied records-are ∙ sym (ap tallyIn (h .is))
+  tally-is = ap tallyOfRecords records-are ∙ sym (ap tallyIn (h .is))
 
   -- with the measures as the code read them
   module _ (m : Measures) (em : m ≡ shapeOf table .measures) where
-    pub rows-read : (m .segmentBlocks ≤ 16) × Rows (m .segmentBlocks) (take (length table - at) (drop at table))
+    pub rows-read : (m .segmentBlocks ≤ 16) × TallyRows (m .segmentBlocks) (take (length table - at) (drop at table))
     rows-read = rw em (header h .measured .mostBlocks, rows-of)
 
-    pub tally-read : tallied (recordsIn (m .segmentBlocks) (take (length table - at) (drop at table))) ≡ tallyOf pool table
+    pub tally-read : tallyOfRecords (recordsIn (m .segmentBlocks) (take (length table - at) (drop at table))) ≡ tallyOf pool table
     tally-read = rw em tally-is
 
     pub cells-read : length (namedCells (recordsIn (m .segmentBlocks) (take (length table - at) (drop at table)))) ≡ tallyOf pool table .cells

@@ -10,7 +10,7 @@ use Rattle.model.specs.State.{Segment}
 use Rattle.model.specs.Records.{isFree, cellsOf, namedCells, countOf}
 use Rattle.model.specs.Table.{recordToWords, segmentIn, recordsIn}
 use Rattle.model.specs.Calls as calls
-use Rattle.shelf.specs.Stored.{RecordsTold}
+use Rattle.storage.specs.Stored.{EncodesRecords}
 use Rattle.tally.specs.declared.Tally.{Tally}
 
 abbrev pub tallyAnswer : Tally → calls.TallyAnswer
@@ -28,23 +28,23 @@ inUse zero (suc r) b = 1
 inUse (suc h) r b = 1
 
 -- a row of words is that of a record of n positions
-pub record Row (n : ℕ) (row : List ℕ) : Type 0 where
+pub record TallyRow (n : ℕ) (row : List ℕ) : Type 0 where
   pub sized : length (segmentIn n row) ≡ n
   pub words : row ≡ recordToWords (segmentIn n row)
   pub few : total countOf (segmentIn n row) ≤ 1048576
 
 -- the tally of one record
-pub record Counts (seg : Segment) (r : Tally) : Type 0 where
+pub record TallyOfRecord (seg : Segment) (r : Tally) : Type 0 where
   pub cells : r .cells ≡ length (cellsOf seg)
   pub records : r .records ≡ cond (not (isFree seg)) 1 0
   pub counts : r .counts ≡ total countOf seg
 
 -- words are records', whose counts are not too large to add
-pub record Rows (n : ℕ) (ws : List ℕ) : Type 0 where
-  pub told : RecordsTold n ws (recordsIn n ws)
+pub record TallyRows (n : ℕ) (ws : List ℕ) : Type 0 where
+  pub encodes : EncodesRecords n ws (recordsIn n ws)
   pub short : length ws ≤ 4096 * recordWords n
   pub few : total (total countOf) (recordsIn n ws) ≤ 1048576
 
 -- the tally of all records
-abbrev pub tallied : List Segment → calls.TallyAnswer
-tallied segs = record { refusal = 0; cells = length (namedCells segs); records = count (λ seg. not (isFree seg)) segs; counts = total (total countOf) segs }
+abbrev pub tallyOfRecords : List Segment → calls.TallyAnswer
+tallyOfRecords segs = record { refusal = 0; cells = length (namedCells segs); records = count (λ seg. not (isFree seg)) segs; counts = total (total countOf) segs }

@@ -6,7 +6,7 @@ ghost use Rattle.model.specs.Records.{namedCells};
 ghost use Rattle.model.specs.Table.{segmentIn, recordsIn};
 ghost use Rattle.model.specs.Calls.{tallyOf};
 ghost use Rattle.laws.specs.Stores.{Sound};
-ghost use Rattle.tally.specs.Answers.{sum, inUse, Row, Counts, Rows, tallied, tallyAnswer};
+ghost use Rattle.tally.specs.Answers.{sum, inUse, TallyRow, TallyOfRecord, TallyRows, tallyOfRecords, tallyAnswer};
 
 // Refusal 0 is an accepted call.
 #[repr(C)]
@@ -48,8 +48,8 @@ fn in_use(held: u32, removed: u32, blank: u32) -> u32
 
 // One record, of n positions.
 fn tally_row(row: &[u32], n: usize) -> Tally
-    requires { ⌜ (n ≤ 16) × Row n (now row) ⌝ }
-    ensures { λ r. ⌜ Counts (segmentIn n (now (row .entry))) r ⌝ }
+    requires { ⌜ (n ≤ 16) × TallyRow n (now row) ⌝ }
+    ensures { λ r. ⌜ TallyOfRecord (segmentIn n (now (row .entry))) r ⌝ }
 {
     let records = in_use(row[0], row[1], row[2]);
     let from = 3 + n;
@@ -64,8 +64,8 @@ fn tally_row(row: &[u32], n: usize) -> Tally
 
 // All records.
 fn tally_rows(words: &[u32], n: usize) -> Tally
-    requires { ⌜ (n ≤ 16) × Rows n (now words) ⌝ }
-    ensures { λ r. ⌜ tallyAnswer r ≡ tallied (recordsIn n (now (words .entry))) ⌝ }
+    requires { ⌜ (n ≤ 16) × TallyRows n (now words) ⌝ }
+    ensures { λ r. ⌜ tallyAnswer r ≡ tallyOfRecords (recordsIn n (now (words .entry))) ⌝ }
 {
     let width = numbers::row_words(n);
     let count = numbers::parts(words.len(), width);
@@ -100,7 +100,7 @@ pub fn tally_store(pool: &[u8], table: &[u32]) -> Tally
 
 // The cells alone: one pass over the records' masks of held positions.
 fn cells_in(words: &[u32], n: usize) -> u32
-    requires { ⌜ (n ≤ 16) × Rows n (now words) ⌝ }
+    requires { ⌜ (n ≤ 16) × TallyRows n (now words) ⌝ }
     ensures { λ r. ⌜ (r ≡ length (namedCells (recordsIn n (now (words .entry))))) × (r ≤ 65536) ⌝ }
 {
     let width = numbers::row_words(n);

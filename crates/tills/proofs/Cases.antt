@@ -11,14 +11,14 @@ use Rattle.model.specs.State.{Version, Till}
 use Rattle.model.specs.Table.{shapeOf, stateIn}
 use Rattle.model.specs.Calls.{ListingAnswer, tillOf, heldBefore, missing, firstOf, notHeld, lookUp, oldestNumber, newestNumber, listingRefusal, listTill, listingIn, listingOf}
 use Rattle.laws.proofs.Measures.{sizes}
-use Rattle.laws.specs.Stores.{tillAt, Sound, Header}
+use Rattle.laws.specs.Stores.{tillAt, Sound, HeaderRanges}
 use Rattle.laws.proofs.Stores.{header}
 use Rattle.laws.proofs.Tills.{till, in-words, last-word, held-word, held-place, not-held-some, oldest-at, newest-at, slot-in, number-word}
 use Rattle.tills.specs.declared.Head.{Head}
-use Rattle.tills.specs.Answers.{tillSize, HeadOf, versionsHeld, numbersHeld, PlaceOf, LookedUp}
+use Rattle.tills.specs.Answers.{tillSize, HeadOf, versionsHeld, numbersHeld, PlaceFound, LookedUp}
 use Rattle.lists.proofs.Slices.{drop-end, none-left}
 
-pub small : (table : List ℕ) → Header table → (t : ℕ) → t ≤ 16 → (tillSize table ≤ 65732) × (t * tillSize table ≤ 1051712)
+pub small : (table : List ℕ) → HeaderRanges table → (t : ℕ) → t ≤ 16 → (tillSize table ≤ 65732) × (t * tillSize table ≤ 1051712)
 small table h t n = let (a, b) = sizes t (getD table 1 0) (getD table 2 0) n (h .versions) (h .blocks) in (omega (arith, a), b)
 
 -- where a till begins, with its size in a variable
@@ -100,10 +100,10 @@ module _ {pool table : List ℕ} (h : Sound pool table) (t : ℕ) (in-table : t 
       → getD table (at + (4 + j * (3 + getD table 2 0))) 0 ≡ getD (numbersHeld pool table t) j 0
   number-is at j e l = ap (λ (a : ℕ). getD table (a + (4 + j * (3 + getD table 2 0))) 0) e ∙ number-word h t in-table j l
 
-  pub place-here : (n j : ℕ) → j < length (versionsHeld pool table t) → NoneBefore (numbersHeld pool table t) n j → getD (numbersHeld pool table t) j 0 ≡ n → PlaceOf pool table t n j
+  pub place-here : (n j : ℕ) → j < length (versionsHeld pool table t) → NoneBefore (numbersHeld pool table t) n j → getD (numbersHeld pool table t) j 0 ≡ n → PlaceFound pool table t n j
   place-here n j l f e = let q = held-place n (versionsHeld pool table t) j (omega (arith, l)) f (λ k. e) in record { most = omega (arith, l); from = q .0; before = q .1 }
 
-  pub place-none : (n j : ℕ) → j ≡ length (versionsHeld pool table t) → NoneBefore (numbersHeld pool table t) n j → PlaceOf pool table t n j
+  pub place-none : (n j : ℕ) → j ≡ length (versionsHeld pool table t) → NoneBefore (numbersHeld pool table t) n j → PlaceFound pool table t n j
   place-none n j e f =
       let q = held-place n (versionsHeld pool table t) j (omega (arith, e)) f (λ k. absurd (omega (arith, k, e))) in
       record { most = omega (arith, e); from = q .0; before = q .1 }
@@ -124,7 +124,7 @@ given-missing last n e h = rw (ne-eqb n 0 e, le-ltb last n h)
 
 -- ---- a number looked up, from its place
 
-module _ {pool table : List ℕ} (t n : ℕ) (h : Head) (o : HeadOf pool table t h) (j : ℕ) (p : PlaceOf pool table t n j) where
+module _ {pool table : List ℕ} (t n : ℕ) (h : Head) (o : HeadOf pool table t h) (j : ℕ) (p : PlaceFound pool table t n j) where
   past-missing : (r : ℕ) → r ≡ notHeld (h .last) n → h .held ≤ j → lookUp (tillOf (stateIn (shapeOf table) pool table) t) n ≡ missing r
   unfolding lookUp firstOf
   past-missing r e l =

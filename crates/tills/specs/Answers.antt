@@ -32,7 +32,7 @@ abbrev pub daysHeld : List ℕ → List ℕ → ℕ → List ℕ
 daysHeld pool table t = map (λ (v : Version). v .day) (versionsHeld pool table t)
 
 -- place r is that of version n; past the last if it is not held
-pub record PlaceOf (pool table : List ℕ) (t n r : ℕ) : Type 0 where
+pub record PlaceFound (pool table : List ℕ) (t n r : ℕ) : Type 0 where
   pub most : r ≤ length (versionsHeld pool table t)
   pub from : calls.heldFrom n (versionsHeld pool table t) ≡ drop r (versionsHeld pool table t)
   pub before : calls.heldBefore n (versionsHeld pool table t) ≡ take r (versionsHeld pool table t)

@@ -4,8 +4,8 @@ ghost use Prim.Native.Nat.{ℕ, _<_};
 ghost use lib.ListN.{length, getD};
 ghost use Rattle.model.specs.Table.{shapeOf, stateIn};
 ghost use Rattle.model.specs.Calls.{tillOf, newestDay, notHeld, listingOf, versionOnOf};
-ghost use Rattle.laws.specs.Stores.{tillAt, recordsFrom, Sound, Header};
-ghost use Rattle.tills.specs.Answers.{tillSize, HeadOf, versionsHeld, numbersHeld, daysHeld, PlaceOf, LookedUp, UptoDay, listingAnswer, versionFound};
+ghost use Rattle.laws.specs.Stores.{tillAt, recordsFrom, Sound, HeaderRanges};
+ghost use Rattle.tills.specs.Answers.{tillSize, HeadOf, versionsHeld, numbersHeld, daysHeld, PlaceFound, LookedUp, UptoDay, listingAnswer, versionFound};
 
 // Refusal 0 is an accepted call.
 #[repr(C)]
@@ -37,7 +37,7 @@ pub struct Found {
 
 // How many words a till has.
 pub fn till_words(table: &[u32]) -> usize
-    requires { ⌜ Header (now table) ⌝ }
+    requires { ⌜ HeaderRanges (now table) ⌝ }
     ensures { λ r. ⌜ r ≡ tillSize (now (table .entry)) ⌝ }
 {
     4 + table[1] as usize * (3 + table[2] as usize)
@@ -45,7 +45,7 @@ pub fn till_words(table: &[u32]) -> usize
 
 // Where the records' words begin.
 pub fn records_at(table: &[u32]) -> usize
-    requires { ⌜ Header (now table) ⌝ }
+    requires { ⌜ HeaderRanges (now table) ⌝ }
     ensures { λ r. ⌜ r ≡ recordsFrom (shapeOf (now (table .entry))) ⌝ }
 {
     layout::HEADER_WORDS + table[0] as usize * till_words(table)
@@ -76,7 +76,7 @@ fn number_at(pool: &[u8], table: &[u32], till: u32, at: usize, j: usize) -> u32
 // The place of a version among those held, the oldest first; past the last if it is not held.
 fn place_of(pool: &[u8], table: &[u32], till: u32, head: Head, version: u32) -> usize
     requires { ⌜ Sound (now pool) (now table) × (till < getD (now table) 0 0) × HeadOf (now pool) (now table) till head ⌝ }
-    ensures { λ r. ⌜ PlaceOf (now (pool .entry)) (now (table .entry)) till version r ⌝ }
+    ensures { λ r. ⌜ PlaceFound (now (pool .entry)) (now (table .entry)) till version r ⌝ }
 {
     let held = head.held as usize;
     let mut j: usize = 0;

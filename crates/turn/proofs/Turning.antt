@@ -19,15 +19,15 @@ use Rattle.lists.proofs.Tests.{by-test}
 use Rattle.model.specs.Image.{blockFrom, blocksFrom, imageBlocks, isBlank, withBlanks}
 use Rattle.model.specs.Measures.{Measures, partsFor, recordWords}
 use Rattle.model.specs.Records.{cellAt, cellOf, positionAt}
-use Rattle.model.specs.State.{Block, Pointer, Shelf, indirect, blankPointer, nullPosition}
-use Rattle.model.specs.Table.{cellsIn, pointerOf, pointerWord, recordsIn, shelfIn, wordToPointer}
+use Rattle.model.specs.State.{Block, Pointer, Storage, indirect, blankPointer, nullPosition}
+use Rattle.model.specs.Table.{cellsIn, pointerOf, pointerWord, recordsIn, storageIn, wordToPointer}
 use Rattle.model.specs.Turn.{foundOr, indirectAt, target, turn, turnsTo, turning}
 use Rattle.laws.proofs.Image.{blocks-next}
 use Rattle.laws.proofs.Measures.{parts-few}
-use Rattle.shelf.specs.Fits.{Fits}
-use Rattle.shelf.specs.Stored.{Stored}
-use Rattle.shelf.proofs.Inside.{cell-bytes, cell-inside, cell-room}
-use Rattle.turn.specs.Turn.{WordFits, keptWord, releasedOf, targetOf, targetWord}
+use Rattle.storage.specs.Fits.{WithinRecords}
+use Rattle.storage.specs.Stored.{Stored}
+use Rattle.storage.proofs.Inside.{cell-bytes, cell-inside, cell-room}
+use Rattle.turn.specs.Turn.{WordFits, wordIf, releasedOf, targetOf, targetWord}
 
 -- ---- the first equal block
 
@@ -78,17 +78,17 @@ module _ (bytes : ℕ) (f : Block → Bool) (image : List ℕ) (count : ℕ) whe
 
 -- ---- the target of a word
 
-kind-none : (w kind n : ℕ) (shelf : Shelf) (image : List Block) → (kind ≡ 1 → ⊥) → target withBlanks shelf image (pointerOf kind n) ≡ none
+kind-none : (w kind n : ℕ) (storage : Storage) (image : List Block) → (kind ≡ 1 → ⊥) → target withBlanks storage image (pointerOf kind n) ≡ none
 unfolding target pointerOf
-kind-none w zero n shelf image h = refl
-kind-none w (suc zero) n shelf image h = absurd (h refl)
-kind-none w (suc (suc zero)) n shelf image h = refl
-kind-none w (suc (suc (suc zero))) n shelf image h = refl
-kind-none w (suc (suc (suc (suc k)))) n shelf image h = refl
+kind-none w zero n storage image h = refl
+kind-none w (suc zero) n storage image h = absurd (h refl)
+kind-none w (suc (suc zero)) n storage image h = refl
+kind-none w (suc (suc (suc zero))) n storage image h = refl
+kind-none w (suc (suc (suc (suc k)))) n storage image h = refl
 
 pub target-none : (m : Measures) (image pool ws : List ℕ) (w : ℕ) → (w / 16777216 ≡ 1 → ⊥) → w ≡ targetOf m image pool ws w
 unfolding targetOf targetWord wordToPointer
-target-none m image pool ws w h = rw (kind-none w (w / 16777216) (w % 16777216) (shelfIn m pool ws) (imageBlocks (m .blockBytes) image) h)
+target-none m image pool ws w h = rw (kind-none w (w / 16777216) (w % 16777216) (storageIn m pool ws) (imageBlocks (m .blockBytes) image) h)
 
 -- a word of kind 1 and its cell
 module _ (m : Measures) (image pool ws : List ℕ) (st : Stored m pool ws) (w : ℕ) (one : w / 16777216 ≡ 1) where
@@ -98,23 +98,23 @@ module _ (m : Measures) (image pool ws : List ℕ) (st : Stored m pool ws) (w : 
   abbrev i : ℕ
   i = w % 16777216 % 16
 
-  pub there : Fits (m .segmentBlocks) (length ws) (wordToPointer w) → (k * recordWords (m .segmentBlocks) + recordWords (m .segmentBlocks) ≤ length ws) × (i < m .segmentBlocks)
-  unfolding wordToPointer pointerOf Fits
+  pub there : WithinRecords (m .segmentBlocks) (length ws) (wordToPointer w) → (k * recordWords (m .segmentBlocks) + recordWords (m .segmentBlocks) ≤ length ws) × (i < m .segmentBlocks)
+  unfolding wordToPointer pointerOf WithinRecords
   there f = rw one at f
 
   module _ (c : ℕ) (ec : c ≡ cellOf (getD (getD (recordsIn (m .segmentBlocks) ws) k []) i nullPosition)) where
     inside : c < length (cellsIn (m .blockBytes) pool)
-    unfolding shelfIn
+    unfolding storageIn
     inside = subst (λ (x : ℕ). x < length (cellsIn (m .blockBytes) pool)) (sym ec) (cell-inside st k i)
 
     pub cell-fits : c * m .blockBytes + m .blockBytes ≤ length pool
-    unfolding shelfIn
+    unfolding storageIn
     cell-fits = cell-room st c inside
 
     -- with the cell's first byte as the code has it
     pub target-is : (start r : ℕ) → start ≡ c * m .blockBytes
         → r ≡ targetWord w (turnsTo withBlanks (imageBlocks (m .blockBytes) image) (take (start + m .blockBytes - start) (drop start pool))) → r ≡ targetOf m image pool ws w
-    unfolding targetOf wordToPointer pointerOf target positionAt cellAt shelfIn
+    unfolding targetOf wordToPointer pointerOf target positionAt cellAt storageIn
     target-is start r es e =
         let z : start + m .blockBytes - start ≡ m .blockBytes = omega arith in
         e ∙ rw (one, ← ec, z, es, cell-bytes (m .blockBytes) pool c (omega (arith, st .measured .someBytes)) cell-fits)
@@ -161,42 +161,42 @@ turns-apart w one image b = by-test (Apart w) (isBlank withBlanks b) (λ e. blan
     blank-apart : pointerWord blankPointer ≡ w → ⊥
     blank-apart e = unfold pointerWord in omega (arith, one, e)
 
-kind-apart : (w kind n : ℕ) (shelf : Shelf) (image : List Block) → w / 16777216 ≡ kind → Apart w (target withBlanks shelf image (pointerOf kind n))
+kind-apart : (w kind n : ℕ) (storage : Storage) (image : List Block) → w / 16777216 ≡ kind → Apart w (target withBlanks storage image (pointerOf kind n))
 unfolding target pointerOf
-kind-apart w zero n shelf image e = tt
-kind-apart w (suc zero) n shelf image e = turns-apart w e image (cellAt shelf (cellOf (positionAt shelf (n / 16) (n % 16))))
-kind-apart w (suc (suc zero)) n shelf image e = tt
-kind-apart w (suc (suc (suc zero))) n shelf image e = tt
-kind-apart w (suc (suc (suc (suc k)))) n shelf image e = tt
+kind-apart w zero n storage image e = tt
+kind-apart w (suc zero) n storage image e = turns-apart w e image (cellAt storage (cellOf (positionAt storage (n / 16) (n % 16))))
+kind-apart w (suc (suc zero)) n storage image e = tt
+kind-apart w (suc (suc (suc zero))) n storage image e = tt
+kind-apart w (suc (suc (suc (suc k)))) n storage image e = tt
 
-target-apart : (w : ℕ) (shelf : Shelf) (image : List Block) → Apart w (target withBlanks shelf image (wordToPointer w))
+target-apart : (w : ℕ) (storage : Storage) (image : List Block) → Apart w (target withBlanks storage image (wordToPointer w))
 unfolding wordToPointer
-target-apart w shelf image = kind-apart w (w / 16777216) (w % 16777216) shelf image refl
+target-apart w storage image = kind-apart w (w / 16777216) (w % 16777216) storage image refl
 
 module _ (m : Measures) (image pool ws : List ℕ) (n l : ℕ) where
-  abbrev shelf : Shelf
-  shelf = shelfIn m pool ws
+  abbrev storage : Storage
+  storage = storageIn m pool ws
 
   abbrev blocks : List Block
   blocks = imageBlocks (m .blockBytes) image
 
-  pub turned-all : (vs : List ℕ) → ((b : ℕ) → b < length vs → WordFits n l (getD vs b 0)) → map (targetOf m image pool ws) vs ≡ map pointerWord (turn withBlanks shelf blocks (map wordToPointer vs))
+  pub turned-all : (vs : List ℕ) → ((b : ℕ) → b < length vs → WordFits n l (getD vs b 0)) → map (targetOf m image pool ws) vs ≡ map pointerWord (turn withBlanks storage blocks (map wordToPointer vs))
   unfolding turn targetOf
   turned-all [] f = refl
   turned-all (v ∷ vs) f =
-      ap₂ (λ (x : ℕ) (xs : List ℕ). x ∷ xs) (word-turns v (wordToPointer v) (target withBlanks shelf blocks (wordToPointer v)) (f 0 (omega arith) .says)) (turned-all vs (λ b h. f (suc b) (omega arith)))
+      ap₂ (λ (x : ℕ) (xs : List ℕ). x ∷ xs) (word-turns v (wordToPointer v) (target withBlanks storage blocks (wordToPointer v)) (f 0 (omega arith) .canonical)) (turned-all vs (λ b h. f (suc b) (omega arith)))
 
   pub released-all : (vs : List ℕ) → ((b : ℕ) → b < length vs → WordFits n l (getD vs b 0))
-      → releasedOf vs (map (targetOf m image pool ws) vs) ≡ map pointerWord (turning withBlanks shelf blocks (map wordToPointer vs))
+      → releasedOf vs (map (targetOf m image pool ws) vs) ≡ map pointerWord (turning withBlanks storage blocks (map wordToPointer vs))
   unfolding turning keep targetOf releasedOf
   released-all [] f = refl
   released-all (v ∷ vs) f =
-      word-kept v (wordToPointer v) (target withBlanks shelf blocks (wordToPointer v)) (releasedOf vs (map (targetOf m image pool ws) vs)) (turning withBlanks shelf blocks (map wordToPointer vs)) (f 0 (omega arith) .says)
-      (target-apart v shelf blocks) (released-all vs (λ b h. f (suc b) (omega arith)))
+      word-kept v (wordToPointer v) (target withBlanks storage blocks (wordToPointer v)) (releasedOf vs (map (targetOf m image pool ws) vs)) (turning withBlanks storage blocks (map wordToPointer vs)) (f 0 (omega arith) .canonical)
+      (target-apart v storage blocks) (released-all vs (λ b h. f (suc b) (omega arith)))
 
 -- ---- the words that are released, one by one
 
-pub released-step : (ps ts : List ℕ) (b : ℕ) → b < length ps → b < length ts → releasedOf (drop b ps) (drop b ts) ≡ keptWord (getD ps b 0) (getD ts b 0) ++ releasedOf (drop (b + 1) ps) (drop (b + 1) ts)
+pub released-step : (ps ts : List ℕ) (b : ℕ) → b < length ps → b < length ts → releasedOf (drop b ps) (drop b ts) ≡ wordIf (getD ps b 0) (getD ts b 0) ++ releasedOf (drop (b + 1) ps) (drop (b + 1) ts)
 unfolding releasedOf
 released-step ps ts b h l = rw (drop-next ps b 0 h, drop-next ts b 0 l) (go (eqb (getD ts b 0) (getD ps b 0)))
   where
@@ -208,10 +208,10 @@ pub released-end : (ps ts : List ℕ) (b : ℕ) → length ps ≤ b → released
 unfolding releasedOf
 released-end ps ts b h = rw (drop-end ps b h)
 
-pub kept-not : (w t m : ℕ) (out : List ℕ) → t ≡ w → take m out ≡ take m out ++ keptWord w t
+pub kept-not : (w t m : ℕ) (out : List ℕ) → t ≡ w → take m out ≡ take m out ++ wordIf w t
 kept-not w t m out e = rw (eq-eqb t w e) (sym (append-nil (take m out)))
 
-pub kept-put : (w t m : ℕ) (out : List ℕ) → (t ≡ w → ⊥) → m < length out → take (m + 1) (set out m w) ≡ take m out ++ keptWord w t
+pub kept-put : (w t m : ℕ) (out : List ℕ) → (t ≡ w → ⊥) → m < length out → take (m + 1) (set out m w) ≡ take m out ++ wordIf w t
 kept-put w t m out n h = rw (ne-eqb t w n, add-one m) (take-suc-set out m w h)
 
 -- all words are written

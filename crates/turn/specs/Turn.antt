@@ -8,19 +8,19 @@ use lib.Dec.{eqb}
 use Rattle.model.specs.Image.{imageBlocks, withBlanks}
 use Rattle.model.specs.Measures.{Measures}
 use Rattle.model.specs.State.{Pointer}
-use Rattle.model.specs.Table.{pointerWord, shelfIn, wordToPointer}
+use Rattle.model.specs.Table.{pointerWord, storageIn, wordToPointer}
 use Rattle.model.specs.Turn.{target}
-use Rattle.shelf.specs.Fits.{Fits}
+use Rattle.storage.specs.Fits.{WithinRecords}
 
 -- the word is that of a pointer, which can be followed into the records' `l` words, of `n` positions each
 pub record WordFits (n l w : ℕ) : Type 0 where
-  pub says : pointerWord (wordToPointer w) ≡ w
-  pub fits : Fits n l (wordToPointer w)
+  pub canonical : pointerWord (wordToPointer w) ≡ w
+  pub fits : WithinRecords n l (wordToPointer w)
 
 -- a pointer that its word gives back, and that can be followed there
 pub record Followable (n l : ℕ) (p : Pointer) : Type 0 where
   pub back : wordToPointer (pointerWord p) ≡ p
-  pub fits : Fits n l p
+  pub fits : WithinRecords n l p
 
 -- a pointer's word once the pointer has turned, if it does
 unfoldable pub targetWord : ℕ → Option Pointer → ℕ
@@ -29,7 +29,7 @@ targetWord w (some q) = pointerWord q
 
 -- what a pointer's word turns into, as a word
 unfoldable pub targetOf : Measures → List ℕ → List ℕ → List ℕ → ℕ → ℕ
-targetOf m image pool ws w = targetWord w (target withBlanks (shelfIn m pool ws) (imageBlocks (m .blockBytes) image) (wordToPointer w))
+targetOf m image pool ws w = targetWord w (target withBlanks (storageIn m pool ws) (imageBlocks (m .blockBytes) image) (wordToPointer w))
 
 -- those of the words whose target is another
 unfoldable pub releasedOf : List ℕ → List ℕ → List ℕ
@@ -37,5 +37,5 @@ releasedOf [] ts = []
 releasedOf (w ∷ ws) [] = []
 releasedOf (w ∷ ws) (t ∷ ts) = let r = releasedOf ws ts in cond (eqb t w) r (w ∷ r)
 
-abbrev pub keptWord : ℕ → ℕ → List ℕ
-keptWord w t = cond (eqb t w) [] (w ∷ [])
+abbrev pub wordIf : ℕ → ℕ → List ℕ
+wordIf w t = cond (eqb t w) [] (w ∷ [])

@@ -6,10 +6,10 @@ ghost use lib.ListN.{length, getD, take};
 ghost use Rattle.lists.specs.Lists.{sameNumbers, firstFrom};
 ghost use Rattle.model.specs.Image.{blockFrom, imageBlocks, withBlanks};
 ghost use Rattle.model.specs.Turn.{indirectAt, turnsTo, turn, turning};
-ghost use Rattle.model.specs.Table.{shelfIn, pointerWord, wordToPointer};
+ghost use Rattle.model.specs.Table.{storageIn, pointerWord, wordToPointer};
 ghost use Rattle.numbers.specs.Measures.{measuresOf};
-ghost use Rattle.shelf.specs.Stored.{Stored};
-ghost use Rattle.turn.specs.Turn.{WordFits, targetWord, targetOf, releasedOf, keptWord};
+ghost use Rattle.storage.specs.Stored.{Stored};
+ghost use Rattle.turn.specs.Turn.{WordFits, targetWord, targetOf, releasedOf, wordIf};
 use numbers::Block;
 use numbers::Measures;
 use numbers::Pointer;
@@ -63,7 +63,7 @@ fn target_of(pointer: Pointer, image: &[u8], pool: &[u8], records: &[u32], m: Me
     if !pointer.is_direct() {
         return pointer;
     }
-    let cell = trace::cell_of(records, pointer.record(), pointer.position(), m.blocks);
+    let cell = restore_trace::cell_of(records, pointer.record(), pointer.position(), m.blocks);
     let start = cell.byte(m.bytes);
     let end = start + m.bytes;
     turned_to(pointer, image, &pool[start..end], m.bytes)
@@ -92,7 +92,7 @@ fn find_targets(
 // A pointer that turns is added to the list: its target is another.
 fn keep_pointer(pointer: Pointer, target: Pointer, out: &mut [u32], m: usize) -> usize
     requires { ⌜ m < length (now out) ⌝ }
-    ensures { λ r. ⌜ (take r (now (out .exit)) ≡ take m (now (out .entry)) ++ keptWord (pointer .0) (target .0)) × (r ≤ m + 1) ⌝ }
+    ensures { λ r. ⌜ (take r (now (out .exit)) ≡ take m (now (out .entry)) ++ wordIf (pointer .0) (target .0)) × (r ≤ m + 1) ⌝ }
 {
     if target.0 == pointer.0 {
         return m;
@@ -126,7 +126,7 @@ pub fn turn_pointers(
     m: Measures,
 ) -> usize
     requires { ⌜ (length (now image) ≤ 65536) × Stored (measuresOf m) (now pool) (now records) × (length (now targets) ≡ length (now pointers)) × (length (now pointers) ≤ length (now out)) × ((b : ℕ) → b < length (now pointers) → WordFits (m .blocks) (length (now records)) (getD (now pointers) b 0)) ⌝ }
-    ensures { λ r. ⌜ (now (pointers .exit) ≡ map pointerWord (turn withBlanks (shelfIn (measuresOf m) (now (pool .entry)) (now (records .entry))) (imageBlocks (m .bytes) (now (image .entry))) (map wordToPointer (now (pointers .entry))))) × (take r (now (out .exit)) ≡ map pointerWord (turning withBlanks (shelfIn (measuresOf m) (now (pool .entry)) (now (records .entry))) (imageBlocks (m .bytes) (now (image .entry))) (map wordToPointer (now (pointers .entry))))) × (r ≤ length (now (pointers .entry))) ⌝ }
+    ensures { λ r. ⌜ (now (pointers .exit) ≡ map pointerWord (turn withBlanks (storageIn (measuresOf m) (now (pool .entry)) (now (records .entry))) (imageBlocks (m .bytes) (now (image .entry))) (map wordToPointer (now (pointers .entry))))) × (take r (now (out .exit)) ≡ map pointerWord (turning withBlanks (storageIn (measuresOf m) (now (pool .entry)) (now (records .entry))) (imageBlocks (m .bytes) (now (image .entry))) (map wordToPointer (now (pointers .entry))))) × (r ≤ length (now (pointers .entry))) ⌝ }
 {
     find_targets(pointers, image, pool, records, targets, m);
     let r = list_released(pointers, targets, out);

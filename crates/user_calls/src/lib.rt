@@ -10,7 +10,7 @@ ghost use Rattle.chain.specs.Limit.{within};
 ghost use Rattle.backup.specs.Call.{backedUpAnswer};
 ghost use Rattle.tills.specs.Answers.{listingAnswer, versionFound};
 ghost use Rattle.restore.specs.Answers.{restoreAnswer};
-ghost use Rattle.retire.specs.Answers.{retireAnswer};
+ghost use Rattle.retire.specs.Answers.{retiredAnswer};
 ghost use Rattle.tally.specs.Answers.{tallyAnswer};
 ghost use Rattle.stream.specs.Version.{writeStreamAs};
 ghost use Rattle.stream_write.specs.Answers.{streamWritten};
@@ -19,11 +19,11 @@ ghost use Rattle.sent_offer.specs.Offer.{offered};
 ghost use Rattle.bill.specs.Bill.{billAs};
 ghost use Rattle.bill_sums.specs.Answers.{billed};
 use backup::BackedUp;
+use backup_steps::Limit;
 use bill_sums::Bill;
 use restore::Restored;
 use retire::Retired;
 use rights::Right;
-use shelve::Limit;
 use stream_write::StreamWritten;
 use tally::Tally;
 use tills::Listing;
@@ -97,7 +97,7 @@ pub fn restore(
 
 pub fn retire(pool: &mut [u8], table: &mut [u32], user: u32, till: u32, version: u32) -> Retired
     requires { ⌜ Sound (now pool) (now table) ⌝ }
-    ensures { λ r. ⌜ retireAnswer r (now (pool .exit)) (now (table .exit)) ≡ retireAs (now (pool .entry)) (now (table .entry)) user till version ⌝ }
+    ensures { λ r. ⌜ retiredAnswer r (now (pool .exit)) (now (table .exit)) ≡ retireAs (now (pool .entry)) (now (table .entry)) user till version ⌝ }
 {
     let refusal = rights::refusal(pool, table, user, till, Right::Retire);
     if refusal != 0 {

@@ -8,7 +8,7 @@ use Rattle.audit.proofs.sound.Statement.{statement}
 use Rattle.audit.proofs.sound.Tie as tie
 use Rattle.audit.proofs.sound.Reads as reads
 use Rattle.audit.proofs.sound.Lts as lts
-use Rattle.audit.proofs.body_good.Reads as body-good-reads
+use Rattle.audit.proofs.body_sound.Reads as body-sound-reads
 use Rattle.audit_header.proofs.header.Reads as header-reads
 use Rattle.layout.proofs.measures_in.Reads as measures-in-reads
 
@@ -25,13 +25,13 @@ measures-in-requires : tie.Need-measures-in-requires
 measures-in-requires c κs = header-long _ _ (proves (c .before .header .ensures) (c .if1 .left))
 
 -- src/lib.rt:106:5
-body-good-requires : tie.Need-body-good-requires
-body-good-requires c κs = header-body _ _ (proves (c .before .before .header .ensures) (c .before .if1 .left)) _ (c .measures-in .ensures)
+body-sound-requires : tie.Need-body-sound-requires
+body-sound-requires c κs = header-body _ _ (proves (c .before .before .header .ensures) (c .before .if1 .left)) _ (c .measures-in .ensures)
 
 -- src/lib.rt:99:1
 returns-2 : tie.Need-returns-2
-returns-2 c = with-header (c .before .before .before .before .before .before .args .pool .now) (c .before .before .before .before .before .before .args .table .now) _ (c .before .measures-in .ensures) (c .before .before .before .header .ensures) (not-false _ (c .before .before .if1 .left)) (c .body-good .ensures)
+returns-2 c = with-header (c .before .before .before .before .before .before .args .pool .now) (c .before .before .before .before .before .before .args .table .now) _ (c .before .measures-in .ensures) (c .before .before .before .header .ensures) (not-false _ (c .before .before .if1 .left)) (c .body-sound .ensures)
 
 pub sound-spec : {M : Type 1} → statement M
 sound-spec =
-    tie.close (tie.spec header-requires returns measures-in-requires body-good-requires returns-2)
+    tie.close (tie.spec header-requires returns measures-in-requires body-sound-requires returns-2)

@@ -12,7 +12,7 @@ use Rattle.audit_cells.proofs.cells_filled.Statement.{statement}
 use Rattle.audit_cells.proofs.cells_filled.Tie as tie
 use Rattle.audit_cells.proofs.cells_filled.Reads as reads
 use Rattle.audit_cells.proofs.cells_filled.Lts as lts
-use Rattle.audit_cells.proofs.cell_says.Reads as cell-says-reads
+use Rattle.audit_cells.proofs.cell_matches.Reads as cell-matches-reads
 use Rattle.numbers.proofs.parts.Reads as parts-reads
 
 abbrev Inv-loop : tie.InvT-loop
@@ -37,16 +37,16 @@ cast-t8 : tie.Need-cast-t8 Inv-loop μ-loop
 cast-t8 c = omega (arith, c .before .loop .inv .1)
 
 -- src/lib.rt:93:45
-shared-slice-read-cell-says : tie.Need-shared-slice-read-cell-says Inv-loop μ-loop
-shared-slice-read-cell-says c = omega (arith, c .before .before .loop .inv .1)
+shared-slice-read-cell-matches : tie.Need-shared-slice-read-cell-matches Inv-loop μ-loop
+shared-slice-read-cell-matches c = omega (arith, c .before .before .loop .inv .1)
 
 -- src/lib.rt:93:13
-cell-says-requires : tie.Need-cell-says-requires Inv-loop μ-loop
-cell-says-requires c κs = (omega arith, inside (c .before), search needs, search needs)
+cell-matches-requires : tie.Need-cell-matches-requires Inv-loop μ-loop
+cell-matches-requires c κs = (omega arith, inside (c .before), search needs, search needs)
 
 -- src/lib.rt:94:13
 returns : tie.Need-returns Inv-loop μ-loop
-returns c = is-not (λ e. refutes (c .before .cell-says .ensures) (c .if1 .taken) (e (c .before .before .before .before .loop .c) (omega (arith, c .before .before .before .before .loop .inv .1))))
+returns c = is-not (λ e. refutes (c .before .cell-matches .ensures) (c .if1 .taken) (e (c .before .before .before .before .loop .c) (omega (arith, c .before .before .before .before .loop .inv .1))))
 
 -- src/lib.rt:96:9
 add-c : tie.Need-add-c Inv-loop μ-loop
@@ -58,7 +58,7 @@ loop-less c = omega arith
 
 -- src/lib.rt:92:5
 loop-again : tie.Need-loop-again Inv-loop μ-loop
-loop-again c = (omega arith, c .before .before .before .before .loop .inv .1, below-more _ _ (c .before .before .before .before .loop .inv .2) (proves (c .before .cell-says .ensures) (c .if1 .left)))
+loop-again c = (omega arith, c .before .before .before .before .loop .inv .1, below-more _ _ (c .before .before .before .before .loop .inv .2) (proves (c .before .cell-matches .ensures) (c .if1 .left)))
 
 -- src/lib.rt:86:1
 returns-2 : tie.Need-returns-2 Inv-loop μ-loop
@@ -73,8 +73,8 @@ cells-filled-spec =
     parts-requires
     loop-holds
     cast-t8
-    shared-slice-read-cell-says
-    cell-says-requires
+    shared-slice-read-cell-matches
+    cell-matches-requires
     returns
     add-c
     loop-less

@@ -6,7 +6,7 @@ use mathlib.Core.List.{List}
 use Prim.Native.Nat.{ℕ, _+_, _*_, _-_, _/_, _≤_}
 use lib.ListN.{length, take, drop}
 use borrow.Author.Tests.{not-true, not-false}
-use Rattle.lists.specs.Marks.{Marks, collect}
+use Rattle.lists.specs.Marks.{MarkResult, collect}
 use Rattle.lists.proofs.Marks.{Going, starts, again, fails, ends}
 use Rattle.lists.proofs.Answers.{part-is, part-long}
 use Rattle.lists.proofs.Places.{row-in}
@@ -29,11 +29,11 @@ abbrev μ-loop : tie.MeasureT-loop
 μ-loop records n cells occupied₀ width count k₀ occupied k = count - k
 
 whole : (n : ℕ) (ws : List ℕ) (w : ℕ) (r : Bool) (c m : ℕ) (before after : List Bool) → w ≡ recordWords n → c ≡ length ws / w
-    → Marks r m (collect (cells-in n ws) 0 c) before after → Marks r m (namedCells (recordsIn n ws)) before after
+    → MarkResult r m (collect (cells-in n ws) 0 c) before after → MarkResult r m (namedCells (recordsIn n ws)) before after
 whole n ws w r c m before after ew e h = rw (all-cells n ws c (rw ew at e)) at h
 
-row : (n : ℕ) (ws : List ℕ) (w k : ℕ) (r : Bool) (m : ℕ) (before after : List Bool) → w ≡ recordWords n → Marks r m (cellsOf (segmentIn n (take (k * w + w - k * w) (drop (k * w) ws)))) before after
-    → Marks r m (cells-in n ws k) before after
+row : (n : ℕ) (ws : List ℕ) (w k : ℕ) (r : Bool) (m : ℕ) (before after : List Bool) → w ≡ recordWords n → MarkResult r m (cellsOf (segmentIn n (take (k * w + w - k * w) (drop (k * w) ws)))) before after
+    → MarkResult r m (cells-in n ws k) before after
 row n ws w k r m before after ew h = rw (← ew) (rw (part-is ws (k * w) w) at h)
 
 inside : (c : tie.In-loop Inv-loop μ-loop) → (let w = c .before .before .before .row-words .result in c .before .loop .k * w + w ≤ length (c .before .before .before .before .before .before .args .records .now))

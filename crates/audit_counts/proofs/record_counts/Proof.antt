@@ -11,7 +11,7 @@ use Rattle.audit_counts.proofs.record_counts.Statement.{statement}
 use Rattle.audit_counts.proofs.record_counts.Tie as tie
 use Rattle.audit_counts.proofs.record_counts.Reads as reads
 use Rattle.audit_counts.proofs.record_counts.Lts as lts
-use Rattle.audit_counts.proofs.count_says.Reads as count-says-reads
+use Rattle.audit_counts.proofs.count_exact.Reads as count-exact-reads
 
 abbrev Inv-loop : tie.InvT-loop
 Inv-loop row counts n m₀ m = (m < 2 ^ 32) × Left n m row counts
@@ -45,36 +45,36 @@ returns : tie.Need-returns Inv-loop μ-loop
 returns c = is-so (left-past _ _ _ _ _ (first (c .before)) (c .before .before .loop .inv .1) (c .if1 .taken))
 
 -- src/lib.rt:48:28
-add-count-says : tie.Need-add-count-says Inv-loop μ-loop
-add-count-says c = omega (arith, small (c .before))
+add-count-exact : tie.Need-add-count-exact Inv-loop μ-loop
+add-count-exact c = omega (arith, small (c .before))
 
 -- src/lib.rt:48:28
-add-count-says-2 : tie.Need-add-count-says-2 Inv-loop μ-loop
-add-count-says-2 c = omega (arith, small (c .before), c .before .before .before .before .before .before .pre .0)
+add-count-exact-2 : tie.Need-add-count-exact-2 Inv-loop μ-loop
+add-count-exact-2 c = omega (arith, small (c .before), c .before .before .before .before .before .before .pre .0)
 
 -- src/lib.rt:48:24
-mul-count-says : tie.Need-mul-count-says Inv-loop μ-loop
-mul-count-says c = omega (arith, small (c .before), c .before .before .before .before .before .before .pre .0)
+mul-count-exact : tie.Need-mul-count-exact Inv-loop μ-loop
+mul-count-exact c = omega (arith, small (c .before), c .before .before .before .before .before .before .pre .0)
 
 -- src/lib.rt:48:24
-shared-slice-read-count-says : tie.Need-shared-slice-read-count-says Inv-loop μ-loop
-shared-slice-read-count-says c = search needs
+shared-slice-read-count-exact : tie.Need-shared-slice-read-count-exact Inv-loop μ-loop
+shared-slice-read-count-exact c = search needs
 
 -- src/lib.rt:48:40
-mul-count-says-2 : tie.Need-mul-count-says-2 Inv-loop μ-loop
-mul-count-says-2 c = omega (arith, small (c .before .before))
+mul-count-exact-2 : tie.Need-mul-count-exact-2 Inv-loop μ-loop
+mul-count-exact-2 c = omega (arith, small (c .before .before))
 
 -- src/lib.rt:48:40
-shared-slice-read-count-says-2 : tie.Need-shared-slice-read-count-says-2 Inv-loop μ-loop
-shared-slice-read-count-says-2 c = search needs
+shared-slice-read-count-exact-2 : tie.Need-shared-slice-read-count-exact-2 Inv-loop μ-loop
+shared-slice-read-count-exact-2 c = search needs
 
 -- src/lib.rt:48:13
-count-says-requires : tie.Need-count-says-requires Inv-loop μ-loop
-count-says-requires c κs = search needs
+count-exact-requires : tie.Need-count-exact-requires Inv-loop μ-loop
+count-exact-requires c κs = search needs
 
 -- src/lib.rt:49:13
 returns-2 : tie.Need-returns-2 Inv-loop μ-loop
-returns-2 c = is-not (λ f. refutes (c .before .count-says .ensures) (c .if2 .taken) (f _ (c .before .before .before .before .if1 .left) (left-held _ _ _ _ _ (first (c .before .before .before .before .before)) (c .before .before .before .before .before .before .loop .inv .1))))
+returns-2 c = is-not (λ f. refutes (c .before .count-exact .ensures) (c .if2 .taken) (f _ (c .before .before .before .before .if1 .left) (left-held _ _ _ _ _ (first (c .before .before .before .before .before)) (c .before .before .before .before .before .before .loop .inv .1))))
 
 -- src/lib.rt:51:18
 shl-m : tie.Need-shl-m Inv-loop μ-loop
@@ -90,7 +90,7 @@ loop-less c = omega (arith, power (c .before .before .before .before .before), f
 
 -- src/lib.rt:42:5
 loop-again : tie.Need-loop-again Inv-loop μ-loop
-loop-again c = rw (power (c .before .before .before .before .before)) (omega (arith, c .before .before .before .before .before .before .loop .inv .0), left-less _ _ _ _ _ (first (c .before .before .before .before .before)) (c .before .before .before .before .before .before .loop .inv .1) (proves (c .before .count-says .ensures) (c .if2 .left)))
+loop-again c = rw (power (c .before .before .before .before .before)) (omega (arith, c .before .before .before .before .before .before .loop .inv .0), left-less _ _ _ _ _ (first (c .before .before .before .before .before)) (c .before .before .before .before .before .before .loop .inv .1) (proves (c .before .count-exact .ensures) (c .if2 .left)))
 
 -- src/lib.rt:37:1
 returns-3 : tie.Need-returns-3 Inv-loop μ-loop
@@ -106,13 +106,13 @@ record-counts-spec =
     loop-holds
     cast-i
     returns
-    add-count-says
-    add-count-says-2
-    mul-count-says
-    shared-slice-read-count-says
-    mul-count-says-2
-    shared-slice-read-count-says-2
-    count-says-requires
+    add-count-exact
+    add-count-exact-2
+    mul-count-exact
+    shared-slice-read-count-exact
+    mul-count-exact-2
+    shared-slice-read-count-exact-2
+    count-exact-requires
     returns-2
     shl-m
     sub-m

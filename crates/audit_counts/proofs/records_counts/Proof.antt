@@ -7,13 +7,13 @@ use Prim.Native.Nat.{ℕ, _+_, _*_, _-_, _/_, _≤_, _<_}
 use lib.ListN.{length, getD, take, drop, length-drop}
 use lib.Seq.{getD-drop}
 use borrow.Author.Count.{below-none, below-more}
-use Rattle.lists.specs.Tells.{Tells}
+use Rattle.lists.specs.Decides.{Decides}
 use Rattle.lists.proofs.Answers.{part-is, part-long}
 use Rattle.lists.proofs.Checkers.{is-so, is-not, same-as, refutes, proves}
 use Rattle.lists.proofs.Places.{row-in, rows-few}
 use Rattle.lists.proofs.Slices.{tail-all}
 use Rattle.model.specs.Measures.{recordWords}
-use Rattle.audit_counts.specs.Counters.{CountSays, RecordCounts}
+use Rattle.audit_counts.specs.Counters.{CountExact, RecordCounts}
 use Rattle.audit_counts.proofs.records_counts.Statement.{statement}
 use Rattle.audit_counts.proofs.records_counts.Tie as tie
 use Rattle.audit_counts.proofs.records_counts.Reads as reads
@@ -24,7 +24,7 @@ use Rattle.numbers.proofs.row_words.Reads as row-words-reads
 
 -- the records before k, of w words each
 abbrev Upto : ℕ → ℕ → ℕ → List ℕ → List ℕ → Type 0
-Upto n w k counts ws = (j : ℕ) → j < k → (i : ℕ) → i < n → CountSays n (take w (drop (j * w) ws)) i (getD counts (j * 16 + i) 0)
+Upto n w k counts ws = (j : ℕ) → j < k → (i : ℕ) → i < n → CountExact n (take w (drop (j * w) ws)) i (getD counts (j * 16 + i) 0)
 
 abbrev Inv-loop : tie.InvT-loop
 Inv-loop records counts n width count k₀ k = (k ≤ count) × (width ≡ recordWords n) × (count ≡ length records / width) × Upto n width k counts records
@@ -33,8 +33,8 @@ abbrev μ-loop : tie.MeasureT-loop
 μ-loop records counts n width count k₀ k = count - k
 
 row : {r : Bool} (n w : ℕ) (ws counts : List ℕ) (k : ℕ)
-    → Tells r ((i : ℕ) → i < n → CountSays n (take (k * w + w - k * w) (drop (k * w) ws)) i (getD (take (length counts - k * 16) (drop (k * 16) counts)) i 0))
-    → Tells r ((i : ℕ) → i < n → CountSays n (take w (drop (k * w) ws)) i (getD counts (k * 16 + i) 0))
+    → Decides r ((i : ℕ) → i < n → CountExact n (take (k * w + w - k * w) (drop (k * w) ws)) i (getD (take (length counts - k * 16) (drop (k * 16) counts)) i 0))
+    → Decides r ((i : ℕ) → i < n → CountExact n (take w (drop (k * w) ws)) i (getD counts (k * 16 + i) 0))
 row n w ws counts k t =
     same-as (λ f i h. rw (part-is ws (k * w) w, tail-all counts (k * 16), getD-drop (k * 16) counts i 0) at (f i h))
     (λ f i h. rw (part-is ws (k * w) w, tail-all counts (k * 16), getD-drop (k * 16) counts i 0) (f i h)) t

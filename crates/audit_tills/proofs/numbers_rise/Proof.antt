@@ -4,14 +4,14 @@ use Prim.Native.Nat.{_+_, _*_, _-_, _≤_}
 use mathlib.Core.Path.{refl}
 use lib.ListN.{length}
 use Rattle.audit_pointers.proofs.Slots.{slot-inside}
-use Rattle.audit_tills.proofs.Numbers.{Left, left-all, left-none, left-low, left-high, left-next}
+use Rattle.audit_tills.proofs.Numbers.{StillRises, left-all, left-none, left-low, left-high, left-next}
 use Rattle.audit_tills.proofs.numbers_rise.Statement.{statement}
 use Rattle.audit_tills.proofs.numbers_rise.Tie as tie
 use Rattle.audit_tills.proofs.numbers_rise.Reads as reads
 use Rattle.audit_tills.proofs.numbers_rise.Lts as lts
 
 abbrev Inv-loop : tie.InvT-loop
-Inv-loop slots blocks count last least₀ i₀ least i = Left blocks last count least i slots
+Inv-loop slots blocks count last least₀ i₀ least i = StillRises blocks last count least i slots
 
 abbrev μ-loop : tie.MeasureT-loop
 μ-loop slots blocks count last least₀ i₀ least i = count - i

@@ -1,6 +1,6 @@
 use native.Mathlib.Omega.{arith}
 use denote.Ref.{now}
-use Rattle.audit_words.proofs.Free.{free-tells}
+use Rattle.audit_words.proofs.Free.{free-decides}
 use borrow.Author.Needs.{needs}
 use Rattle.audit_words.proofs.record_form.Statement.{statement}
 use Rattle.audit_words.proofs.record_form.Tie as tie
@@ -19,7 +19,7 @@ zeros-requires c κs = search needs
 
 -- src/lib.rt:124:9
 returns : tie.Need-returns
-returns c = free-tells (c .before .before .before .before .args .n) (now (c .before .before .before .before .args .row)) (c .before .before .before .before .pre .0) (c .before .if1 .taken) _ (c .zeros .ensures)
+returns c = free-decides (c .before .before .before .before .args .n) (now (c .before .before .before .before .args .row)) (c .before .before .before .before .pre .0) (c .before .if1 .taken) _ (c .zeros .ensures)
 
 -- src/lib.rt:126:5
 held-form-requires : tie.Need-held-form-requires

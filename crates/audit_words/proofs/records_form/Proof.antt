@@ -6,13 +6,13 @@ use mathlib.Core.List.{List}
 use Prim.Native.Nat.{ℕ, _+_, _*_, _-_, _/_, _≤_, _<_}
 use lib.ListN.{length, take, drop}
 use borrow.Author.Count.{below-none, below-more}
-use Rattle.lists.specs.Tells.{Tells}
+use Rattle.lists.specs.Decides.{Decides}
 use Rattle.lists.specs.Rows.{chunks}
 use Rattle.lists.specs.Each.{Each}
 use Rattle.lists.proofs.Checkers.{is-so, is-not, refutes, proves}
 use Rattle.lists.proofs.Cuts.{each-part, part-each}
 use Rattle.lists.proofs.Places.{row-in}
-use Rattle.lists.proofs.Answers.{tells-at, part-is, part-long}
+use Rattle.lists.proofs.Answers.{decides-at, part-is, part-long}
 use Rattle.model.specs.Measures.{recordWords}
 use Rattle.audit_words.specs.Words.{RecordForm}
 use Rattle.audit_words.proofs.records_form.Statement.{statement}
@@ -29,8 +29,8 @@ Inv-loop records n width count k₀ k = (k ≤ count) × (width ≡ recordWords 
 abbrev μ-loop : tie.MeasureT-loop
 μ-loop records n width count k₀ k = count - k
 
-row : {r : Bool} (n : ℕ) (ws : List ℕ) (k w : ℕ) → Tells r (RecordForm n (take (k * w + w - k * w) (drop (k * w) ws))) → Tells r (RecordForm n (take w (drop (k * w) ws)))
-row n ws k w t = tells-at (RecordForm n) (part-is ws (k * w) w) t
+row : {r : Bool} (n : ℕ) (ws : List ℕ) (k w : ℕ) → Decides r (RecordForm n (take (k * w + w - k * w) (drop (k * w) ws))) → Decides r (RecordForm n (take w (drop (k * w) ws)))
+row n ws k w t = decides-at (RecordForm n) (part-is ws (k * w) w) t
 
 rows-of : (n : ℕ) (ws : List ℕ) (w : ℕ) → w ≡ recordWords n → ((k : ℕ) → k < length ws / w → RecordForm n (take w (drop (k * w) ws))) → Each (RecordForm n) (chunks (recordWords n) ws)
 unfolding chunks

@@ -5,7 +5,7 @@ use mathlib.Core.Path.{sym, _∙_}
 use Prim.Native.Nat.{ℕ, _-_, _≤_, _<_}
 use lib.Dec.{eqb}
 use borrow.Author.Count.{below-none}
-use Rattle.lists.specs.Tells.{Tells}
+use Rattle.lists.specs.Decides.{Decides}
 use Rattle.lists.proofs.Checkers.{is-so}
 use Rattle.audit_words.proofs.Disjoint.{Clear, clear-more}
 use Rattle.audit_words.proofs.unheld_zero.Statement.{statement}
@@ -16,7 +16,7 @@ use Rattle.audit_words.proofs.bit.Reads as bit-reads
 use Rattle.audit_words.proofs.unheld.Reads as unheld-reads
 
 abbrev Inv-loop : tie.InvT-loop
-Inv-loop row n helds all₀ i₀ all i = (i ≤ n) × Tells (eqb all 0) ((k : ℕ) → k < i → Clear n row k)
+Inv-loop row n helds all₀ i₀ all i = (i ≤ n) × Decides (eqb all 0) ((k : ℕ) → k < i → Clear n row k)
 
 abbrev μ-loop : tie.MeasureT-loop
 μ-loop row n helds all₀ i₀ all i = n - i

@@ -6,7 +6,7 @@ use Rattle.backup.proofs.back_up_dated.Statement.{statement}
 use Rattle.backup.proofs.back_up_dated.Tie as tie
 use Rattle.backup.proofs.back_up_dated.Reads as reads
 use Rattle.backup.proofs.back_up_dated.Lts as lts
-use Rattle.accept.proofs.backup_refusal.Reads as backup-refusal-reads
+use Rattle.backup_accept.proofs.backup_refusal.Reads as backup-refusal-reads
 use Rattle.backup.proofs.back_up_accepted.Reads as back-up-accepted-reads
 
 -- src/lib.rt:127:9

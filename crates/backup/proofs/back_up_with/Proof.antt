@@ -12,7 +12,7 @@ use Rattle.backup.proofs.back_up_with.Tie as tie
 use Rattle.backup.proofs.back_up_with.Reads as reads
 use Rattle.backup.proofs.back_up_with.Lts as lts
 use Rattle.backup.proofs.copy_newest.Reads as copy-newest-reads
-use Rattle.backup.proofs.shelve_and_file.Reads as shelve-and-file-reads
+use Rattle.backup.proofs.store_and_file.Reads as store-and-file-reads
 use Rattle.numbers.proofs.Measures.segments.Reads as segments-reads
 use Rattle.tills.proofs.till_head.Reads as till-head-reads
 
@@ -33,24 +33,24 @@ mul-count : tie.Need-mul-count
 mul-count c = omega (arith, count-is (measuresOf (c .before .before .before .before .before .before .before .before .before .before .before .before .before .before .before .before .args .m)) (now (c .before .before .before .before .before .before .before .before .before .before .before .before .before .before .before .before .args .image)) (c .before .segments .result) (c .before .segments .ensures), few-segments (c .before .before .before .before .before .before .before .before .before .before .before .before .before .before .before .before .pre .0) (c .before .before .before .before .before .before .before .before .before .before .before .before .before .before .before .before .pre .4) (c .before .before .before .before .before .before .before .before .before .before .before .before .before .before .before .before .pre .1))
 
 -- src/lib.rt:127:9
-slice-relend-prefix-shelve-and-file : tie.Need-slice-relend-prefix-shelve-and-file
-slice-relend-prefix-shelve-and-file c = omega (arith, c .before .before .before .before .before .before .copy-newest .ensures .1, header (c .before .before .before .before .before .before .before .before .before .before .before .before .before .before .before .before .before .before .pre .0) .blocks, c .before .before .before .before .before .before .copy-newest .kept .1 .1 .1 .1 .0, c .before .before .before .before .before .before .before .before .before .before .before .before .before .before .before .before .before .before .pre .2)
+slice-relend-prefix-store-and-file : tie.Need-slice-relend-prefix-store-and-file
+slice-relend-prefix-store-and-file c = omega (arith, c .before .before .before .before .before .before .copy-newest .ensures .1, header (c .before .before .before .before .before .before .before .before .before .before .before .before .before .before .before .before .before .before .pre .0) .blocks, c .before .before .before .before .before .before .copy-newest .kept .1 .1 .1 .1 .0, c .before .before .before .before .before .before .before .before .before .before .before .before .before .before .before .before .before .before .pre .2)
 
 -- src/lib.rt:127:9
-slice-aggregate-shelve-and-file : tie.Need-slice-aggregate-shelve-and-file
-slice-aggregate-shelve-and-file c = sym (length-take-le _ _ (omega (arith, c .before .before .before .before .before .before .before .copy-newest .ensures .1, header (c .before .before .before .before .before .before .before .before .before .before .before .before .before .before .before .before .before .before .before .pre .0) .blocks, c .before .before .before .before .before .before .before .copy-newest .kept .1 .1 .1 .1 .0, c .before .before .before .before .before .before .before .before .before .before .before .before .before .before .before .before .before .before .before .pre .2)))
+slice-aggregate-store-and-file : tie.Need-slice-aggregate-store-and-file
+slice-aggregate-store-and-file c = sym (length-take-le _ _ (omega (arith, c .before .before .before .before .before .before .before .copy-newest .ensures .1, header (c .before .before .before .before .before .before .before .before .before .before .before .before .before .before .before .before .before .before .before .pre .0) .blocks, c .before .before .before .before .before .before .before .copy-newest .kept .1 .1 .1 .1 .0, c .before .before .before .before .before .before .before .before .before .before .before .before .before .before .before .before .before .before .before .pre .2)))
 
 -- src/lib.rt:128:9
-slice-relend-prefix-shelve-and-file-2 : tie.Need-slice-relend-prefix-shelve-and-file-2
-slice-relend-prefix-shelve-and-file-2 c = omega (arith, count-is (measuresOf (c .before .before .before .before .before .before .before .before .before .before .before .before .before .before .before .before .before .before .before .args .m)) (now (c .before .before .before .before .before .before .before .before .before .before .before .before .before .before .before .before .before .before .before .args .image)) (c .before .before .before .before .segments .result) (c .before .before .before .before .segments .ensures), few-segments (c .before .before .before .before .before .before .before .before .before .before .before .before .before .before .before .before .before .before .before .pre .0) (c .before .before .before .before .before .before .before .before .before .before .before .before .before .before .before .before .before .before .before .pre .4) (c .before .before .before .before .before .before .before .before .before .before .before .before .before .before .before .before .before .before .before .pre .1), c .before .before .before .before .before .before .before .before .before .before .before .before .before .before .before .before .before .before .before .pre .3)
+slice-relend-prefix-store-and-file-2 : tie.Need-slice-relend-prefix-store-and-file-2
+slice-relend-prefix-store-and-file-2 c = omega (arith, count-is (measuresOf (c .before .before .before .before .before .before .before .before .before .before .before .before .before .before .before .before .before .before .before .args .m)) (now (c .before .before .before .before .before .before .before .before .before .before .before .before .before .before .before .before .before .before .before .args .image)) (c .before .before .before .before .segments .result) (c .before .before .before .before .segments .ensures), few-segments (c .before .before .before .before .before .before .before .before .before .before .before .before .before .before .before .before .before .before .before .pre .0) (c .before .before .before .before .before .before .before .before .before .before .before .before .before .before .before .before .before .before .before .pre .4) (c .before .before .before .before .before .before .before .before .before .before .before .before .before .before .before .before .before .before .before .pre .1), c .before .before .before .before .before .before .before .before .before .before .before .before .before .before .before .before .before .before .before .pre .3)
 
 -- src/lib.rt:128:9
-slice-aggregate-shelve-and-file-2 : tie.Need-slice-aggregate-shelve-and-file-2
-slice-aggregate-shelve-and-file-2 c = sym (length-take-le _ _ (omega (arith, count-is (measuresOf (c .before .before .before .before .before .before .before .before .before .before .before .before .before .before .before .before .before .before .before .before .args .m)) (now (c .before .before .before .before .before .before .before .before .before .before .before .before .before .before .before .before .before .before .before .before .args .image)) (c .before .before .before .before .before .segments .result) (c .before .before .before .before .before .segments .ensures), few-segments (c .before .before .before .before .before .before .before .before .before .before .before .before .before .before .before .before .before .before .before .before .pre .0) (c .before .before .before .before .before .before .before .before .before .before .before .before .before .before .before .before .before .before .before .before .pre .4) (c .before .before .before .before .before .before .before .before .before .before .before .before .before .before .before .before .before .before .before .before .pre .1), c .before .before .before .before .before .before .before .before .before .before .before .before .before .before .before .before .before .before .before .before .pre .3)))
+slice-aggregate-store-and-file-2 : tie.Need-slice-aggregate-store-and-file-2
+slice-aggregate-store-and-file-2 c = sym (length-take-le _ _ (omega (arith, count-is (measuresOf (c .before .before .before .before .before .before .before .before .before .before .before .before .before .before .before .before .before .before .before .before .args .m)) (now (c .before .before .before .before .before .before .before .before .before .before .before .before .before .before .before .before .before .before .before .before .args .image)) (c .before .before .before .before .before .segments .result) (c .before .before .before .before .before .segments .ensures), few-segments (c .before .before .before .before .before .before .before .before .before .before .before .before .before .before .before .before .before .before .before .before .pre .0) (c .before .before .before .before .before .before .before .before .before .before .before .before .before .before .before .before .before .before .before .before .pre .4) (c .before .before .before .before .before .before .before .before .before .before .before .before .before .before .before .before .before .before .before .before .pre .1), c .before .before .before .before .before .before .before .before .before .before .before .before .before .before .before .before .before .before .before .before .pre .3)))
 
 -- src/lib.rt:121:5
-shelve-and-file-requires : tie.Need-shelve-and-file-requires
-shelve-and-file-requires c κs = (begun (c .before .before .before .before .before .before .before .before .before .before .before .before .before .before .before .before .before .before .before .before .pre .0) (c .before .before .before .before .before .before .before .before .before .before .before .before .before .before .before .before .before .before .before .before .pre .4) (c .before .before .before .before .before .before .before .before .before .before .before .before .before .before .before .before .before .before .before .before .pre .1) _ (c .before .before .before .before .before .before .before .before .before .before .before .before .till-head .ensures) _ _ _ _ (omega (arith, c .before .before .before .before .before .before .before .before .copy-newest .ensures .1, header (c .before .before .before .before .before .before .before .before .before .before .before .before .before .before .before .before .before .before .before .before .pre .0) .blocks, c .before .before .before .before .before .before .before .before .copy-newest .kept .1 .1 .1 .1 .0, c .before .before .before .before .before .before .before .before .before .before .before .before .before .before .before .before .before .before .before .before .pre .2)) (c .before .before .before .before .before .before .before .before .copy-newest .ensures .0) (c .before .before .before .before .before .before .before .before .copy-newest .ensures .1) (c .before .before .before .before .before .before .before .before .before .before .before .before .before .before .before .before .before .before .before .before .pre .3) (count-is (measuresOf (c .before .before .before .before .before .before .before .before .before .before .before .before .before .before .before .before .before .before .before .before .args .m)) (now (c .before .before .before .before .before .before .before .before .before .before .before .before .before .before .before .before .before .before .before .before .args .image)) (c .before .before .before .before .before .segments .result) (c .before .before .before .before .before .segments .ensures)), c .before .before .before .before .before .before .before .before .before .before .before .before .before .before .before .before .before .before .before .before .pre .5)
+store-and-file-requires : tie.Need-store-and-file-requires
+store-and-file-requires c κs = (begun (c .before .before .before .before .before .before .before .before .before .before .before .before .before .before .before .before .before .before .before .before .pre .0) (c .before .before .before .before .before .before .before .before .before .before .before .before .before .before .before .before .before .before .before .before .pre .4) (c .before .before .before .before .before .before .before .before .before .before .before .before .before .before .before .before .before .before .before .before .pre .1) _ (c .before .before .before .before .before .before .before .before .before .before .before .before .till-head .ensures) _ _ _ _ (omega (arith, c .before .before .before .before .before .before .before .before .copy-newest .ensures .1, header (c .before .before .before .before .before .before .before .before .before .before .before .before .before .before .before .before .before .before .before .before .pre .0) .blocks, c .before .before .before .before .before .before .before .before .copy-newest .kept .1 .1 .1 .1 .0, c .before .before .before .before .before .before .before .before .before .before .before .before .before .before .before .before .before .before .before .before .pre .2)) (c .before .before .before .before .before .before .before .before .copy-newest .ensures .0) (c .before .before .before .before .before .before .before .before .copy-newest .ensures .1) (c .before .before .before .before .before .before .before .before .before .before .before .before .before .before .before .before .before .before .before .before .pre .3) (count-is (measuresOf (c .before .before .before .before .before .before .before .before .before .before .before .before .before .before .before .before .before .before .before .before .args .m)) (now (c .before .before .before .before .before .before .before .before .before .before .before .before .before .before .before .before .before .before .before .before .args .image)) (c .before .before .before .before .before .segments .result) (c .before .before .before .before .before .segments .ensures)), c .before .before .before .before .before .before .before .before .before .before .before .before .before .before .before .before .before .before .before .before .pre .5)
 
 -- src/lib.rt:106:1
 same-length : tie.Need-same-length
@@ -70,7 +70,7 @@ same-length-4 c = search needs
 
 -- src/lib.rt:106:1
 returns : tie.Need-returns
-returns c = c .before .before .before .before .before .before .before .before .shelve-and-file .ensures
+returns c = c .before .before .before .before .before .before .before .before .store-and-file .ensures
 
 pub back-up-with-spec : {M : Type 1} → statement M
 back-up-with-spec =
@@ -80,11 +80,11 @@ back-up-with-spec =
     copy-newest-requires
     segments-requires
     mul-count
-    slice-relend-prefix-shelve-and-file
-    slice-aggregate-shelve-and-file
-    slice-relend-prefix-shelve-and-file-2
-    slice-aggregate-shelve-and-file-2
-    shelve-and-file-requires
+    slice-relend-prefix-store-and-file
+    slice-aggregate-store-and-file
+    slice-relend-prefix-store-and-file-2
+    slice-aggregate-store-and-file-2
+    store-and-file-requires
     same-length
     same-length-2
     same-length-3

@@ -7,7 +7,7 @@ use Rattle.backup.proofs.copy_newest.Statement.{statement}
 use Rattle.backup.proofs.copy_newest.Tie as tie
 use Rattle.backup.proofs.copy_newest.Reads as reads
 use Rattle.backup.proofs.copy_newest.Lts as lts
-use Rattle.filing.proofs.newest_pointers.Reads as newest-pointers-reads
+use Rattle.backup_file.proofs.newest_pointers.Reads as newest-pointers-reads
 use Rattle.tills.proofs.till_words.Reads as till-words-reads
 
 -- src/lib.rt:59:13

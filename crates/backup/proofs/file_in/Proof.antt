@@ -5,7 +5,7 @@ use Rattle.backup.proofs.file_in.Statement.{statement}
 use Rattle.backup.proofs.file_in.Tie as tie
 use Rattle.backup.proofs.file_in.Reads as reads
 use Rattle.backup.proofs.file_in.Lts as lts
-use Rattle.filing.proofs.file_version.Reads as file-version-reads
+use Rattle.backup_file.proofs.file_version.Reads as file-version-reads
 
 -- src/lib.rt:40:26
 mul-file-version : tie.Need-mul-file-version

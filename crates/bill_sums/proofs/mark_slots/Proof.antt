@@ -6,7 +6,7 @@ use Prim.Native.Nat.{ℕ, _+_, _*_, _-_, _≤_}
 use lib.ListN.{length}
 use Rattle.lists.proofs.Answers.{part-is}
 use Rattle.audit_pointers.proofs.Slots.{slot-inside}
-use Rattle.audit_tills.specs.Says.{pointerWords, slotsPointers}
+use Rattle.audit_tills.specs.Sound.{pointerWords, slotsPointers}
 use Rattle.bill_sums.specs.Marks.{markWords}
 use Rattle.bill_sums.proofs.Passes.{rows-none, rows-next, row-long}
 use Rattle.bill_sums.proofs.mark_slots.Statement.{statement}

@@ -4,7 +4,7 @@ use mathlib.Core.List.{List}
 use Prim.Native.Nat.{ℕ}
 use lib.ListN.{getD, length-drop}
 use Rattle.lists.proofs.Slices.{tail-all}
-use Rattle.audit_tills.specs.Says.{slotsPointers}
+use Rattle.audit_tills.specs.Sound.{slotsPointers}
 use Rattle.bill_sums.specs.Marks.{markWords}
 use borrow.Author.Needs.{needs}
 use Rattle.bill_sums.proofs.mark_till.Statement.{statement}

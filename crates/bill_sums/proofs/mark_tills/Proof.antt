@@ -6,7 +6,7 @@ use Prim.Native.Nat.{ℕ, _+_, _*_, _-_, _%_, _^_, _≤_}
 use lib.ListN.{length}
 use Rattle.lists.proofs.Answers.{part-is}
 use Rattle.lists.proofs.Masks.{one-shl}
-use Rattle.audit_tills.specs.Says.{tillPointers}
+use Rattle.audit_tills.specs.Sound.{tillPointers}
 use Rattle.bill_sums.specs.Marks.{markWords, markTills}
 use Rattle.bill_sums.proofs.Passes.{tills-none, tills-next, till-inside, till-few, till-room, bit-small}
 use Rattle.bill_sums.proofs.mark_tills.Statement.{statement}

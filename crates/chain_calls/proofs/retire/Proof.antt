@@ -4,7 +4,7 @@ use mathlib.Core.Path.{refl}
 use denote.Ref.{now}
 use Rattle.chain.specs.Chain.{chainOf}
 use Rattle.model.specs.Rights.{retireRefusal, retireAs}
-use Rattle.retire.specs.Answers.{retireAnswer}
+use Rattle.retire.specs.Answers.{retiredAnswer}
 use Rattle.chain.specs.Calls.{retireOnChain, chainRetire}
 use Rattle.chain_calls.proofs.Served.{refused, sound-part, altered}
 use Rattle.chain_calls.proofs.retire.Statement.{statement}
@@ -62,7 +62,7 @@ returns-2 : tie.Need-returns-2
 returns-2 c =
     let a = c .before .before .before .before .before .before .before .before .before .before .before .before .before .before .before .args in
     let k = chainOf (now (a .pools)) (now (a .tables)) (now (a .pool-lengths)) (now (a .table-lengths)) in
-    unfold chainRetire retireOnChain in altered k (a .store) _ (c .before .before .before .before .before .before .before .before .find-store .ensures .0) (c .before .before .before .before .before .before .before .before .find-store .ensures .2) (omega (arith, c .before .before .before .before .before .before .before .if1 .left)) (retireRefusal (k .pools) (k .tables)) (retireOnChain k (a .store)) (retireAnswer (c .before .before .before .before .retire .result)) (c .before .before .before .before .retire .last .0) (c .before .before .before .before .retire .last .1 .0) refl (λ pool table. retireAs pool table (a .user) (a .till) (a .version)) (c .before .before .before .before .retire .ensures)
+    unfold chainRetire retireOnChain in altered k (a .store) _ (c .before .before .before .before .before .before .before .before .find-store .ensures .0) (c .before .before .before .before .before .before .before .before .find-store .ensures .2) (omega (arith, c .before .before .before .before .before .before .before .if1 .left)) (retireRefusal (k .pools) (k .tables)) (retireOnChain k (a .store)) (retiredAnswer (c .before .before .before .before .retire .result)) (c .before .before .before .before .retire .last .0) (c .before .before .before .before .retire .last .1 .0) refl (λ pool table. retireAs pool table (a .user) (a .till) (a .version)) (c .before .before .before .before .retire .ensures)
 
 pub retire-spec : {M : Type 1} → statement M
 retire-spec =

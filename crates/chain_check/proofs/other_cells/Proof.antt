@@ -7,12 +7,12 @@ use Rattle.lists.specs.Lists.{total}
 use Rattle.chain.specs.Chain.{chainOf}
 use Rattle.chain.specs.Limit.{otherCells}
 use Rattle.chain_check.proofs.Refusals.{fitting, sound-chain}
-use Rattle.chain_check.proofs.Cells.{later, beside, others-first, others-next, others-all}
+use Rattle.chain_check.proofs.Cells.{later, besideStore, others-first, others-next, others-all}
 use Rattle.chain_check.proofs.other_cells.Statement.{statement}
 use Rattle.chain_check.proofs.other_cells.Tie as tie
 
 abbrev Inv-loop : tie.InvT-loop
-Inv-loop pools tables pool-lengths table-lengths store named cells₀ j₀ cells j = (j ≤ length pool-lengths) × (cells ≤ j * 65536) × (cells + total (beside (chainOf pools tables pool-lengths table-lengths) store) (later j (length pool-lengths)) ≡ otherCells (chainOf pools tables pool-lengths table-lengths) store)
+Inv-loop pools tables pool-lengths table-lengths store named cells₀ j₀ cells j = (j ≤ length pool-lengths) × (cells ≤ j * 65536) × (cells + total (besideStore (chainOf pools tables pool-lengths table-lengths) store) (later j (length pool-lengths)) ≡ otherCells (chainOf pools tables pool-lengths table-lengths) store)
 
 abbrev μ-loop : tie.MeasureT-loop
 μ-loop pools tables pool-lengths table-lengths store named cells₀ j₀ cells j = length pool-lengths - j

@@ -2,8 +2,8 @@ use lib.ListN.{length}
 use denote.Ref.{now}
 use Rattle.model.specs.Table.{cellsIn}
 use Rattle.numbers.specs.Measures.{measuresOf}
-use Rattle.shelf.proofs.Inside.{cell-inside}
-use Rattle.shelf.proofs.Read.{stored-records}
+use Rattle.storage.proofs.Inside.{cell-inside}
+use Rattle.storage.proofs.Read.{stored-records}
 use Rattle.place.proofs.Marked.{marked-free, marked-length}
 use borrow.Author.Needs.{needs}
 use Rattle.place.proofs.place_marked.Statement.{statement}

@@ -5,8 +5,8 @@ use lib.ListN.{drop, length, length-drop}
 use lib.Seq.{length-take-le}
 use denote.Ref.{now}
 use Rattle.numbers.specs.Measures.{measuresOf}
-use Rattle.shelf.proofs.Inside.{few-records}
-use Rattle.shelf.proofs.Read.{stored-records}
+use Rattle.storage.proofs.Inside.{few-records}
+use Rattle.storage.proofs.Read.{stored-records}
 use Rattle.place.proofs.Along.{Along, along-end, along-room, along-start, along-step, along-stop, along-undone, few-segments, segment-begins}
 use Rattle.place.proofs.Keeping.{counts-wider}
 use Rattle.place.proofs.place_segments.Statement.{statement}
@@ -23,8 +23,8 @@ few c =
     let a = c .before .before .before .before .before .before .before .before .before .before .before .before in
     omega (arith, c .before .loop .inv .all, few-segments (measuresOf (a .args .m)) (now (a .args .image)) (a .pre .0 .stored .measured) (a .pre .0 .most))
 
-roomy : (c : tie.In-loop Inv-loop μ-loop) → c .before .loop .first + c .before .before .before .before .before .before .before .before .before .before .before .before .args .m .blocks ≤ length (c .before .loop .words)
-roomy c =
+has-room : (c : tie.In-loop Inv-loop μ-loop) → c .before .loop .first + c .before .before .before .before .before .before .before .before .before .before .before .before .args .m .blocks ≤ length (c .before .loop .words)
+has-room c =
     let a = c .before .before .before .before .before .before .before .before .before .before .before .before in
     let l = c .before .loop in
     along-room (l .inv) (omega arith) (a .pre .0 .room)
@@ -48,22 +48,22 @@ loop-holds : tie.Need-loop-holds Inv-loop μ-loop
 loop-holds c = let a = c .before .before .before .before .before .before .before .before .before .before in along-start _ _ _ _ _ _ _ _ _ (c .before .before .segments .ensures) (a .pre .0 .stored) (a .pre .0 .counts) (a .pre .1) (c .used-records .ensures .1)
 
 add-end : tie.Need-add-end Inv-loop μ-loop
-add-end c = omega (arith, roomy (c .before))
+add-end c = omega (arith, has-room (c .before))
 
 add-most : tie.Need-add-most Inv-loop μ-loop
 add-most c = omega (arith, few (c .before), c .before .before .before .used-records .ensures .0, few-records (c .before .before .before .before .before .before .before .before .before .before .before .before .before .pre .0 .stored))
 
 mul-place-segment : tie.Need-mul-place-segment Inv-loop μ-loop
-mul-place-segment c = omega (arith, roomy (c .before .before .before .before))
+mul-place-segment c = omega (arith, has-room (c .before .before .before .before))
 
 sub-place-segment : tie.Need-sub-place-segment Inv-loop μ-loop
-sub-place-segment c = omega (arith, roomy (c .before .before .before .before))
+sub-place-segment c = omega (arith, has-room (c .before .before .before .before))
 
 part-place-segment-start : tie.Need-part-place-segment-start Inv-loop μ-loop
-part-place-segment-start c = omega (arith, roomy (c .before .before .before .before))
+part-place-segment-start c = omega (arith, has-room (c .before .before .before .before))
 
 part-place-segment-end : tie.Need-part-place-segment-end Inv-loop μ-loop
-part-place-segment-end c = omega (arith, roomy (c .before .before .before .before))
+part-place-segment-end c = omega (arith, has-room (c .before .before .before .before))
 
 place-segment-requires : tie.Need-place-segment-requires Inv-loop μ-loop
 place-segment-requires c κs =
@@ -76,7 +76,7 @@ place-segment-requires c κs =
         stored = l .inv .stored;
         counts = counts-wider _ _ (l .inv .counts) 4294967295 (omega (arith, few (c .before .before .before .before .before)));
         cells = l .inv .cells;
-        room = rw z (length-take-le k (drop (l .first) (l .words)) (omega (arith, roomy (c .before .before .before .before .before), length-drop (l .first) (l .words))));
+        room = rw z (length-take-le k (drop (l .first) (l .words)) (omega (arith, has-room (c .before .before .before .before .before), length-drop (l .first) (l .words))));
       },
       l .inv .rest,
     )
@@ -133,7 +133,7 @@ loop-again c =
     let k = a .args .m .blocks in
     let z : l .first + k - l .first ≡ k = omega arith in
     rw z (along-step (l .inv) (c .before .before .before .before .before .before .before .before .before .before .before .before .before .before .before .before .loop-test .taken) (omega (arith, few (c .before .before .before .before .before .before .before .before .before .before .before .before .before .before .before .before), a .pre .2)) (a .pre .0 .room) (c .before .before .before .before .before .before .before .before .before .before .before .before .before .before .before .before .before .before .before .before .before .segment-bytes .result) (c .before .before .before .before .before .before .before .before .before .before .before .before .before .before .before .before .before .before .before .before .before .segment-bytes .ensures .0)
-    _ _ _ _ _ _ (omega arith) (omega arith) (omega arith) (omega (arith, p .kept .1 .1 .1 .1 .1 .1 .0, length-take-le (l .first + k - l .first) (drop (l .first) (l .words)) (omega (arith, roomy (c .before .before .before .before .before .before .before .before .before .before .before .before .before .before .before .before), length-drop (l .first) (l .words))))) (p .ensures) (omega (arith, c .before .if1 .left)))
+    _ _ _ _ _ _ (omega arith) (omega arith) (omega arith) (omega (arith, p .kept .1 .1 .1 .1 .1 .1 .0, length-take-le (l .first + k - l .first) (drop (l .first) (l .words)) (omega (arith, has-room (c .before .before .before .before .before .before .before .before .before .before .before .before .before .before .before .before), length-drop (l .first) (l .words))))) (p .ensures) (omega (arith, c .before .if1 .left)))
 
 same-length-6 : tie.Need-same-length-6 Inv-loop μ-loop
 same-length-6 c = c .before .loop .inv .samePool

@@ -5,7 +5,7 @@ use lib.ListN.{length}
 use lib.Seq.{length-take-le}
 use denote.Ref.{now}
 use Rattle.model.specs.Table.{cellsIn}
-use Rattle.shelf.proofs.Inside.{cells-count, few-cells}
+use Rattle.storage.proofs.Inside.{cells-count, few-cells}
 use Rattle.place.proofs.Marked.{marked-length, marked-part}
 use borrow.Author.Needs.{needs}
 use Rattle.place.proofs.place_within.Statement.{statement}
@@ -15,8 +15,8 @@ use Rattle.place.proofs.place_within.Tie as tie
 counted : (c : tie.After-parts) → c .parts .result ≡ length (cellsIn (c .before .before .before .before .before .before .before .args .m .bytes) (now (c .before .before .before .before .before .before .before .args .pool)))
 counted c = c .parts .ensures ∙ sym (cells-count _ (now (c .before .before .before .before .before .before .before .args .pool)))
 
-roomy : (c : tie.After-parts) → c .parts .result ≤ length (now (c .before .before .before .before .before .before .before .args .free))
-roomy c =
+has-room : (c : tie.After-parts) → c .parts .result ≤ length (now (c .before .before .before .before .before .before .before .args .free))
+has-room c =
     let a = c .before .before .before .before .before .before .before in
     omega (arith, counted c, marked-length 32768 (now (a .args .free)) (a .pre .1), few-cells (a .pre .0 .stored))
 
@@ -24,10 +24,10 @@ parts-requires : tie.Need-parts-requires
 parts-requires c κs = omega (arith, c .before .before .before .before .before .before .pre .0 .stored .measured .someBytes)
 
 slice-relend-prefix-place-marked : tie.Need-slice-relend-prefix-place-marked
-slice-relend-prefix-place-marked c = omega (arith, roomy (c .before .before))
+slice-relend-prefix-place-marked c = omega (arith, has-room (c .before .before))
 
 slice-aggregate-place-marked : tie.Need-slice-aggregate-place-marked
-slice-aggregate-place-marked c = sym (length-take-le _ (now (c .before .before .before .before .before .before .before .before .before .before .args .free)) (roomy (c .before .before .before)))
+slice-aggregate-place-marked c = sym (length-take-le _ (now (c .before .before .before .before .before .before .before .before .before .before .args .free)) (has-room (c .before .before .before)))
 
 place-marked-requires : tie.Need-place-marked-requires
 place-marked-requires c κs =

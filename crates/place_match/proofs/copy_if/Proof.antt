@@ -4,7 +4,7 @@ use Prim.Native.Nat.{_*_, _+_, _-_}
 use denote.Ref.{now}
 use Rattle.model.specs.Image.{blockFrom}
 use Rattle.laws.proofs.Image.{length-block}
-use Rattle.shelf.proofs.Inside.{cell-put}
+use Rattle.storage.proofs.Inside.{cell-put}
 use borrow.Author.Needs.{needs}
 use Rattle.place_match.proofs.copy_if.Statement.{statement}
 use Rattle.place_match.proofs.copy_if.Tie as tie

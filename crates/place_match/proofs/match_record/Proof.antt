@@ -8,20 +8,20 @@ use denote.Ref.{now}
 use Rattle.lists.specs.Lists.{firstFrom}
 use Rattle.model.specs.Image.{blocksFrom, withBlanks}
 use Rattle.model.specs.Records.{equals}
-use Rattle.model.specs.Table.{recordsIn, shelfIn}
+use Rattle.model.specs.Table.{recordsIn, storageIn}
 use Rattle.numbers.specs.Measures.{measuresOf}
-use Rattle.shelf.proofs.Along.{AtRow, at-few, at-length, at-next, at-room, at-row, at-sized, at-start}
-use Rattle.shelf.proofs.Inside.{cell-inside, cell-room}
-use Rattle.shelf.proofs.Read.{cells-of, stored-records}
-use Rattle.place_seek.specs.Seek.{RestFree}
+use Rattle.storage.proofs.Along.{AtRow, at-few, at-length, at-next, at-room, at-row, at-sized, at-start}
+use Rattle.storage.proofs.Inside.{cell-inside, cell-room}
+use Rattle.storage.proofs.Read.{cells-of, stored-records}
+use Rattle.place_free.specs.Free.{RestFree}
 use Rattle.lists.proofs.Puts.{as-none, first-no, first-yes}
-use Rattle.shelf.proofs.Row.{cells-below}
+use Rattle.storage.proofs.Row.{cells-below}
 use Rattle.place_match.proofs.Matching.{none-rest}
 use Rattle.place_match.proofs.match_record.Statement.{statement}
 use Rattle.place_match.proofs.match_record.Tie as tie
 
 abbrev Inv-loop : tie.InvT-loop
-Inv-loop image from mask blank pool records used m width count stop at₀ k₀ at k = AtRow (m .blocks) records width count at k × (k ≤ stop) × (stop ≤ count) × (let f = equals withBlanks (shelfIn (measuresOf m) pool records) (blocksFrom (m .bytes) image from (m .blocks)) in firstFrom f k (drop k (recordsIn (m .blocks) records)) ≡ firstFrom f 0 (recordsIn (m .blocks) records))
+Inv-loop image from mask blank pool records used m width count stop at₀ k₀ at k = AtRow (m .blocks) records width count at k × (k ≤ stop) × (stop ≤ count) × (let f = equals withBlanks (storageIn (measuresOf m) pool records) (blocksFrom (m .bytes) image from (m .blocks)) in firstFrom f k (drop k (recordsIn (m .blocks) records)) ≡ firstFrom f 0 (recordsIn (m .blocks) records))
 
 abbrev μ-loop : tie.MeasureT-loop
 μ-loop image from mask blank pool records used m width count stop at₀ k₀ at k = stop - k
@@ -75,7 +75,7 @@ returns c =
     let l = c .before .before .before .before .loop in
     let r = stored-records _ (a .pre .3) in
     let h : l .k < c .before .before .before .before .before .before .rows .result = omega arith in
-    let f = equals withBlanks (shelfIn (measuresOf (a .args .m)) (now (a .args .pool)) (now (a .args .records))) (blocksFrom (a .args .m .bytes) (now (a .args .image)) (a .args .from) (a .args .m .blocks)) in
+    let f = equals withBlanks (storageIn (measuresOf (a .args .m)) (now (a .args .pool)) (now (a .args .records))) (blocksFrom (a .args .m .bytes) (now (a .args .image)) (a .args .from) (a .args .m .blocks)) in
     let e = c .before .record-equals .ensures _ _ (cells-of (measuresOf (a .args .m)) (now (a .args .pool)) (now (a .args .records))) (at-sized (l .inv .0) h r) (at-row (l .inv .0) h r) in
     (first-yes f [] _ (l .k) (omega (arith, l .inv .0 .all)) (sym (c .if1 .taken) ∙ e) ∙ l .inv .3, omega (arith, l .inv .0 .all))
 
@@ -91,7 +91,7 @@ loop-again c =
     let l = c .before .before .before .before .loop in
     let r = stored-records _ (a .pre .3) in
     let h : l .k < c .before .before .before .before .before .before .rows .result = omega arith in
-    let f = equals withBlanks (shelfIn (measuresOf (a .args .m)) (now (a .args .pool)) (now (a .args .records))) (blocksFrom (a .args .m .bytes) (now (a .args .image)) (a .args .from) (a .args .m .blocks)) in
+    let f = equals withBlanks (storageIn (measuresOf (a .args .m)) (now (a .args .pool)) (now (a .args .records))) (blocksFrom (a .args .m .bytes) (now (a .args .image)) (a .args .from) (a .args .m .blocks)) in
     let e = c .before .record-equals .ensures _ _ (cells-of (measuresOf (a .args .m)) (now (a .args .pool)) (now (a .args .records))) (at-sized (l .inv .0) h r) (at-row (l .inv .0) h r) in
     (at-next (l .inv .0) h r, omega arith, l .inv .2, sym (first-no f [] (recordsIn (a .args .m .blocks) (now (a .args .records))) (l .k) (omega (arith, l .inv .0 .all)) (sym (c .if1 .left) ∙ e)) ∙ l .inv .3)
 
@@ -104,7 +104,7 @@ returns-2 c =
     let l = c .before .loop in
     let segs = recordsIn (a .args .m .blocks) (now (a .args .records)) in
     let rest : RestFree (l .k) segs = λ j h m. a .pre .4 j (omega (arith, c .before .before .least .ensures, l .inv .0 .all)) m in
-    let none = none-rest (shelfIn (measuresOf (a .args .m)) (now (a .args .pool)) (now (a .args .records))) (blocksFrom (a .args .m .bytes) (now (a .args .image)) (a .args .from) (a .args .m .blocks)) (omega (arith, a .pre .1, a .pre .2)) (l .k) (l .k) segs rest in
+    let none = none-rest (storageIn (measuresOf (a .args .m)) (now (a .args .pool)) (now (a .args .records))) (blocksFrom (a .args .m .bytes) (now (a .args .image)) (a .args .from) (a .args .m .blocks)) (omega (arith, a .pre .1, a .pre .2)) (l .k) (l .k) segs rest in
     (as-none (length segs) _ (omega (arith, l .inv .0 .all)) ∙ sym none ∙ l .inv .3, omega (arith, l .inv .0 .all))
 
 pub match-record-spec : {M : Type 1} → statement M

@@ -8,16 +8,16 @@ use borrow.Author.Tests.{not-false, not-true}
 use denote.Ref.{now}
 use Rattle.lists.proofs.Places.{row-next}
 use Rattle.model.specs.Image.{blocksFrom}
-use Rattle.model.specs.State.{Segment, Shelf}
+use Rattle.model.specs.State.{Segment, Storage}
 use Rattle.model.specs.Table.{cellsIn, recordToWords}
-use Rattle.place_words.specs.Marks.{marks}
+use Rattle.place_words.specs.Marks.{storedMask}
 use Rattle.place_match.proofs.Copying.{bit-first, bits-rest, block-low}
 use Rattle.place_match.proofs.Matching.{EqualTo, equal-end, equal-here, equal-no, equal-start, equal-yes}
 use Rattle.place_match.proofs.positions_equal.Statement.{statement}
 use Rattle.place_match.proofs.positions_equal.Tie as tie
 
 abbrev Inv-loop : tie.InvT-loop
-Inv-loop image from mask pool row bytes n held₀ m₀ at₀ i₀ held m at i = (i ≤ n) × (at ≡ from + i * bytes) × (m ≡ marks (blocksFrom bytes image at (n - i))) × ((s : Shelf) (seg : Segment) → s .cells ≡ cellsIn bytes pool → length seg ≡ n → row ≡ recordToWords seg → EqualTo s bytes image from n seg held at i)
+Inv-loop image from mask pool row bytes n held₀ m₀ at₀ i₀ held m at i = (i ≤ n) × (at ≡ from + i * bytes) × (m ≡ storedMask (blocksFrom bytes image at (n - i))) × ((s : Storage) (seg : Segment) → s .cells ≡ cellsIn bytes pool → length seg ≡ n → row ≡ recordToWords seg → EqualTo s bytes image from n seg held at i)
 
 abbrev μ-loop : tie.MeasureT-loop
 μ-loop image from mask pool row bytes n held₀ m₀ at₀ i₀ held m at i = n - i

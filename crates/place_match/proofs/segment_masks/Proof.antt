@@ -6,14 +6,14 @@ use native.Mathlib.Nat.{zero-mul}
 use denote.Ref.{now}
 use Rattle.model.specs.Image.{blockFrom, blocksFrom}
 use Rattle.laws.proofs.Image.{length-blocks}
-use Rattle.place_words.specs.Marks.{blanks, marks}
+use Rattle.place_words.specs.Marks.{blankMask, storedMask}
 use Rattle.place_words.proofs.Marks.{blank-bit, blanks-small, mark-bit, marks-small}
 use Rattle.place_match.proofs.Copying.{block-back, block-low, mask-end, mask-front}
 use Rattle.place_match.proofs.segment_masks.Statement.{statement}
 use Rattle.place_match.proofs.segment_masks.Tie as tie
 
 abbrev Inv-loop : tie.InvT-loop
-Inv-loop image from bytes n stored₀ blank₀ at₀ i₀ stored blank at i = (i ≤ n) × (at ≡ from + i * bytes) × (stored ≡ marks (blocksFrom bytes image at (n - i))) × (blank ≡ blanks (blocksFrom bytes image at (n - i)))
+Inv-loop image from bytes n stored₀ blank₀ at₀ i₀ stored blank at i = (i ≤ n) × (at ≡ from + i * bytes) × (stored ≡ storedMask (blocksFrom bytes image at (n - i))) × (blank ≡ blankMask (blocksFrom bytes image at (n - i)))
 
 abbrev μ-loop : tie.MeasureT-loop
 μ-loop image from bytes n stored₀ blank₀ at₀ i₀ stored blank at i = i
@@ -94,8 +94,8 @@ returns c =
     let e : l .at ≡ a .from = omega (arith, l .inv .1, ap (λ (x : ℕ). x * a .bytes) z, zero-mul (a .bytes)) in
     let f : a .n - l .i ≡ a .n = omega arith in
     let bs = blocksFrom (a .bytes) (now (a .image)) (a .from) (a .n) in
-    let g : l .stored ≡ marks bs = rw (e, f) at (l .inv .2) in
-    let k : l .blank ≡ blanks bs = rw (e, f) at (l .inv .3) in
+    let g : l .stored ≡ storedMask bs = rw (e, f) at (l .inv .2) in
+    let k : l .blank ≡ blankMask bs = rw (e, f) at (l .inv .3) in
     (g, k, omega (arith, g, marks-small bs (omega (arith, length-blocks (a .bytes) (now (a .image)) (a .from) (a .n)))))
 
 pub segment-masks-spec : {M : Type 1} → statement M

@@ -2,7 +2,7 @@ use native.Mathlib.Omega.{arith}
 use borrow.Author.Needs.{needs}
 use mathlib.Core.Path.{refl}
 use Prim.Native.Nat.{_≤_}
-use Rattle.model.specs.Table.{shelfIn}
+use Rattle.model.specs.Table.{storageIn}
 use Rattle.numbers.specs.Measures.{measuresOf}
 use Rattle.place_undo.specs.Undo.{undoUpto}
 use Rattle.place_undo.proofs.Undoing.{Going, going-end, going-step}
@@ -10,7 +10,7 @@ use Rattle.place_undo.proofs.undo_all.Statement.{statement}
 use Rattle.place_undo.proofs.undo_all.Tie as tie
 
 abbrev Inv-loop : tie.InvT-loop
-Inv-loop pool₀ records₀ placed count m j₀ pool records j = (j ≤ count) × Going (measuresOf m) placed (undoUpto (measuresOf m) placed count (shelfIn (measuresOf m) pool₀ records₀)) pool₀ records₀ pool records j
+Inv-loop pool₀ records₀ placed count m j₀ pool records j = (j ≤ count) × Going (measuresOf m) placed (undoUpto (measuresOf m) placed count (storageIn (measuresOf m) pool₀ records₀)) pool₀ records₀ pool records j
 
 abbrev μ-loop : tie.MeasureT-loop
 μ-loop pool₀ records₀ placed count m j₀ pool records j = j

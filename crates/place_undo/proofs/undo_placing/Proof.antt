@@ -1,7 +1,7 @@
 use native.Mathlib.Omega.{arith}
 use denote.Ref.{now}
 use Rattle.numbers.specs.Measures.{measuresOf}
-use Rattle.shelf.proofs.Read.{records-count}
+use Rattle.storage.proofs.Read.{records-count}
 use Rattle.place_undo.proofs.Undoing.{undo-nothing}
 use borrow.Author.Needs.{needs}
 use Rattle.place_undo.proofs.undo_placing.Statement.{statement}

@@ -4,9 +4,9 @@ use Prim.Native.Nat.{_+_, _-_, _≤_}
 use lib.ListN.{length}
 use denote.Ref.{now}
 use Rattle.numbers.specs.Measures.{measuresOf}
-use Rattle.shelf.proofs.Inside.{cell-inside, cell-room}
-use Rattle.shelf.proofs.Read.{count-at, part-length, part-room, row-part, stored-records}
-use Rattle.shelf.proofs.Row.{cells-below}
+use Rattle.storage.proofs.Inside.{cell-inside, cell-room}
+use Rattle.storage.proofs.Read.{count-at, part-length, part-room, row-part, stored-records}
+use Rattle.storage.proofs.Row.{cells-below}
 use Rattle.place_undo.proofs.Undoing.{undo-freed, undo-lowered}
 use borrow.Author.Needs.{needs}
 use Rattle.place_undo.proofs.undo_record.Statement.{statement}

@@ -9,7 +9,7 @@ use Rattle.lists.specs.Masks.{maskOf}
 use Rattle.lists.proofs.Checkers.{is-so, is-not}
 use Rattle.model.specs.Records.{isHeld, countOf}
 use Rattle.model.specs.State.{Segment}
-use Rattle.records.proofs.Goes.{Unseen, unseen-start, seen, unseen-next, unseen-end}
+use Rattle.records.proofs.Unreferenced.{Unseen, unseen-start, seen, unseen-next, unseen-end}
 use Rattle.records.proofs.any_unused.Statement.{statement}
 use Rattle.records.proofs.any_unused.Tie as tie
 

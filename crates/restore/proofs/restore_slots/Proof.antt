@@ -8,7 +8,7 @@ use Rattle.restore.proofs.restore_slots.Tie as tie
 use Rattle.restore.proofs.restore_slots.Reads as reads
 use Rattle.restore.proofs.restore_slots.Lts as lts
 use Rattle.restore.proofs.refused.Reads as refused-reads
-use Rattle.trace.proofs.restore_image.Reads as restore-image-reads
+use Rattle.restore_trace.proofs.restore_image.Reads as restore-image-reads
 
 -- src/lib.rt:35:18
 shared-slice-read-length : tie.Need-shared-slice-read-length

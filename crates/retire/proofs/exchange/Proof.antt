@@ -3,8 +3,8 @@ use lib.ListN.{length}
 use denote.Ref.{now}
 use Rattle.laws.proofs.Stores.{header}
 use Rattle.model.specs.Table.{recordsIn}
-use Rattle.shelf.specs.Fits.{Fits, NamesHeld}
-use Rattle.meets.proofs.Records.{stored-read}
+use Rattle.storage.specs.Fits.{WithinRecords, NamesHeld}
+use Rattle.sound_laws.proofs.Records.{stored-read}
 use Rattle.retire.proofs.Cases.{records-in, there-read, counts-read, exchanged-read}
 use borrow.Author.Needs.{needs}
 use Rattle.retire.proofs.exchange.Statement.{statement}
@@ -32,8 +32,8 @@ exchange-requires c κs =
       stored-read (a .pre .0 .0) _ e _ (a .pre .0 .1),
       (
         (
-          there-read (a .pre .0 .0) _ e _ (a .pre .0 .1) (λ n w p. Fits n (length w) p × NamesHeld (recordsIn n w) p) (now (a .args .taken)) (a .pre .1 .0),
-          there-read (a .pre .0 .0) _ e _ (a .pre .0 .1) (λ n w p. Fits n (length w) p) (now (a .args .gone)) (a .pre .1 .1),
+          there-read (a .pre .0 .0) _ e _ (a .pre .0 .1) (λ n w p. WithinRecords n (length w) p × NamesHeld (recordsIn n w) p) (now (a .args .taken)) (a .pre .1 .0),
+          there-read (a .pre .0 .0) _ e _ (a .pre .0 .1) (λ n w p. WithinRecords n (length w) p) (now (a .args .gone)) (a .pre .1 .1),
         ),
         counts-read (a .pre .0 .0) _ e _ (a .pre .0 .1) _ (a .pre .0 .2),
       ),

@@ -12,7 +12,7 @@ use Rattle.sent_accept.proofs.lists_fit.Statement.{statement}
 use Rattle.sent_accept.proofs.lists_fit.Tie as tie
 use Rattle.sent_accept.proofs.lists_fit.Reads as reads
 use Rattle.sent_accept.proofs.lists_fit.Lts as lts
-use Rattle.accept.proofs.most_bytes.Reads as most-bytes-reads
+use Rattle.backup_accept.proofs.most_bytes.Reads as most-bytes-reads
 use Rattle.layout.proofs.measures_in.Reads as measures-in-reads
 use Rattle.numbers.proofs.Measures.segment_bytes.Reads as segment-bytes-reads
 use Rattle.numbers.proofs.Measures.segments.Reads as segments-reads

@@ -7,7 +7,7 @@ use Rattle.sent_accept.proofs.sent_refusal.Statement.{statement}
 use Rattle.sent_accept.proofs.sent_refusal.Tie as tie
 use Rattle.sent_accept.proofs.sent_refusal.Reads as reads
 use Rattle.sent_accept.proofs.sent_refusal.Lts as lts
-use Rattle.accept.proofs.till_refusal.Reads as till-refusal-reads
+use Rattle.backup_accept.proofs.till_refusal.Reads as till-refusal-reads
 use Rattle.sent_accept.proofs.lists_fit.Reads as lists-fit-reads
 
 -- src/lib.rt:101:8

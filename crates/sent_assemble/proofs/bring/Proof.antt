@@ -1,6 +1,6 @@
 use native.Mathlib.Omega.{arith}
 use denote.Ref.{now}
-use Rattle.model.specs.Table.{shelfIn}
+use Rattle.model.specs.Table.{storageIn}
 use Rattle.numbers.specs.Measures.{measuresOf}
 use Rattle.sent_assemble.proofs.Taking.{width-is, sent-there, had-there, sent-brought, had-brought}
 use borrow.Author.Needs.{needs}
@@ -26,7 +26,7 @@ same-length c = search needs
 
 -- src/lib.rt:48:9
 returns : tie.Need-returns
-returns c = sent-brought (measuresOf (c .before .before .before .before .before .before .before .before .before .before .before .before .args .m)) (shelfIn (measuresOf (c .before .before .before .before .before .before .before .before .before .before .before .before .args .m)) (now (c .before .before .before .before .before .before .before .before .before .before .before .before .args .pool)) (now (c .before .before .before .before .before .before .before .before .before .before .before .before .args .words))) (c .before .before .before .before .before .before .before .before .before .before .before .before .args .mark) (c .before .before .before .before .before .before .before .before .before .before .before .before .args .s) (now (c .before .before .before .before .before .before .before .before .before .before .before .before .args .segments)) (now (c .before .before .before .before .before .before .before .before .before .before .before .before .args .fingerprint)) _ _ _ (width-is (measuresOf (c .before .before .before .before .before .before .before .before .before .before .before .before .args .m)) _ (c .before .before .before .before .segment-bytes .ensures .0)) (c .before .before .before .before .before .if1 .taken) (c .before .before .bring-sent .ensures)
+returns c = sent-brought (measuresOf (c .before .before .before .before .before .before .before .before .before .before .before .before .args .m)) (storageIn (measuresOf (c .before .before .before .before .before .before .before .before .before .before .before .before .args .m)) (now (c .before .before .before .before .before .before .before .before .before .before .before .before .args .pool)) (now (c .before .before .before .before .before .before .before .before .before .before .before .before .args .words))) (c .before .before .before .before .before .before .before .before .before .before .before .before .args .mark) (c .before .before .before .before .before .before .before .before .before .before .before .before .args .s) (now (c .before .before .before .before .before .before .before .before .before .before .before .before .args .segments)) (now (c .before .before .before .before .before .before .before .before .before .before .before .before .args .fingerprint)) _ _ _ (width-is (measuresOf (c .before .before .before .before .before .before .before .before .before .before .before .before .args .m)) _ (c .before .before .before .before .segment-bytes .ensures .0)) (c .before .before .before .before .before .if1 .taken) (c .before .before .bring-sent .ensures)
 
 -- src/lib.rt:50:5
 bring-had-requires : tie.Need-bring-had-requires
@@ -38,7 +38,7 @@ same-length-2 c = search needs
 
 -- src/lib.rt:29:1
 returns-2 : tie.Need-returns-2
-returns-2 c = let p = c .before .before .before .before .before .before .before .before .before .before .before .pre .0 in let t = had-there (measuresOf (c .before .before .before .before .before .before .before .before .before .before .before .args .m)) (c .before .before .before .before .before .before .before .before .before .before .before .args .mark) (c .before .before .before .before .before .before .before .before .before .before .before .args .s) (now (c .before .before .before .before .before .before .before .before .before .before .before .args .segments)) (now (c .before .before .before .before .before .before .before .before .before .before .before .args .prints)) (p .2) (c .before .before .before .before .if1 .left) (p .3) (p .4) in had-brought (measuresOf (c .before .before .before .before .before .before .before .before .before .before .before .args .m)) (shelfIn (measuresOf (c .before .before .before .before .before .before .before .before .before .before .before .args .m)) (now (c .before .before .before .before .before .before .before .before .before .before .before .args .pool)) (now (c .before .before .before .before .before .before .before .before .before .before .before .args .words))) (c .before .before .before .before .before .before .before .before .before .before .before .args .mark) (c .before .before .before .before .before .before .before .before .before .before .before .args .s) (now (c .before .before .before .before .before .before .before .before .before .before .before .args .segments)) (now (c .before .before .before .before .before .before .before .before .before .before .before .args .fingerprint)) _ _ (t .0) (c .before .before .bring-had .ensures)
+returns-2 c = let p = c .before .before .before .before .before .before .before .before .before .before .before .pre .0 in let t = had-there (measuresOf (c .before .before .before .before .before .before .before .before .before .before .before .args .m)) (c .before .before .before .before .before .before .before .before .before .before .before .args .mark) (c .before .before .before .before .before .before .before .before .before .before .before .args .s) (now (c .before .before .before .before .before .before .before .before .before .before .before .args .segments)) (now (c .before .before .before .before .before .before .before .before .before .before .before .args .prints)) (p .2) (c .before .before .before .before .if1 .left) (p .3) (p .4) in had-brought (measuresOf (c .before .before .before .before .before .before .before .before .before .before .before .args .m)) (storageIn (measuresOf (c .before .before .before .before .before .before .before .before .before .before .before .args .m)) (now (c .before .before .before .before .before .before .before .before .before .before .before .args .pool)) (now (c .before .before .before .before .before .before .before .before .before .before .before .args .words))) (c .before .before .before .before .before .before .before .before .before .before .before .args .mark) (c .before .before .before .before .before .before .before .before .before .before .before .args .s) (now (c .before .before .before .before .before .before .before .before .before .before .before .args .segments)) (now (c .before .before .before .before .before .before .before .before .before .before .before .args .fingerprint)) _ _ (t .0) (c .before .before .bring-had .ensures)
 
 pub bring-spec : {M : Type 1} → statement M
 bring-spec =

@@ -6,7 +6,7 @@ use denote.Ref.{now}
 use borrow.Author.Needs.{needs}
 use borrow.Rule.Slice.PartMut.{same-len-mid}
 use Rattle.lists.proofs.Answers.{part-long}
-use Rattle.model.specs.Table.{shelfIn}
+use Rattle.model.specs.Table.{storageIn}
 use Rattle.numbers.specs.Measures.{measuresOf}
 use Rattle.sent.specs.Sent.{segmentBytes}
 use Rattle.sent_laws.proofs.Assembling.{At, at-start, at-refused, at-next, at-end}
@@ -21,7 +21,7 @@ use Rattle.sent_assemble.proofs.take_segment.Reads as take-segment-read
 use Rattle.sent_prints.proofs.zero_digest.Reads as zero-digest-reads
 
 abbrev Inv-loop : tie.InvT-loop
-Inv-loop pool words bytes fingerprints marks segments prints numbers out₀ m width zero s₀ j₀ out s j = (width ≡ segmentBytes (measuresOf m)) × (length out ≡ length out₀) × At (measuresOf m) (shelfIn (measuresOf m) pool words) bytes fingerprints marks segments j s out
+Inv-loop pool words bytes fingerprints marks segments prints numbers out₀ m width zero s₀ j₀ out s j = (width ≡ segmentBytes (measuresOf m)) × (length out ≡ length out₀) × At (measuresOf m) (storageIn (measuresOf m) pool words) bytes fingerprints marks segments j s out
 
 abbrev μ-loop : tie.MeasureT-loop
 μ-loop pool words bytes fingerprints marks segments prints numbers out₀ m width zero s₀ j₀ out s j = length marks - j
@@ -32,9 +32,9 @@ facts : (c : tie.In-loop Inv-loop μ-loop)
 facts c =
     let e = c .before .loop .inv .0 in
     let p : c .before .loop .j * c .before .before .before .segment-bytes .result ≡ c .before .loop .j * segmentBytes (measuresOf (c .before .before .before .before .before .before .before .before .before .before .before .before .args .m)) = ap (λ (w : ℕ). c .before .loop .j * w) e in
-    let a = at-room (measuresOf (c .before .before .before .before .before .before .before .before .before .before .before .before .args .m)) (c .before .before .before .before .before .before .before .before .before .before .before .before .pre .0 .measured) (shelfIn (measuresOf (c .before .before .before .before .before .before .before .before .before .before .before .before .args .m)) (now (c .before .before .before .before .before .before .before .before .before .before .before .before .args .pool)) (now (c .before .before .before .before .before .before .before .before .before .before .before .before .args .words))) (c .before .before .before .before .before .before .before .before .before .before .before .before .args .bytes) (now (c .before .before .before .before .before .before .before .before .before .before .before .before .args .fingerprints)) (now (c .before .before .before .before .before .before .before .before .before .before .before .before .args .marks)) (now (c .before .before .before .before .before .before .before .before .before .before .before .before .args .segments)) (c .before .before .before .before .before .before .before .before .before .before .before .before .pre .1) (c .before .loop .inv .2) (omega arith) in
-    let b = at-inside (measuresOf (c .before .before .before .before .before .before .before .before .before .before .before .before .args .m)) (c .before .before .before .before .before .before .before .before .before .before .before .before .pre .0 .measured) (shelfIn (measuresOf (c .before .before .before .before .before .before .before .before .before .before .before .before .args .m)) (now (c .before .before .before .before .before .before .before .before .before .before .before .before .args .pool)) (now (c .before .before .before .before .before .before .before .before .before .before .before .before .args .words))) (c .before .before .before .before .before .before .before .before .before .before .before .before .args .bytes) (now (c .before .before .before .before .before .before .before .before .before .before .before .before .args .fingerprints)) (now (c .before .before .before .before .before .before .before .before .before .before .before .before .args .marks)) (now (c .before .before .before .before .before .before .before .before .before .before .before .before .args .segments)) (c .before .before .before .before .before .before .before .before .before .before .before .before .pre .1) (c .before .loop .inv .2) (omega arith) in
-    (omega (arith, p, e, a, c .before .before .before .before .before .before .before .before .before .before .before .before .pre .6, c .before .loop .inv .1), omega (arith, p, b), print-room (measuresOf (c .before .before .before .before .before .before .before .before .before .before .before .before .args .m)) (c .before .before .before .before .before .before .before .before .before .before .before .before .pre .0 .measured) (shelfIn (measuresOf (c .before .before .before .before .before .before .before .before .before .before .before .before .args .m)) (now (c .before .before .before .before .before .before .before .before .before .before .before .before .args .pool)) (now (c .before .before .before .before .before .before .before .before .before .before .before .before .args .words))) (c .before .before .before .before .before .before .before .before .before .before .before .before .args .bytes) (now (c .before .before .before .before .before .before .before .before .before .before .before .before .args .fingerprints)) (now (c .before .before .before .before .before .before .before .before .before .before .before .before .args .marks)) (now (c .before .before .before .before .before .before .before .before .before .before .before .before .args .segments)) (c .before .before .before .before .before .before .before .before .before .before .before .before .pre .1) (c .before .loop .inv .2) (omega arith), omega (arith, marks-few (measuresOf (c .before .before .before .before .before .before .before .before .before .before .before .before .args .m)) (c .before .before .before .before .before .before .before .before .before .before .before .before .pre .0 .measured) (c .before .before .before .before .before .before .before .before .before .before .before .before .args .bytes) (now (c .before .before .before .before .before .before .before .before .before .before .before .before .args .fingerprints)) (now (c .before .before .before .before .before .before .before .before .before .before .before .before .args .marks)) (now (c .before .before .before .before .before .before .before .before .before .before .before .before .args .segments)) (c .before .before .before .before .before .before .before .before .before .before .before .before .pre .1)))
+    let a = at-room (measuresOf (c .before .before .before .before .before .before .before .before .before .before .before .before .args .m)) (c .before .before .before .before .before .before .before .before .before .before .before .before .pre .0 .measured) (storageIn (measuresOf (c .before .before .before .before .before .before .before .before .before .before .before .before .args .m)) (now (c .before .before .before .before .before .before .before .before .before .before .before .before .args .pool)) (now (c .before .before .before .before .before .before .before .before .before .before .before .before .args .words))) (c .before .before .before .before .before .before .before .before .before .before .before .before .args .bytes) (now (c .before .before .before .before .before .before .before .before .before .before .before .before .args .fingerprints)) (now (c .before .before .before .before .before .before .before .before .before .before .before .before .args .marks)) (now (c .before .before .before .before .before .before .before .before .before .before .before .before .args .segments)) (c .before .before .before .before .before .before .before .before .before .before .before .before .pre .1) (c .before .loop .inv .2) (omega arith) in
+    let b = at-inside (measuresOf (c .before .before .before .before .before .before .before .before .before .before .before .before .args .m)) (c .before .before .before .before .before .before .before .before .before .before .before .before .pre .0 .measured) (storageIn (measuresOf (c .before .before .before .before .before .before .before .before .before .before .before .before .args .m)) (now (c .before .before .before .before .before .before .before .before .before .before .before .before .args .pool)) (now (c .before .before .before .before .before .before .before .before .before .before .before .before .args .words))) (c .before .before .before .before .before .before .before .before .before .before .before .before .args .bytes) (now (c .before .before .before .before .before .before .before .before .before .before .before .before .args .fingerprints)) (now (c .before .before .before .before .before .before .before .before .before .before .before .before .args .marks)) (now (c .before .before .before .before .before .before .before .before .before .before .before .before .args .segments)) (c .before .before .before .before .before .before .before .before .before .before .before .before .pre .1) (c .before .loop .inv .2) (omega arith) in
+    (omega (arith, p, e, a, c .before .before .before .before .before .before .before .before .before .before .before .before .pre .6, c .before .loop .inv .1), omega (arith, p, b), print-room (measuresOf (c .before .before .before .before .before .before .before .before .before .before .before .before .args .m)) (c .before .before .before .before .before .before .before .before .before .before .before .before .pre .0 .measured) (storageIn (measuresOf (c .before .before .before .before .before .before .before .before .before .before .before .before .args .m)) (now (c .before .before .before .before .before .before .before .before .before .before .before .before .args .pool)) (now (c .before .before .before .before .before .before .before .before .before .before .before .before .args .words))) (c .before .before .before .before .before .before .before .before .before .before .before .before .args .bytes) (now (c .before .before .before .before .before .before .before .before .before .before .before .before .args .fingerprints)) (now (c .before .before .before .before .before .before .before .before .before .before .before .before .args .marks)) (now (c .before .before .before .before .before .before .before .before .before .before .before .before .args .segments)) (c .before .before .before .before .before .before .before .before .before .before .before .before .pre .1) (c .before .loop .inv .2) (omega arith), omega (arith, marks-few (measuresOf (c .before .before .before .before .before .before .before .before .before .before .before .before .args .m)) (c .before .before .before .before .before .before .before .before .before .before .before .before .pre .0 .measured) (c .before .before .before .before .before .before .before .before .before .before .before .before .args .bytes) (now (c .before .before .before .before .before .before .before .before .before .before .before .before .args .fingerprints)) (now (c .before .before .before .before .before .before .before .before .before .before .before .before .args .marks)) (now (c .before .before .before .before .before .before .before .before .before .before .before .before .args .segments)) (c .before .before .before .before .before .before .before .before .before .before .before .before .pre .1)))
 
 -- src/lib.rt:121:9
 segment-bytes-requires : tie.Need-segment-bytes-requires Inv-loop μ-loop
@@ -46,7 +46,7 @@ zero-digest-requires c κs = c .before .before .before .before .before .before .
 
 -- src/lib.rt:125:5
 loop-holds : tie.Need-loop-holds Inv-loop μ-loop
-loop-holds c = (width-is (measuresOf (c .before .before .before .before .before .before .before .before .before .before .args .m)) _ (c .before .segment-bytes .ensures .0), refl, at-start (measuresOf (c .before .before .before .before .before .before .before .before .before .before .args .m)) (shelfIn (measuresOf (c .before .before .before .before .before .before .before .before .before .before .args .m)) (now (c .before .before .before .before .before .before .before .before .before .before .args .pool)) (now (c .before .before .before .before .before .before .before .before .before .before .args .words))) (c .before .before .before .before .before .before .before .before .before .before .args .bytes) (now (c .before .before .before .before .before .before .before .before .before .before .args .fingerprints)) (now (c .before .before .before .before .before .before .before .before .before .before .args .marks)) (now (c .before .before .before .before .before .before .before .before .before .before .args .segments)) _)
+loop-holds c = (width-is (measuresOf (c .before .before .before .before .before .before .before .before .before .before .args .m)) _ (c .before .segment-bytes .ensures .0), refl, at-start (measuresOf (c .before .before .before .before .before .before .before .before .before .before .args .m)) (storageIn (measuresOf (c .before .before .before .before .before .before .before .before .before .before .args .m)) (now (c .before .before .before .before .before .before .before .before .before .before .args .pool)) (now (c .before .before .before .before .before .before .before .before .before .before .args .words))) (c .before .before .before .before .before .before .before .before .before .before .args .bytes) (now (c .before .before .before .before .before .before .before .before .before .before .args .fingerprints)) (now (c .before .before .before .before .before .before .before .before .before .before .args .marks)) (now (c .before .before .before .before .before .before .before .before .before .before .args .segments)) _)
 
 -- src/lib.rt:126:18
 mul-at : tie.Need-mul-at Inv-loop μ-loop
@@ -113,9 +113,9 @@ take-segment-requires c κs =
       (
         a .pre .0,
         a .pre .2,
-        mark-one (measuresOf (c .before .before .before .before .before .before .before .before .before .before .before .before .before .before .before .before .args .m)) (c .before .before .before .before .before .before .before .before .before .before .before .before .before .before .before .before .pre .0 .measured) (shelfIn (measuresOf (c .before .before .before .before .before .before .before .before .before .before .before .before .before .before .before .before .args .m)) (now (c .before .before .before .before .before .before .before .before .before .before .before .before .before .before .before .before .args .pool)) (now (c .before .before .before .before .before .before .before .before .before .before .before .before .before .before .before .before .args .words))) (c .before .before .before .before .before .before .before .before .before .before .before .before .before .before .before .before .args .bytes) (now (c .before .before .before .before .before .before .before .before .before .before .before .before .before .before .before .before .args .fingerprints)) (now (c .before .before .before .before .before .before .before .before .before .before .before .before .before .before .before .before .args .marks)) (now (c .before .before .before .before .before .before .before .before .before .before .before .before .before .before .before .before .args .segments)) (c .before .before .before .before .before .before .before .before .before .before .before .before .before .before .before .before .pre .1) (c .before .before .before .before .before .loop .inv .2) (omega arith),
-        sent-room (measuresOf (c .before .before .before .before .before .before .before .before .before .before .before .before .before .before .before .before .args .m)) (c .before .before .before .before .before .before .before .before .before .before .before .before .before .before .before .before .pre .0 .measured) (shelfIn (measuresOf (c .before .before .before .before .before .before .before .before .before .before .before .before .before .before .before .before .args .m)) (now (c .before .before .before .before .before .before .before .before .before .before .before .before .before .before .before .before .args .pool)) (now (c .before .before .before .before .before .before .before .before .before .before .before .before .before .before .before .before .args .words))) (c .before .before .before .before .before .before .before .before .before .before .before .before .before .before .before .before .args .bytes) (now (c .before .before .before .before .before .before .before .before .before .before .before .before .before .before .before .before .args .fingerprints)) (now (c .before .before .before .before .before .before .before .before .before .before .before .before .before .before .before .before .args .marks)) (now (c .before .before .before .before .before .before .before .before .before .before .before .before .before .before .before .before .args .segments)) (c .before .before .before .before .before .before .before .before .before .before .before .before .before .before .before .before .pre .1) (c .before .before .before .before .before .loop .inv .2) (omega arith),
-        omega (arith, a .pre .3, prints-room (measuresOf (c .before .before .before .before .before .before .before .before .before .before .before .before .before .before .before .before .args .m)) (c .before .before .before .before .before .before .before .before .before .before .before .before .before .before .before .before .pre .0 .measured) (shelfIn (measuresOf (c .before .before .before .before .before .before .before .before .before .before .before .before .before .before .before .before .args .m)) (now (c .before .before .before .before .before .before .before .before .before .before .before .before .before .before .before .before .args .pool)) (now (c .before .before .before .before .before .before .before .before .before .before .before .before .before .before .before .before .args .words))) (c .before .before .before .before .before .before .before .before .before .before .before .before .before .before .before .before .args .bytes) (now (c .before .before .before .before .before .before .before .before .before .before .before .before .before .before .before .before .args .fingerprints)) (now (c .before .before .before .before .before .before .before .before .before .before .before .before .before .before .before .before .args .marks)) (now (c .before .before .before .before .before .before .before .before .before .before .before .before .before .before .before .before .args .segments)) (c .before .before .before .before .before .before .before .before .before .before .before .before .before .before .before .before .pre .1) (c .before .before .before .before .before .loop .inv .2) (omega arith)),
+        mark-one (measuresOf (c .before .before .before .before .before .before .before .before .before .before .before .before .before .before .before .before .args .m)) (c .before .before .before .before .before .before .before .before .before .before .before .before .before .before .before .before .pre .0 .measured) (storageIn (measuresOf (c .before .before .before .before .before .before .before .before .before .before .before .before .before .before .before .before .args .m)) (now (c .before .before .before .before .before .before .before .before .before .before .before .before .before .before .before .before .args .pool)) (now (c .before .before .before .before .before .before .before .before .before .before .before .before .before .before .before .before .args .words))) (c .before .before .before .before .before .before .before .before .before .before .before .before .before .before .before .before .args .bytes) (now (c .before .before .before .before .before .before .before .before .before .before .before .before .before .before .before .before .args .fingerprints)) (now (c .before .before .before .before .before .before .before .before .before .before .before .before .before .before .before .before .args .marks)) (now (c .before .before .before .before .before .before .before .before .before .before .before .before .before .before .before .before .args .segments)) (c .before .before .before .before .before .before .before .before .before .before .before .before .before .before .before .before .pre .1) (c .before .before .before .before .before .loop .inv .2) (omega arith),
+        sent-room (measuresOf (c .before .before .before .before .before .before .before .before .before .before .before .before .before .before .before .before .args .m)) (c .before .before .before .before .before .before .before .before .before .before .before .before .before .before .before .before .pre .0 .measured) (storageIn (measuresOf (c .before .before .before .before .before .before .before .before .before .before .before .before .before .before .before .before .args .m)) (now (c .before .before .before .before .before .before .before .before .before .before .before .before .before .before .before .before .args .pool)) (now (c .before .before .before .before .before .before .before .before .before .before .before .before .before .before .before .before .args .words))) (c .before .before .before .before .before .before .before .before .before .before .before .before .before .before .before .before .args .bytes) (now (c .before .before .before .before .before .before .before .before .before .before .before .before .before .before .before .before .args .fingerprints)) (now (c .before .before .before .before .before .before .before .before .before .before .before .before .before .before .before .before .args .marks)) (now (c .before .before .before .before .before .before .before .before .before .before .before .before .before .before .before .before .args .segments)) (c .before .before .before .before .before .before .before .before .before .before .before .before .before .before .before .before .pre .1) (c .before .before .before .before .before .loop .inv .2) (omega arith),
+        omega (arith, a .pre .3, prints-room (measuresOf (c .before .before .before .before .before .before .before .before .before .before .before .before .before .before .before .before .args .m)) (c .before .before .before .before .before .before .before .before .before .before .before .before .before .before .before .before .pre .0 .measured) (storageIn (measuresOf (c .before .before .before .before .before .before .before .before .before .before .before .before .before .before .before .before .args .m)) (now (c .before .before .before .before .before .before .before .before .before .before .before .before .before .before .before .before .args .pool)) (now (c .before .before .before .before .before .before .before .before .before .before .before .before .before .before .before .before .args .words))) (c .before .before .before .before .before .before .before .before .before .before .before .before .before .before .before .before .args .bytes) (now (c .before .before .before .before .before .before .before .before .before .before .before .before .before .before .before .before .args .fingerprints)) (now (c .before .before .before .before .before .before .before .before .before .before .before .before .before .before .before .before .args .marks)) (now (c .before .before .before .before .before .before .before .before .before .before .before .before .before .before .before .before .args .segments)) (c .before .before .before .before .before .before .before .before .before .before .before .before .before .before .before .before .pre .1) (c .before .before .before .before .before .loop .inv .2) (omega arith)),
         c .before .before .before .before .before .before .zero-digest .ensures,
         part-long (l .out) (l .j * c .before .before .before .before .before .before .before .segment-bytes .result) (c .before .before .before .before .before .before .before .segment-bytes .result) (f .0) ∙ l .inv .0,
       ),
@@ -131,8 +131,8 @@ returns : tie.Need-returns Inv-loop μ-loop
 returns c =
     let a = c .before .before .before .before .before .before .before .before .before .before .before .before .before .before .before .before .before .before .before .before in
     let l = c .before .before .before .before .before .before .before .before .before .loop in
-    at-refused (measuresOf (c .before .before .before .before .before .before .before .before .before .before .before .before .before .before .before .before .before .before .before .before .args .m)) (shelfIn (measuresOf (c .before .before .before .before .before .before .before .before .before .before .before .before .before .before .before .before .before .before .before .before .args .m)) (now (c .before .before .before .before .before .before .before .before .before .before .before .before .before .before .before .before .before .before .before .before .args .pool)) (now (c .before .before .before .before .before .before .before .before .before .before .before .before .before .before .before .before .before .before .before .before .args .words))) (c .before .before .before .before .before .before .before .before .before .before .before .before .before .before .before .before .before .before .before .before .args .bytes) (now (c .before .before .before .before .before .before .before .before .before .before .before .before .before .before .before .before .before .before .before .before .args .fingerprints)) (now (c .before .before .before .before .before .before .before .before .before .before .before .before .before .before .before .before .before .before .before .before .args .marks)) (now (c .before .before .before .before .before .before .before .before .before .before .before .before .before .before .before .before .before .before .before .before .args .segments)) (l .inv .2) (omega arith) (mark-one (measuresOf (c .before .before .before .before .before .before .before .before .before .before .before .before .before .before .before .before .before .before .before .before .args .m)) (c .before .before .before .before .before .before .before .before .before .before .before .before .before .before .before .before .before .before .before .before .pre .0 .measured) (shelfIn (measuresOf (c .before .before .before .before .before .before .before .before .before .before .before .before .before .before .before .before .before .before .before .before .args .m)) (now (c .before .before .before .before .before .before .before .before .before .before .before .before .before .before .before .before .before .before .before .before .args .pool)) (now (c .before .before .before .before .before .before .before .before .before .before .before .before .before .before .before .before .before .before .before .before .args .words))) (c .before .before .before .before .before .before .before .before .before .before .before .before .before .before .before .before .before .before .before .before .args .bytes) (now (c .before .before .before .before .before .before .before .before .before .before .before .before .before .before .before .before .before .before .before .before .args .fingerprints)) (now (c .before .before .before .before .before .before .before .before .before .before .before .before .before .before .before .before .before .before .before .before .args .marks)) (now (c .before .before .before .before .before .before .before .before .before .before .before .before .before .before .before .before .before .before .before .before .args .segments)) (c .before .before .before .before .before .before .before .before .before .before .before .before .before .before .before .before .before .before .before .before .pre .1) (c .before .before .before .before .before .before .before .before .before .loop .inv .2) (omega arith)) (c .before .before .before .take-segment .result) _
-    (next-is (measuresOf (c .before .before .before .before .before .before .before .before .before .before .before .before .before .before .before .before .before .before .before .before .args .m)) (shelfIn (measuresOf (c .before .before .before .before .before .before .before .before .before .before .before .before .before .before .before .before .before .before .before .before .args .m)) (now (c .before .before .before .before .before .before .before .before .before .before .before .before .before .before .before .before .before .before .before .before .args .pool)) (now (c .before .before .before .before .before .before .before .before .before .before .before .before .before .before .before .before .before .before .before .before .args .words))) (c .before .before .before .before .before .before .before .before .before .before .before .before .before .before .before .before .before .before .before .before .args .bytes) (now (c .before .before .before .before .before .before .before .before .before .before .before .before .before .before .before .before .before .before .before .before .args .fingerprints)) (now (c .before .before .before .before .before .before .before .before .before .before .before .before .before .before .before .before .before .before .before .before .args .marks)) (now (c .before .before .before .before .before .before .before .before .before .before .before .before .before .before .before .before .before .before .before .before .args .segments)) (l .j) (l .s) _ (l .inv .0) _ (print-is (now (a .args .fingerprints)) (l .j)) _ _ (c .before .before .before .take-segment .ensures)) (c .if1 .taken) _
+    at-refused (measuresOf (c .before .before .before .before .before .before .before .before .before .before .before .before .before .before .before .before .before .before .before .before .args .m)) (storageIn (measuresOf (c .before .before .before .before .before .before .before .before .before .before .before .before .before .before .before .before .before .before .before .before .args .m)) (now (c .before .before .before .before .before .before .before .before .before .before .before .before .before .before .before .before .before .before .before .before .args .pool)) (now (c .before .before .before .before .before .before .before .before .before .before .before .before .before .before .before .before .before .before .before .before .args .words))) (c .before .before .before .before .before .before .before .before .before .before .before .before .before .before .before .before .before .before .before .before .args .bytes) (now (c .before .before .before .before .before .before .before .before .before .before .before .before .before .before .before .before .before .before .before .before .args .fingerprints)) (now (c .before .before .before .before .before .before .before .before .before .before .before .before .before .before .before .before .before .before .before .before .args .marks)) (now (c .before .before .before .before .before .before .before .before .before .before .before .before .before .before .before .before .before .before .before .before .args .segments)) (l .inv .2) (omega arith) (mark-one (measuresOf (c .before .before .before .before .before .before .before .before .before .before .before .before .before .before .before .before .before .before .before .before .args .m)) (c .before .before .before .before .before .before .before .before .before .before .before .before .before .before .before .before .before .before .before .before .pre .0 .measured) (storageIn (measuresOf (c .before .before .before .before .before .before .before .before .before .before .before .before .before .before .before .before .before .before .before .before .args .m)) (now (c .before .before .before .before .before .before .before .before .before .before .before .before .before .before .before .before .before .before .before .before .args .pool)) (now (c .before .before .before .before .before .before .before .before .before .before .before .before .before .before .before .before .before .before .before .before .args .words))) (c .before .before .before .before .before .before .before .before .before .before .before .before .before .before .before .before .before .before .before .before .args .bytes) (now (c .before .before .before .before .before .before .before .before .before .before .before .before .before .before .before .before .before .before .before .before .args .fingerprints)) (now (c .before .before .before .before .before .before .before .before .before .before .before .before .before .before .before .before .before .before .before .before .args .marks)) (now (c .before .before .before .before .before .before .before .before .before .before .before .before .before .before .before .before .before .before .before .before .args .segments)) (c .before .before .before .before .before .before .before .before .before .before .before .before .before .before .before .before .before .before .before .before .pre .1) (c .before .before .before .before .before .before .before .before .before .loop .inv .2) (omega arith)) (c .before .before .before .take-segment .result) _
+    (next-is (measuresOf (c .before .before .before .before .before .before .before .before .before .before .before .before .before .before .before .before .before .before .before .before .args .m)) (storageIn (measuresOf (c .before .before .before .before .before .before .before .before .before .before .before .before .before .before .before .before .before .before .before .before .args .m)) (now (c .before .before .before .before .before .before .before .before .before .before .before .before .before .before .before .before .before .before .before .before .args .pool)) (now (c .before .before .before .before .before .before .before .before .before .before .before .before .before .before .before .before .before .before .before .before .args .words))) (c .before .before .before .before .before .before .before .before .before .before .before .before .before .before .before .before .before .before .before .before .args .bytes) (now (c .before .before .before .before .before .before .before .before .before .before .before .before .before .before .before .before .before .before .before .before .args .fingerprints)) (now (c .before .before .before .before .before .before .before .before .before .before .before .before .before .before .before .before .before .before .before .before .args .marks)) (now (c .before .before .before .before .before .before .before .before .before .before .before .before .before .before .before .before .before .before .before .before .args .segments)) (l .j) (l .s) _ (l .inv .0) _ (print-is (now (a .args .fingerprints)) (l .j)) _ _ (c .before .before .before .take-segment .ensures)) (c .if1 .taken) _
 
 -- src/lib.rt:147:17
 shared-slice-read-s : tie.Need-shared-slice-read-s Inv-loop μ-loop
@@ -140,11 +140,11 @@ shared-slice-read-s c = search needs
 
 -- src/lib.rt:147:17
 cast-s : tie.Need-cast-s Inv-loop μ-loop
-cast-s c = omega (arith, mark-one (measuresOf (c .before .before .before .before .before .before .before .before .before .before .before .before .before .before .before .before .before .before .before .before .before .args .m)) (c .before .before .before .before .before .before .before .before .before .before .before .before .before .before .before .before .before .before .before .before .before .pre .0 .measured) (shelfIn (measuresOf (c .before .before .before .before .before .before .before .before .before .before .before .before .before .before .before .before .before .before .before .before .before .args .m)) (now (c .before .before .before .before .before .before .before .before .before .before .before .before .before .before .before .before .before .before .before .before .before .args .pool)) (now (c .before .before .before .before .before .before .before .before .before .before .before .before .before .before .before .before .before .before .before .before .before .args .words))) (c .before .before .before .before .before .before .before .before .before .before .before .before .before .before .before .before .before .before .before .before .before .args .bytes) (now (c .before .before .before .before .before .before .before .before .before .before .before .before .before .before .before .before .before .before .before .before .before .args .fingerprints)) (now (c .before .before .before .before .before .before .before .before .before .before .before .before .before .before .before .before .before .before .before .before .before .args .marks)) (now (c .before .before .before .before .before .before .before .before .before .before .before .before .before .before .before .before .before .before .before .before .before .args .segments)) (c .before .before .before .before .before .before .before .before .before .before .before .before .before .before .before .before .before .before .before .before .before .pre .1) (c .before .before .before .before .before .before .before .before .before .before .loop .inv .2) (omega arith))
+cast-s c = omega (arith, mark-one (measuresOf (c .before .before .before .before .before .before .before .before .before .before .before .before .before .before .before .before .before .before .before .before .before .args .m)) (c .before .before .before .before .before .before .before .before .before .before .before .before .before .before .before .before .before .before .before .before .before .pre .0 .measured) (storageIn (measuresOf (c .before .before .before .before .before .before .before .before .before .before .before .before .before .before .before .before .before .before .before .before .before .args .m)) (now (c .before .before .before .before .before .before .before .before .before .before .before .before .before .before .before .before .before .before .before .before .before .args .pool)) (now (c .before .before .before .before .before .before .before .before .before .before .before .before .before .before .before .before .before .before .before .before .before .args .words))) (c .before .before .before .before .before .before .before .before .before .before .before .before .before .before .before .before .before .before .before .before .before .args .bytes) (now (c .before .before .before .before .before .before .before .before .before .before .before .before .before .before .before .before .before .before .before .before .before .args .fingerprints)) (now (c .before .before .before .before .before .before .before .before .before .before .before .before .before .before .before .before .before .before .before .before .before .args .marks)) (now (c .before .before .before .before .before .before .before .before .before .before .before .before .before .before .before .before .before .before .before .before .before .args .segments)) (c .before .before .before .before .before .before .before .before .before .before .before .before .before .before .before .before .before .before .before .before .before .pre .1) (c .before .before .before .before .before .before .before .before .before .before .loop .inv .2) (omega arith))
 
 -- src/lib.rt:147:13
 add-s : tie.Need-add-s Inv-loop μ-loop
-add-s c = omega (arith, prints-room (measuresOf (c .before .before .before .before .before .before .before .before .before .before .before .before .before .before .before .before .before .before .before .before .before .args .m)) (c .before .before .before .before .before .before .before .before .before .before .before .before .before .before .before .before .before .before .before .before .before .pre .0 .measured) (shelfIn (measuresOf (c .before .before .before .before .before .before .before .before .before .before .before .before .before .before .before .before .before .before .before .before .before .args .m)) (now (c .before .before .before .before .before .before .before .before .before .before .before .before .before .before .before .before .before .before .before .before .before .args .pool)) (now (c .before .before .before .before .before .before .before .before .before .before .before .before .before .before .before .before .before .before .before .before .before .args .words))) (c .before .before .before .before .before .before .before .before .before .before .before .before .before .before .before .before .before .before .before .before .before .args .bytes) (now (c .before .before .before .before .before .before .before .before .before .before .before .before .before .before .before .before .before .before .before .before .before .args .fingerprints)) (now (c .before .before .before .before .before .before .before .before .before .before .before .before .before .before .before .before .before .before .before .before .before .args .marks)) (now (c .before .before .before .before .before .before .before .before .before .before .before .before .before .before .before .before .before .before .before .before .before .args .segments)) (c .before .before .before .before .before .before .before .before .before .before .before .before .before .before .before .before .before .before .before .before .before .pre .1) (c .before .before .before .before .before .before .before .before .before .before .loop .inv .2) (omega arith))
+add-s c = omega (arith, prints-room (measuresOf (c .before .before .before .before .before .before .before .before .before .before .before .before .before .before .before .before .before .before .before .before .before .args .m)) (c .before .before .before .before .before .before .before .before .before .before .before .before .before .before .before .before .before .before .before .before .before .pre .0 .measured) (storageIn (measuresOf (c .before .before .before .before .before .before .before .before .before .before .before .before .before .before .before .before .before .before .before .before .before .args .m)) (now (c .before .before .before .before .before .before .before .before .before .before .before .before .before .before .before .before .before .before .before .before .before .args .pool)) (now (c .before .before .before .before .before .before .before .before .before .before .before .before .before .before .before .before .before .before .before .before .before .args .words))) (c .before .before .before .before .before .before .before .before .before .before .before .before .before .before .before .before .before .before .before .before .before .args .bytes) (now (c .before .before .before .before .before .before .before .before .before .before .before .before .before .before .before .before .before .before .before .before .before .args .fingerprints)) (now (c .before .before .before .before .before .before .before .before .before .before .before .before .before .before .before .before .before .before .before .before .before .args .marks)) (now (c .before .before .before .before .before .before .before .before .before .before .before .before .before .before .before .before .before .before .before .before .before .args .segments)) (c .before .before .before .before .before .before .before .before .before .before .before .before .before .before .before .before .before .before .before .before .before .pre .1) (c .before .before .before .before .before .before .before .before .before .before .loop .inv .2) (omega arith))
 
 -- src/lib.rt:148:13
 add-j : tie.Need-add-j Inv-loop μ-loop
@@ -164,8 +164,8 @@ loop-again c =
     let n = c .before .before .before .before .take-segment .kept .1 .1 .1 .1 .1 .1 .1 .1 .1 .1 .0 ∙ part-long (l .out) (l .j * w) w (f .0) in (
       l .inv .0,
       same-len-mid (l .j * w) (l .j * w + w - l .j * w) (l .out) (c .before .before .before .before .take-segment .last .1 .1 .1 .1 .1 .1 .1 .1 .1 .1 .0) (c .before .before .before .before .take-segment .kept .1 .1 .1 .1 .1 .1 .1 .1 .1 .1 .0) ∙ l .inv .1,
-      at-next (measuresOf (c .before .before .before .before .before .before .before .before .before .before .before .before .before .before .before .before .before .before .before .before .before .args .m)) (shelfIn (measuresOf (c .before .before .before .before .before .before .before .before .before .before .before .before .before .before .before .before .before .before .before .before .before .args .m)) (now (c .before .before .before .before .before .before .before .before .before .before .before .before .before .before .before .before .before .before .before .before .before .args .pool)) (now (c .before .before .before .before .before .before .before .before .before .before .before .before .before .before .before .before .before .before .before .before .before .args .words))) (c .before .before .before .before .before .before .before .before .before .before .before .before .before .before .before .before .before .before .before .before .before .args .bytes) (now (c .before .before .before .before .before .before .before .before .before .before .before .before .before .before .before .before .before .before .before .before .before .args .fingerprints)) (now (c .before .before .before .before .before .before .before .before .before .before .before .before .before .before .before .before .before .before .before .before .before .args .marks)) (now (c .before .before .before .before .before .before .before .before .before .before .before .before .before .before .before .before .before .before .before .before .before .args .segments)) (l .inv .2) (omega arith) (mark-one (measuresOf (c .before .before .before .before .before .before .before .before .before .before .before .before .before .before .before .before .before .before .before .before .before .args .m)) (c .before .before .before .before .before .before .before .before .before .before .before .before .before .before .before .before .before .before .before .before .before .pre .0 .measured) (shelfIn (measuresOf (c .before .before .before .before .before .before .before .before .before .before .before .before .before .before .before .before .before .before .before .before .before .args .m)) (now (c .before .before .before .before .before .before .before .before .before .before .before .before .before .before .before .before .before .before .before .before .before .args .pool)) (now (c .before .before .before .before .before .before .before .before .before .before .before .before .before .before .before .before .before .before .before .before .before .args .words))) (c .before .before .before .before .before .before .before .before .before .before .before .before .before .before .before .before .before .before .before .before .before .args .bytes) (now (c .before .before .before .before .before .before .before .before .before .before .before .before .before .before .before .before .before .before .before .before .before .args .fingerprints)) (now (c .before .before .before .before .before .before .before .before .before .before .before .before .before .before .before .before .before .before .before .before .before .args .marks)) (now (c .before .before .before .before .before .before .before .before .before .before .before .before .before .before .before .before .before .before .before .before .before .args .segments)) (c .before .before .before .before .before .before .before .before .before .before .before .before .before .before .before .before .before .before .before .before .before .pre .1) (c .before .before .before .before .before .before .before .before .before .before .loop .inv .2) (omega arith)) (c .before .before .before .before .take-segment .result) (c .before .before .before .before .take-segment .last .1 .1 .1 .1 .1 .1 .1 .1 .1 .1 .0)
-          (next-is (measuresOf (c .before .before .before .before .before .before .before .before .before .before .before .before .before .before .before .before .before .before .before .before .before .args .m)) (shelfIn (measuresOf (c .before .before .before .before .before .before .before .before .before .before .before .before .before .before .before .before .before .before .before .before .before .args .m)) (now (c .before .before .before .before .before .before .before .before .before .before .before .before .before .before .before .before .before .before .before .before .before .args .pool)) (now (c .before .before .before .before .before .before .before .before .before .before .before .before .before .before .before .before .before .before .before .before .before .args .words))) (c .before .before .before .before .before .before .before .before .before .before .before .before .before .before .before .before .before .before .before .before .before .args .bytes) (now (c .before .before .before .before .before .before .before .before .before .before .before .before .before .before .before .before .before .before .before .before .before .args .fingerprints)) (now (c .before .before .before .before .before .before .before .before .before .before .before .before .before .before .before .before .before .before .before .before .before .args .marks)) (now (c .before .before .before .before .before .before .before .before .before .before .before .before .before .before .before .before .before .before .before .before .before .args .segments)) (l .j) (l .s) _ (l .inv .0) _ (print-is (now (a .args .fingerprints)) (l .j)) _ _ (c .before .before .before .before .take-segment .ensures)) (c .before .if1 .left) _
+      at-next (measuresOf (c .before .before .before .before .before .before .before .before .before .before .before .before .before .before .before .before .before .before .before .before .before .args .m)) (storageIn (measuresOf (c .before .before .before .before .before .before .before .before .before .before .before .before .before .before .before .before .before .before .before .before .before .args .m)) (now (c .before .before .before .before .before .before .before .before .before .before .before .before .before .before .before .before .before .before .before .before .before .args .pool)) (now (c .before .before .before .before .before .before .before .before .before .before .before .before .before .before .before .before .before .before .before .before .before .args .words))) (c .before .before .before .before .before .before .before .before .before .before .before .before .before .before .before .before .before .before .before .before .before .args .bytes) (now (c .before .before .before .before .before .before .before .before .before .before .before .before .before .before .before .before .before .before .before .before .before .args .fingerprints)) (now (c .before .before .before .before .before .before .before .before .before .before .before .before .before .before .before .before .before .before .before .before .before .args .marks)) (now (c .before .before .before .before .before .before .before .before .before .before .before .before .before .before .before .before .before .before .before .before .before .args .segments)) (l .inv .2) (omega arith) (mark-one (measuresOf (c .before .before .before .before .before .before .before .before .before .before .before .before .before .before .before .before .before .before .before .before .before .args .m)) (c .before .before .before .before .before .before .before .before .before .before .before .before .before .before .before .before .before .before .before .before .before .pre .0 .measured) (storageIn (measuresOf (c .before .before .before .before .before .before .before .before .before .before .before .before .before .before .before .before .before .before .before .before .before .args .m)) (now (c .before .before .before .before .before .before .before .before .before .before .before .before .before .before .before .before .before .before .before .before .before .args .pool)) (now (c .before .before .before .before .before .before .before .before .before .before .before .before .before .before .before .before .before .before .before .before .before .args .words))) (c .before .before .before .before .before .before .before .before .before .before .before .before .before .before .before .before .before .before .before .before .before .args .bytes) (now (c .before .before .before .before .before .before .before .before .before .before .before .before .before .before .before .before .before .before .before .before .before .args .fingerprints)) (now (c .before .before .before .before .before .before .before .before .before .before .before .before .before .before .before .before .before .before .before .before .before .args .marks)) (now (c .before .before .before .before .before .before .before .before .before .before .before .before .before .before .before .before .before .before .before .before .before .args .segments)) (c .before .before .before .before .before .before .before .before .before .before .before .before .before .before .before .before .before .before .before .before .before .pre .1) (c .before .before .before .before .before .before .before .before .before .before .loop .inv .2) (omega arith)) (c .before .before .before .before .take-segment .result) (c .before .before .before .before .take-segment .last .1 .1 .1 .1 .1 .1 .1 .1 .1 .1 .0)
+          (next-is (measuresOf (c .before .before .before .before .before .before .before .before .before .before .before .before .before .before .before .before .before .before .before .before .before .args .m)) (storageIn (measuresOf (c .before .before .before .before .before .before .before .before .before .before .before .before .before .before .before .before .before .before .before .before .before .args .m)) (now (c .before .before .before .before .before .before .before .before .before .before .before .before .before .before .before .before .before .before .before .before .before .args .pool)) (now (c .before .before .before .before .before .before .before .before .before .before .before .before .before .before .before .before .before .before .before .before .before .args .words))) (c .before .before .before .before .before .before .before .before .before .before .before .before .before .before .before .before .before .before .before .before .before .args .bytes) (now (c .before .before .before .before .before .before .before .before .before .before .before .before .before .before .before .before .before .before .before .before .before .args .fingerprints)) (now (c .before .before .before .before .before .before .before .before .before .before .before .before .before .before .before .before .before .before .before .before .before .args .marks)) (now (c .before .before .before .before .before .before .before .before .before .before .before .before .before .before .before .before .before .before .before .before .before .args .segments)) (l .j) (l .s) _ (l .inv .0) _ (print-is (now (a .args .fingerprints)) (l .j)) _ _ (c .before .before .before .before .take-segment .ensures)) (c .before .if1 .left) _
           (one-more w (segmentBytes (measuresOf (c .before .before .before .before .before .before .before .before .before .before .before .before .before .before .before .before .before .before .before .before .before .args .m))) (l .j) (l .inv .0) (l .out) (c .before .before .before .before .take-segment .last .1 .1 .1 .1 .1 .1 .1 .1 .1 .1 .0) (f .0) n),
     )
 
@@ -175,7 +175,7 @@ same-length-2 c = search needs
 
 -- src/lib.rt:106:1
 returns-2 : tie.Need-returns-2 Inv-loop μ-loop
-returns-2 c = at-end (measuresOf (c .before .before .before .before .before .before .before .before .before .before .before .before .args .m)) (shelfIn (measuresOf (c .before .before .before .before .before .before .before .before .before .before .before .before .args .m)) (now (c .before .before .before .before .before .before .before .before .before .before .before .before .args .pool)) (now (c .before .before .before .before .before .before .before .before .before .before .before .before .args .words))) (c .before .before .before .before .before .before .before .before .before .before .before .before .args .bytes) (now (c .before .before .before .before .before .before .before .before .before .before .before .before .args .fingerprints)) (now (c .before .before .before .before .before .before .before .before .before .before .before .before .args .marks)) (now (c .before .before .before .before .before .before .before .before .before .before .before .before .args .segments)) (c .before .loop .j) (c .before .loop .s) (c .before .loop .out) (c .before .loop .inv .2) (omega arith) (c .before .before .before .before .before .before .before .before .before .before .before .before .pre .1 .all) (omega (arith, wide (measuresOf (c .before .before .before .before .before .before .before .before .before .before .before .before .args .m)) (c .before .before .before .before .before .before .before .before .before .before .before .before .pre .0 .measured)))
+returns-2 c = at-end (measuresOf (c .before .before .before .before .before .before .before .before .before .before .before .before .args .m)) (storageIn (measuresOf (c .before .before .before .before .before .before .before .before .before .before .before .before .args .m)) (now (c .before .before .before .before .before .before .before .before .before .before .before .before .args .pool)) (now (c .before .before .before .before .before .before .before .before .before .before .before .before .args .words))) (c .before .before .before .before .before .before .before .before .before .before .before .before .args .bytes) (now (c .before .before .before .before .before .before .before .before .before .before .before .before .args .fingerprints)) (now (c .before .before .before .before .before .before .before .before .before .before .before .before .args .marks)) (now (c .before .before .before .before .before .before .before .before .before .before .before .before .args .segments)) (c .before .loop .j) (c .before .loop .s) (c .before .loop .out) (c .before .loop .inv .2) (omega arith) (c .before .before .before .before .before .before .before .before .before .before .before .before .pre .1 .all) (omega (arith, wide (measuresOf (c .before .before .before .before .before .before .before .before .before .before .before .before .args .m)) (c .before .before .before .before .before .before .before .before .before .before .before .before .pre .0 .measured)))
 
 pub gather-spec : {M : Type 1} → statement M
 gather-spec =

@@ -1,7 +1,7 @@
 use native.Mathlib.Omega.{arith}
 use denote.Ref.{now}
 use Rattle.laws.proofs.Stores.{header, records-room}
-use Rattle.meets.proofs.Records.{stored-read}
+use Rattle.sound_laws.proofs.Records.{stored-read}
 use Rattle.sent_accept.proofs.Fits.{fits-message}
 use Rattle.sent_backup.proofs.Reading.{message-read, assembled-read}
 use borrow.Author.Needs.{needs}

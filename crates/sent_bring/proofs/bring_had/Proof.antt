@@ -5,7 +5,7 @@ use lib.ListN.{length}
 use denote.Ref.{now}
 use Rattle.lists.specs.Lists.{sameNumbers}
 use Rattle.numbers.specs.Measures.{measuresOf}
-use Rattle.shelf.proofs.Read.{records-count}
+use Rattle.storage.proofs.Read.{records-count}
 use Rattle.sha1.specs.Sha1.{sha1}
 use Rattle.sent.specs.Sent.{zeroSegment}
 use Rattle.sent_bring.proofs.Had.{zero-print, bring-zero, bring-sent, bring-record, bring-none}

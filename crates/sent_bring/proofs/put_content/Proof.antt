@@ -5,14 +5,14 @@ use Prim.Native.Nat.{_+_, _-_, _*_, _≤_}
 use lib.ListN.{length}
 use denote.Ref.{now}
 use Rattle.lists.proofs.Places.{row-room}
-use Rattle.model.specs.State.{Segment, Shelf}
+use Rattle.model.specs.State.{Segment, Storage}
 use Rattle.model.specs.Table.{cellsIn, recordToWords}
 use Rattle.sent_bring.proofs.Contents.{PutTo, put-start, put-next, put-end}
 use Rattle.sent_bring.proofs.put_content.Statement.{statement}
 use Rattle.sent_bring.proofs.put_content.Tie as tie
 
 abbrev Inv-loop : tie.InvT-loop
-Inv-loop pool row out₀ bytes n held₀ blank₀ i₀ out held blank i = (i ≤ n) × (length out ≡ length out₀) × ((s : Shelf) (seg : Segment) → s .cells ≡ cellsIn bytes pool → length seg ≡ n → row ≡ recordToWords seg → PutTo bytes s seg out held blank i)
+Inv-loop pool row out₀ bytes n held₀ blank₀ i₀ out held blank i = (i ≤ n) × (length out ≡ length out₀) × ((s : Storage) (seg : Segment) → s .cells ≡ cellsIn bytes pool → length seg ≡ n → row ≡ recordToWords seg → PutTo bytes s seg out held blank i)
 
 abbrev μ-loop : tie.MeasureT-loop
 μ-loop pool row out₀ bytes n held₀ blank₀ i₀ out held blank i = n - i

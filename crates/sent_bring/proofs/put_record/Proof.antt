@@ -3,7 +3,7 @@ use mathlib.Core.Path.{_∙_}
 use Prim.Native.Nat.{_+_, _≤_}
 use lib.ListN.{length}
 use denote.Ref.{now}
-use Rattle.shelf.proofs.Read.{part-length, part-room, row-part, stored-records}
+use Rattle.storage.proofs.Read.{part-length, part-room, row-part, stored-records}
 use Rattle.sent_bring.proofs.Records.{row-cells, row-content, segment-long}
 use borrow.Author.Needs.{needs}
 use Rattle.sent_bring.proofs.put_record.Statement.{statement}

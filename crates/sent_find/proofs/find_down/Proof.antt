@@ -5,17 +5,17 @@ use mathlib.Core.Path.{_≡_, sym, _∙_}
 use mathlib.Core.List.{[]}
 use lib.ListN.{length, getD}
 use denote.Ref.{now}
-use Rattle.model.specs.Table.{recordsIn, shelfIn}
+use Rattle.model.specs.Table.{recordsIn, storageIn}
 use Rattle.numbers.specs.Measures.{measuresOf}
-use Rattle.shelf.proofs.Inside.{cell-inside, cell-room, few-records}
-use Rattle.shelf.proofs.Read.{cells-of, count-at, part-length, records-count, records-of, room-at, row-part, stored-records}
-use Rattle.shelf.proofs.Row.{cells-below}
+use Rattle.storage.proofs.Inside.{cell-inside, cell-room, few-records}
+use Rattle.storage.proofs.Read.{cells-of, count-at, part-length, records-count, records-of, room-at, row-part, stored-records}
+use Rattle.storage.proofs.Row.{cells-below}
 use Rattle.sent_find.proofs.Finding.{FoundTo, found-start, found-next, found-end}
 use Rattle.sent_find.proofs.find_down.Statement.{statement}
 use Rattle.sent_find.proofs.find_down.Tie as tie
 
 abbrev Inv-loop : tie.InvT-loop
-Inv-loop pool words fingerprints numbers₀ m width k₀ numbers k = (k ≤ 4096) × FoundTo (measuresOf m) (shelfIn (measuresOf m) pool words) (recordsIn (m .blocks) words) fingerprints numbers₀ numbers k
+Inv-loop pool words fingerprints numbers₀ m width k₀ numbers k = (k ≤ 4096) × FoundTo (measuresOf m) (storageIn (measuresOf m) pool words) (recordsIn (m .blocks) words) fingerprints numbers₀ numbers k
 
 abbrev μ-loop : tie.MeasureT-loop
 μ-loop pool words fingerprints numbers₀ m width k₀ numbers k = k
@@ -91,7 +91,7 @@ loop-again c =
     let at = c .before .before .before .before .before .word .result in
     let width = c .before .before .before .before .before .before .before .before .before .row-words .result in
     let h : l .k - 1 < length (recordsIn n ws) = omega (arith, l .inv .1 .within) in
-    let put = c .before .before .find-record .ensures .1 (shelfIn (measuresOf (a .args .m)) (now (a .args .pool)) ws) (getD (recordsIn n ws) (l .k - 1) []) (cells-of (measuresOf (a .args .m)) (now (a .args .pool)) ws) (count-at n ws _ r (l .k - 1) h)
+    let put = c .before .before .find-record .ensures .1 (storageIn (measuresOf (a .args .m)) (now (a .args .pool)) ws) (getD (recordsIn n ws) (l .k - 1) []) (cells-of (measuresOf (a .args .m)) (now (a .args .pool)) ws) (count-at n ws _ r (l .k - 1) h)
     (row-part n ws _ r (l .k - 1) h at width (c .before .before .before .before .before .word .ensures) (c .before .before .before .before .before .before .before .before .before .row-words .ensures .0)) in
     (omega (arith, l .inv .0), found-next (l .inv .1) (l .k - 1) (omega arith) _ (c .before .before .find-record .ensures .0) put)
 

@@ -5,9 +5,9 @@ use native.Mathlib.Omega.{arith}
 use lib.ListN.{length, take, drop}
 use lib.Seq.{length-take-le, take-at}
 use denote.Ref.{now}
-use Rattle.model.specs.Table.{shelfIn, recordsIn}
+use Rattle.model.specs.Table.{storageIn, recordsIn}
 use Rattle.numbers.specs.Measures.{measuresOf}
-use Rattle.shelf.proofs.Read.{records-count, records-of}
+use Rattle.storage.proofs.Read.{records-count, records-of}
 use Rattle.sent_offer.proofs.Marking.{all-marked}
 use Rattle.sent_find.proofs.Finding.{found-length}
 use borrow.Author.Needs.{needs}
@@ -66,7 +66,7 @@ returns c =
     let a = c .before .before .before .before .before .before .before .before .before .before .before .before .before .before .before .before in
     let l = found-length (c .before .before .before .before .before .before .before .before .before .find-records .last .1 .1 .1 .0) (now (a .args .marks)) (now (a .args .numbers)) (omega (arith, a .pre .2, a .pre .3)) (c .before .before .before .before .before .before .before .before .before .find-records .ensures .0) in
     let m = measuresOf (a .args .m) in
-    all-marked m (shelfIn m (now (a .args .pool)) (now (a .args .words))) (now (a .args .fingerprints)) (c .before .before .before .before .before .before .before .before .before .find-records .last .1 .1 .1 .0) _ _ _
+    all-marked m (storageIn m (now (a .args .pool)) (now (a .args .words))) (now (a .args .fingerprints)) (c .before .before .before .before .before .before .before .before .before .find-records .last .1 .1 .1 .0) _ _ _
     (take-at (c .before .before .before .before .before .before .before .before .before .find-records .last .1 .1 .1 .0) (drop (length (now (a .args .marks))) (now (a .args .numbers))) (length (now (a .args .marks))) l)
     (c .before .before .before .before .before .before .before .before .before .find-records .ensures .1) (omega (arith, a .pre .1, l)) (c .before .before .before .before .before .before .zero-digest .ensures)
     (c .before .before .before .before .before .rows .ensures ∙ sym (ap length (records-of m (now (a .args .pool)) (now (a .args .words))) ∙ records-count (a .args .m .blocks) (now (a .args .words))))

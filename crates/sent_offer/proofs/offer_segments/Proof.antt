@@ -6,10 +6,10 @@ use denote.Ref.{now}
 use Rattle.lists.specs.Lists.{isSome}
 use Rattle.lists.specs.Rows.{chunks}
 use Rattle.model.specs.Measures.{Measures}
-use Rattle.model.specs.State.{Shelf}
+use Rattle.model.specs.State.{Storage}
 use Rattle.sha1.specs.Sha1.{sha1}
 use Rattle.laws.proofs.Stores.{header, records-room}
-use Rattle.meets.proofs.Records.{stored-read, shelf-is}
+use Rattle.sound_laws.proofs.Records.{stored-read, storage-is}
 use Rattle.sent.specs.Sent.{had}
 use Rattle.sent_accept.proofs.Offers.{offer-early, offer-done, offer-whole, offer-few}
 use Rattle.sent_offer.proofs.Marking.{marks-read}

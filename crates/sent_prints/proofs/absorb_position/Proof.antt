@@ -3,7 +3,7 @@ use mathlib.Core.Path.{_≡_, ap, _∙_}
 use Prim.Native.Nat.{_*_, _+_, _-_}
 use denote.Ref.{now}
 use Rattle.sha1.specs.Sha1.{absorbed}
-use Rattle.shelf.proofs.Inside.{cell-is}
+use Rattle.storage.proofs.Inside.{cell-is}
 use Rattle.sent_laws.proofs.Content.{content-held}
 use Rattle.sent_prints.proofs.Content.{chunks-blank, chunks-none}
 use borrow.Author.Needs.{needs}

@@ -5,14 +5,14 @@ use mathlib.Core.Path.{_≡_, sym, _∙_}
 use lib.ListN.{length}
 use borrow.Author.Tests.{not-false, not-true}
 use denote.Ref.{now}
-use Rattle.model.specs.State.{Segment, Shelf}
+use Rattle.model.specs.State.{Segment, Storage}
 use Rattle.model.specs.Table.{cellsIn, recordToWords}
 use Rattle.sent_prints.proofs.Lets.{LetsTo, lets-start, lets-here, lets-yes, lets-no, lets-end}
 use Rattle.sent_prints.proofs.positions_let.Statement.{statement}
 use Rattle.sent_prints.proofs.positions_let.Tie as tie
 
 abbrev Inv-loop : tie.InvT-loop
-Inv-loop pool row bytes n held₀ i₀ held i = (i ≤ n) × ((s : Shelf) (seg : Segment) → s .cells ≡ cellsIn bytes pool → length seg ≡ n → row ≡ recordToWords seg → LetsTo s seg held i)
+Inv-loop pool row bytes n held₀ i₀ held i = (i ≤ n) × ((s : Storage) (seg : Segment) → s .cells ≡ cellsIn bytes pool → length seg ≡ n → row ≡ recordToWords seg → LetsTo s seg held i)
 
 abbrev μ-loop : tie.MeasureT-loop
 μ-loop pool row bytes n held₀ i₀ held i = n - i

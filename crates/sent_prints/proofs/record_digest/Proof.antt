@@ -5,14 +5,14 @@ use mathlib.Core.Path.{_≡_, _∙_}
 use native.Mathlib.Nat.{mul-le-mul}
 use lib.ListN.{length}
 use denote.Ref.{now}
-use Rattle.model.specs.State.{Segment, Shelf}
+use Rattle.model.specs.State.{Segment, Storage}
 use Rattle.model.specs.Table.{cellsIn, recordToWords}
 use Rattle.sent_prints.proofs.Digests.{DigestTo, given, digest-start, digest-next, digest-end}
 use Rattle.sent_prints.proofs.record_digest.Statement.{statement}
 use Rattle.sent_prints.proofs.record_digest.Tie as tie
 
 abbrev Inv-loop : tie.InvT-loop
-Inv-loop pool row bytes n h₀ held₀ blank₀ i₀ h held blank i = (i ≤ n) × ((s : Shelf) (seg : Segment) → s .cells ≡ cellsIn bytes pool → length seg ≡ n → row ≡ recordToWords seg → DigestTo bytes s seg h held blank i)
+Inv-loop pool row bytes n h₀ held₀ blank₀ i₀ h held blank i = (i ≤ n) × ((s : Storage) (seg : Segment) → s .cells ≡ cellsIn bytes pool → length seg ≡ n → row ≡ recordToWords seg → DigestTo bytes s seg h held blank i)
 
 abbrev μ-loop : tie.MeasureT-loop
 μ-loop pool row bytes n h₀ held₀ blank₀ i₀ h held blank i = n - i

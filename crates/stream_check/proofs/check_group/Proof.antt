@@ -4,7 +4,7 @@ use denote.Ref.{now}
 use borrow.Author.Tests.{not-true, not-false}
 use Rattle.stream.specs.Stream.{Read}
 use Rattle.stream_laws.proofs.Steps.{group-none, group-missing, group-blocks}
-use Rattle.stream_check.specs.Answers.{Reaches}
+use Rattle.stream_check.specs.Answers.{ReadsTo}
 use Rattle.stream_check.proofs.Laws.{reaches-stop}
 use borrow.Author.Needs.{needs}
 use Rattle.stream_check.proofs.check_group.Statement.{statement}
@@ -38,7 +38,7 @@ check-blocks-requires c κs = search needs
 returns-3 : tie.Need-returns-3
 returns-3 c =
     let a = c .before .before .before .before .before .before .args in
-    subst (λ (x : Read). Reaches x (now (a .stream)) (c .check-blocks .result)) (sym (group-blocks (a .left) (a .at) (now (a .stream)) (omega arith) (sym (c .before .before .all-there .ensures) ∙ not-false _ (c .before .if2 .left)))) (c .check-blocks .ensures)
+    subst (λ (x : Read). ReadsTo x (now (a .stream)) (c .check-blocks .result)) (sym (group-blocks (a .left) (a .at) (now (a .stream)) (omega arith) (sym (c .before .before .all-there .ensures) ∙ not-false _ (c .before .if2 .left)))) (c .check-blocks .ensures)
 
 pub check-group-spec : {M : Type 1} → statement M
 check-group-spec =

@@ -2,11 +2,11 @@ use mathlib.Core.Path.{sym, ap}
 use mathlib.Core.List.{map}
 use borrow.Author.Needs.{needs}
 use Rattle.numbers.specs.Measures.{measuresOf}
-use Rattle.model.specs.State.{Shelf}
+use Rattle.model.specs.State.{Storage}
 use Rattle.model.specs.Sweep.{release, sweep}
 use Rattle.model.specs.Table.{wordToPointer}
-use Rattle.shelf.proofs.Read.{stored-records}
-use Rattle.sweep.proofs.Released.{claimed-shelf, claimed, told-as}
+use Rattle.storage.proofs.Read.{stored-records}
+use Rattle.sweep.proofs.Released.{claimed-storage, claimed, told-as}
 use Rattle.sweep.proofs.exchange.Statement.{statement}
 use Rattle.sweep.proofs.exchange.Tie as tie
 
@@ -15,8 +15,8 @@ claim-requires c κs =
     let a = c .before .before .before .before .before in
     ((a .pre .0 .measured .mostBlocks, stored-records _ (a .pre .0)), (a .pre .1 .0 .0, a .pre .1 .1))
 
-let-go-requires : tie.Need-let-go-requires
-let-go-requires c κs =
+release-and-sweep-requires : tie.Need-release-and-sweep-requires
+release-and-sweep-requires c κs =
     let a = c .before .before .before .before .before .before .before .before .before .before in
     let q = c .before .before .before .before .claim in
     (claimed _ _ _ (a .pre .0) _ _ (q .kept .0) (q .ensures), λ i h. rw (q .kept .0) (a .pre .1 .0 .1 i h))
@@ -31,8 +31,8 @@ returns : tie.Need-returns
 returns c =
     let a = c .before .before .before .before .before .before .before .before .before .before .before .before .before .before .before in
     let q = c .before .before .before .before .before .before .before .before .before .claim in
-    let e = claimed-shelf _ _ _ (a .pre .0) _ _ (q .kept .0) (q .ensures) in
-    told-as (ap (λ (s : Shelf). sweep (measuresOf (a .args .m)) (release s (map wordToPointer (a .args .gone .now)))) (sym e)) (c .before .before .before .before .let-go .ensures)
+    let e = claimed-storage _ _ _ (a .pre .0) _ _ (q .kept .0) (q .ensures) in
+    told-as (ap (λ (s : Storage). sweep (measuresOf (a .args .m)) (release s (map wordToPointer (a .args .gone .now)))) (sym e)) (c .before .before .before .before .release-and-sweep .ensures)
 
 pub exchange-spec : {M : Type 1} → statement M
-exchange-spec = tie.close (tie.spec claim-requires let-go-requires same-length same-length-2 returns)
+exchange-spec = tie.close (tie.spec claim-requires release-and-sweep-requires same-length same-length-2 returns)

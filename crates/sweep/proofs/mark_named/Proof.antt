@@ -5,8 +5,8 @@ use Prim.Native.Nat.{ℕ, _-_, _/_, _<_, _≤_}
 use lib.ListN.{length}
 use Rattle.lists.proofs.Places.{rows-few}
 use Rattle.model.specs.Measures.{recordWords}
-use Rattle.kept.specs.Kept.{NamedIn}
-use Rattle.kept.proofs.Named.{Marking, marking-next, marking-all}
+use Rattle.sweep_laws.specs.Marked.{NamedIn}
+use Rattle.sweep_laws.proofs.Named.{Marking, marking-next, marking-all}
 use Rattle.sweep.proofs.mark_named.Statement.{statement}
 use Rattle.sweep.proofs.mark_named.Tie as tie
 

@@ -5,7 +5,7 @@ use Prim.Native.Nat.{_+_, _*_, _≤_}
 use lib.ListN.{length}
 use Rattle.lists.proofs.Places.{row-in}
 use Rattle.model.specs.Measures.{recordWords}
-use Rattle.kept.proofs.Named.{marked-along, named-at, unmarked}
+use Rattle.sweep_laws.proofs.Named.{marked-along, named-at, unmarked}
 use Rattle.sweep.proofs.mark_record.Statement.{statement}
 use Rattle.sweep.proofs.mark_record.Tie as tie
 
@@ -24,7 +24,7 @@ shared-slice-read-if1 c = omega (arith, c .before .word .ensures, room (c .befor
 returns : tie.Need-returns
 returns c =
     let a = c .before .before .before .before .before in
-    unmarked _ _ _ (a .pre .1 .1) (a .pre .0 .told) (rw (sym (c .before .before .word .ensures)) (c .if1 .taken)) _
+    unmarked _ _ _ (a .pre .1 .1) (a .pre .0 .encodes) (rw (sym (c .before .before .word .ensures)) (c .if1 .taken)) _
 
 load-requires : tie.Need-load-requires
 load-requires c κs = let a = c .before .before .before .before .before in (a .pre .0 .positions, room a)
@@ -41,7 +41,7 @@ same-length c = search needs
 returns-2 : tie.Need-returns-2
 returns-2 c =
     let a = c .before .before .before .before .before .before .before .before .before .before .before in
-    marked-along _ _ _ (a .pre .1 .1) (a .pre .0 .positions) _ (c .before .before .before .before .before .load .ensures) (a .pre .0 .told) _ _ (c .before .before .take-marked .ensures)
+    marked-along _ _ _ (a .pre .1 .1) (a .pre .0 .positions) _ (c .before .before .before .before .before .load .ensures) (a .pre .0 .encodes) _ _ (c .before .before .take-marked .ensures)
 
 pub mark-record-spec : {M : Type 1} → statement M
 mark-record-spec =

@@ -4,7 +4,7 @@ use mathlib.Core.Path.{_≡_, ap, _∙_}
 use Prim.Native.Nat.{ℕ, _*_, _≤_}
 use lib.ListN.{length}
 use Rattle.lists.proofs.Places.{rows-few}
-use Rattle.kept.proofs.Named.{length-false, false-part, whole-cells}
+use Rattle.sweep_laws.proofs.Named.{length-false, false-part, whole-cells}
 use Rattle.sweep.proofs.sweep_all.Statement.{statement}
 use Rattle.sweep.proofs.sweep_all.Tie as tie
 use Rattle.sweep.proofs.sweep_all.Reads as reads

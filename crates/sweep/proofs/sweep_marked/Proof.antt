@@ -6,13 +6,13 @@ use lib.ListN.{length}
 use Rattle.lists.proofs.Places.{rows-few}
 use Rattle.model.specs.Measures.{recordWords}
 use Rattle.numbers.specs.Measures.{measuresOf}
-use Rattle.kept.proofs.Sweeps.{Swept, swept-start, swept-inside, swept-next, swept-all}
+use Rattle.sweep_laws.proofs.Sweeps.{Swept, swept-start, swept-inside, swept-next, swept-all}
 use Rattle.sweep.proofs.sweep_marked.Statement.{statement}
 use Rattle.sweep.proofs.sweep_marked.Tie as tie
 use Rattle.sweep.proofs.sweep_marked.Reads as reads
 use Rattle.sweep.proofs.sweep_marked.Lts as lts
 use Rattle.numbers.proofs.rows.Reads as rows-reads
-use Rattle.removal.proofs.sweep_record.Reads as sweep-record-reads
+use Rattle.sweep_record.proofs.sweep_record.Reads as sweep-record-reads
 
 abbrev Inv-loop : tie.InvT-loop
 Inv-loop pool₀ words₀ occupied₀ m n k₀ pool words occupied k = Swept (measuresOf m) pool₀ words₀ occupied₀ n pool words occupied k

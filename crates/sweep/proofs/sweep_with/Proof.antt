@@ -4,7 +4,7 @@ use borrow.Author.Needs.{needs}
 use Rattle.lists.specs.Marks.{marked}
 use Rattle.model.specs.Records.{namedCells}
 use Rattle.model.specs.Table.{recordsIn}
-use Rattle.kept.proofs.Named.{named-in, kept-of, few-n}
+use Rattle.sweep_laws.proofs.Named.{named-in, kept-of, few-n}
 use Rattle.sweep.proofs.sweep_with.Statement.{statement}
 use Rattle.sweep.proofs.sweep_with.Tie as tie
 
@@ -25,7 +25,7 @@ same-length-3 : tie.Need-same-length-3
 same-length-3 c = search needs
 
 returns : tie.Need-returns
-returns c = c .before .before .before .before .before .before .sweep-marked .ensures .told
+returns c = c .before .before .before .before .before .before .sweep-marked .ensures .encodes
 
 pub sweep-with-spec : {M : Type 1} → statement M
 sweep-with-spec =

@@ -10,7 +10,7 @@ use Rattle.model.specs.Records.{cellOf}
 use Rattle.model.specs.State.{nullPosition}
 use Rattle.model.specs.Table.{recordsIn}
 use Rattle.numbers.specs.Measures.{measuresOf}
-use Rattle.shelf.proofs.Read.{stored-records}
+use Rattle.storage.proofs.Read.{stored-records}
 use Rattle.turn.proofs.Turning.{cell-fits, target-is, target-none, there}
 use Rattle.turn.proofs.target_of.Statement.{statement}
 use Rattle.turn.proofs.target_of.Tie as tie

@@ -9,10 +9,10 @@ use Rattle.records.proofs.Record.strike_all.Statement.{statement}
 use Rattle.records.proofs.Record.strike_all.Tie as tie
 
 abbrev Inv-loop : tie.InvT-loop
-Inv-loop going now₀ left₀ now left = Striking now₀ now left
+Inv-loop unreferenced now₀ left₀ now left = Striking now₀ now left
 
 abbrev μ-loop : tie.MeasureT-loop
-μ-loop going now₀ left₀ now left = left
+μ-loop unreferenced now₀ left₀ now left = left
 
 bit : (c : tie.In-loop Inv-loop μ-loop) → First (c .before .loop .left) (trailingZeros 32 (c .before .loop .left))
 bit c = trailing-first 32 _ (omega arith) (omega (arith, left-small _ _ _ (c .before .loop .inv)))

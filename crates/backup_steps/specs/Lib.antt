@@ -1,0 +1,3 @@
+-- What the steps ask and leave, and the limit.
+pub mod Limit
+pub mod Steps

@@ -1,4 +1,0 @@
-pub mod Shelf
-pub mod Slots
-pub mod Pointers
-pub mod Records

@@ -1,2 +1,0 @@
--- What the searches answer.
-pub mod Seek

@@ -1,3 +1,0 @@
--- What the steps ask and leave, and the limit.
-pub mod Limit
-pub mod Shelve

@@ -1,0 +1,4 @@
+pub mod Storage
+pub mod Slots
+pub mod Pointers
+pub mod Records
