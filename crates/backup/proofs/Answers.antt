@@ -51,9 +51,9 @@ module _ (pool table : List ℕ) (h : Sound pool table) (t day : ℕ) (image : L
   abbrev filed : Outcome Placed → Outcome After
   filed x = fileIn withBlanks (shapeOf table) st t day image (imageBlocks (measuresOn table .blockBytes) image) (tillOf st t) x
 
-  isUnreferenced : backup withBlanks (shapeOf table) st t (some day) image ≡ filed o
+  is-filed : backup withBlanks (shapeOf table) st t (some day) image ≡ filed o
   unfolding backup dayFor shapeOf placeAndFile
-  isUnreferenced =
+  is-filed =
       rw (
         lt-leb _ _ (a .there),
         ne-eqb (length image) 0 (λ e. omega (arith, e, a .some)),
@@ -69,7 +69,7 @@ module _ (pool table : List ℕ) (h : Sound pool table) (t day : ℕ) (image : L
 
   answer : backupDatedOf pool table t day image ≡ answered o
   unfolding backupDatedOf backupBy backupIn
-  answer = rw (h .is) (ap (backupAnswer pool table (shapeOf table)) isUnreferenced)
+  answer = rw (h .is) (ap (backupAnswer pool table (shapeOf table)) is-filed)
 
   not-zero : (n : ℕ) → 0 < n → answered (refused n) .refusal ≡ 0 → ⊥
   unfolding fileIn backupAnswer
@@ -90,7 +90,7 @@ module _ (pool table : List ℕ) (h : Sound pool table) (t day : ℕ) (image : L
     within-filed : (p : Placed) → o ≡ done p → limitedAnswer ≡ answered (limited others most (measuresOn table) (blocksOn table image) ps (done p))
     unfolding backupDatedOf fileIn withTill
     within-filed p e =
-        within-done others most pool table (storeRead pool table) (h .is) withBlanks t (some day) image _ (isUnreferenced ∙ ap filed e)
+        within-done others most pool table (storeRead pool table) (h .is) withBlanks t (some day) image _ (is-filed ∙ ap filed e)
         ∙ either (beyond others most (measuresOn table) (p .storage) (turning withBlanks (p .storage) (blocksOn table image) ps))
       where
         either : (b : Bool) → cond b (backupRefusal pool table 21) (backupDatedOf pool table t day image) ≡ answered (cond b (refused 21) (done p))

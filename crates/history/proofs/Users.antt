@@ -242,10 +242,10 @@ setIf gone odd other new = cond gone (refused 3) (cond odd (refused 22) (cond ot
 
 module _ (s : Shape) (st : State) (u : ℕ) where
   -- a call that leaves the state as it is
-  isReferenced : (call : Call) → stateBy s st u call ≡ st → stateAfter s st call ≡ st → (acceptedBy s st u call ≡ true → isAccepted s st call ≡ true)
+  unchanged : (call : Call) → stateBy s st u call ≡ st → stateAfter s st call ≡ st → (acceptedBy s st u call ≡ true → isAccepted s st call ≡ true)
       → (acc : Bool) → acceptedBy s st u call ≡ acc → IsDone s st call acc (stateBy s st u call)
-  isReferenced call p q h true e = (h e, p ∙ sym q)
-  isReferenced call p q h false e = p
+  unchanged call p q h true e = (h e, p ∙ sym q)
+  unchanged call p q h false e = p
 
   -- a backup of a full image, for a user
   pub backup-done : (era : Era) (t : ℕ) (d : Option ℕ) (image : List ℕ) (acc : Bool) → eqb (outcomeRefusal (forUser s st u t toBackUp (backup era s st t d image))) 0 ≡ acc
@@ -278,23 +278,23 @@ module _ (s : Shape) (st : State) (u : ℕ) where
   -- any plain call
   pub done-by : (call : Call) → IsPlain call → (acc : Bool) → acceptedBy s st u call ≡ acc → IsDone s st call acc (stateBy s st u call)
   unfolding stateBy answerInBy refusalIn
-  done-by (callLayout c) p acc e = isReferenced (callLayout c) refl (unfold stateAfter in refl) (λ h. unfold isAccepted answerIn refusalIn in h) acc e
+  done-by (callLayout c) p acc e = unchanged (callLayout c) refl (unfold stateAfter in refl) (λ h. unfold isAccepted answerIn refusalIn in h) acc e
   done-by (callBackup era t d image) p acc e = backup-done era t d image acc e
   done-by (callRestore t v output) p acc e =
-      isReferenced (callRestore t v output) refl (unfold stateAfter in refl) (λ h. unfold isAccepted answerIn refusalIn in answer-waits (λ (a : RestoreAnswer). a .refusal) (λ n. restoreRefusal n output) (λ n. unfold restoreRefusal in refl) (refusalAt s st u t toRestore) (restore s st t v output) h) acc e
+      unchanged (callRestore t v output) refl (unfold stateAfter in refl) (λ h. unfold isAccepted answerIn refusalIn in answer-waits (λ (a : RestoreAnswer). a .refusal) (λ n. restoreRefusal n output) (λ n. unfold restoreRefusal in refl) (refusalAt s st u t toRestore) (restore s st t v output) h) acc e
   done-by (callRetire t v) p acc e = retire-done t v acc e
   done-by (callListing t) p acc e =
-      isReferenced (callListing t) refl (unfold stateAfter in refl) (λ h. unfold isAccepted answerIn refusalIn in answer-waits (λ (a : ListingAnswer). a .refusal) listingRefusal (λ n. unfold listingRefusal in refl) (refusalAt s st u t toList) (listingIn (some (record { shape = s; state = st })) t) h) acc e
+      unchanged (callListing t) refl (unfold stateAfter in refl) (λ h. unfold isAccepted answerIn refusalIn in answer-waits (λ (a : ListingAnswer). a .refusal) listingRefusal (λ n. unfold listingRefusal in refl) (refusalAt s st u t toList) (listingIn (some (record { shape = s; state = st })) t) h) acc e
   done-by (callVersionOn t day) p acc e =
-      isReferenced (callVersionOn t day) refl (unfold stateAfter in refl) (λ h. unfold isAccepted answerIn refusalIn in answer-waits (λ (a : VersionOnAnswer). a .refusal) versionOnRefusal (λ n. unfold versionOnRefusal in refl) (refusalAt s st u t toList) (versionOnIn (some (record { shape = s; state = st })) t day) h) acc e
+      unchanged (callVersionOn t day) refl (unfold stateAfter in refl) (λ h. unfold isAccepted answerIn refusalIn in answer-waits (λ (a : VersionOnAnswer). a .refusal) versionOnRefusal (λ n. unfold versionOnRefusal in refl) (refusalAt s st u t toList) (versionOnIn (some (record { shape = s; state = st })) t day) h) acc e
   done-by callTally p acc e =
-      isReferenced callTally refl (unfold stateAfter in refl) (λ h. unfold isAccepted answerIn refusalIn in answer-waits (λ (a : TallyAnswer). a .refusal) tallyRefusal (λ n. unfold tallyRefusal in refl) (notOwner u) (tallyIn (some (record { shape = s; state = st }))) h) acc e
+      unchanged callTally refl (unfold stateAfter in refl) (λ h. unfold isAccepted answerIn refusalIn in answer-waits (λ (a : TallyAnswer). a .refusal) tallyRefusal (λ n. unfold tallyRefusal in refl) (notOwner u) (tallyIn (some (record { shape = s; state = st }))) h) acc e
   done-by (callBill price) p acc e =
-      isReferenced (callBill price) refl (unfold stateAfter in refl) (λ h. unfold isAccepted answerIn refusalIn in answer-waits (λ (a : BillAnswer). a .refusal) billRefused (λ n. unfold billRefused in refl) (notOwner u) (billIn (some (record { shape = s; state = st })) price) h) acc e
+      unchanged (callBill price) refl (unfold stateAfter in refl) (λ h. unfold isAccepted answerIn refusalIn in answer-waits (λ (a : BillAnswer). a .refusal) billRefused (λ n. unfold billRefused in refl) (notOwner u) (billIn (some (record { shape = s; state = st })) price) h) acc e
   done-by (callWriteStream t v output) p acc e =
-      isReferenced (callWriteStream t v output) refl (unfold stateAfter in refl) (λ h. unfold isAccepted answerIn refusalIn in answer-waits (λ (a : StreamAnswer). a .refusal) (λ n. streamRefusal n output) (λ n. unfold streamRefusal in refl) (refusalAt s st u t toRestore) (writeVersion s st t v output) h) acc e
+      unchanged (callWriteStream t v output) refl (unfold stateAfter in refl) (λ h. unfold isAccepted answerIn refusalIn in answer-waits (λ (a : StreamAnswer). a .refusal) (λ n. streamRefusal n output) (λ n. unfold streamRefusal in refl) (refusalAt s st u t toRestore) (writeVersion s st t v output) h) acc e
   done-by (callOffer t fs ms) p acc e =
-      isReferenced (callOffer t fs ms) refl (unfold stateAfter in refl) (λ h. unfold isAccepted answerIn refusalIn in answer-waits (λ (a : OfferAnswer). a .refusal) (λ n. record { refusal = n; marks = ms }) (λ n. refl) (refusalAt s st u t toBackUp) (offerIn sha1 (some (record { shape = s; state = st })) t fs ms) h) acc e
+      unchanged (callOffer t fs ms) refl (unfold stateAfter in refl) (λ h. unfold isAccepted answerIn refusalIn in answer-waits (λ (a : OfferAnswer). a .refusal) (λ n. record { refusal = n; marks = ms }) (λ n. refl) (refusalAt s st u t toBackUp) (offerIn sha1 (some (record { shape = s; state = st })) t fs ms) h) acc e
   done-by (callBackupSent t n fs ms ss) p acc e = absurd p
   done-by (callBackupAll ts ns is) p acc e = absurd p
   done-by (callSetRights subject t r) p acc e = set-done subject t r acc e

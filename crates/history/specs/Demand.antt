@@ -138,7 +138,7 @@ module _ (bytes : ℕ) (st : State) (k : Keeper) (b : Buffers) where
     pub backupAll : (u : ℕ) (tills lengths images : List ℕ) → closing u tills lengths images .refusal ≡ 0
         → closing u tills lengths images .versions ≡ fill 16 (numbersGiven k (imagesIn tills lengths images) (closing u tills lengths images .refusals))
     -- a held version "now goes", whichever it is
-    pub isUnreferenced : (u t v : ℕ) (x : Kept) (newer : List Kept) → May u t toRetire → IsKept t v x newer → retiring u t v .refusal ≡ 0
+    pub goes : (u t v : ℕ) (x : Kept) (newer : List Kept) → May u t toRetire → IsKept t v x newer → retiring u t v .refusal ≡ 0
     -- and one not held is refused, of a till that is there with 17 or 18 as the keeper's last number says
     pub notHeld : (u t v : ℕ) → May u t toRetire → keptFrom v (keptTill k t .versions) ≡ [] → t < length k → retiring u t v .refusal ≡ notHeld (keptTill k t .last) v
     -- "an accepted retire the struck image's length"
