@@ -54,7 +54,7 @@ unfoldable pub slotAt : Shape → ℕ → ℕ
 slotAt s i = headerWords + 4 + i * slotWords (s .capacities .blocks)
 
 unfoldable pub recordAt : Shape → ℕ → ℕ
-recordAt s k = recordsAt (s .capacities .tills) (s .capacities .versions) (s .capacities .blocks) + k * recordWords (s .measures .segmentBlocks)
+recordAt s k = recordsAt (s .capacities) + k * recordWords (s .measures .segmentBlocks)
 
 -- `n` elements from place `at` are those of the list
 unfoldable pub isAt : List ℕ → ℕ → ℕ → List ℕ → Bool
