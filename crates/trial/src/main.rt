@@ -1,4 +1,8 @@
 // The page's cases 6 and 11, and long drawn histories on small stores beside a keeper of whole images. Prints what was counted.
+mod checks;
+mod history;
+mod turns;
+
 use layout::Capacities;
 use numbers::Measures;
 use trial_report::tell;
@@ -39,7 +43,7 @@ fn store_of(n: u32) -> Capacities {
 fn histories(count: u32, pool: &mut [u8], table: &mut [u32], counts: &mut [u64]) {
     let mut n = 0;
     while n < count {
-        trial_history::history(store_of(n), n as u64 + 1, 1000, pool, table, counts);
+        history::history(store_of(n), n as u64 + 1, 1000, pool, table, counts);
         n += 1;
     }
 }

@@ -1,5 +1,6 @@
 // The user, the till and the image of a drawn call.
-ghost use Prim.Native.Nat.{_+_, _≤_};
+ghost use mathlib.Core.Path.{_≡_};
+ghost use Prim.Native.Nat.{_+_, _≤_, min};
 ghost use Rattle.trial_keeper.specs.Notes.{mostBytes};
 use layout::Capacities;
 use trial_draw::dice::Dice;
@@ -52,4 +53,14 @@ pub fn draw_image(c: Capacities, d: Dice, image: &mut [u8]) -> usize
         images::fill(&mut image[0..bytes], images::plan_of(d));
     }
     bytes
+}
+
+// So many, or as many as there are.
+pub fn at_most(n: usize, most: usize) -> usize
+    ensures { λ r. ⌜ (r ≡ min n most) × (r ≤ most) ⌝ }
+{
+    if n < most {
+        return n;
+    }
+    most
 }

@@ -3,8 +3,7 @@ pub mod drawn;
 pub mod whole;
 
 ghost use mathlib.Core.Path.{_≡_};
-ghost use Prim.Native.Nat.{_+_, _≤_, _<_, min};
-ghost use lib.ListN.{getD};
+ghost use Prim.Native.Nat.{_<_};
 use backup::BackedUp;
 use closing_backup::AllBackedUp;
 use layout::Capacities;
@@ -66,28 +65,6 @@ fn call(
     a
 }
 
-// The answer to the image at a place.
-fn answer_at(refusals: &[u32], versions: &[u32], at: usize) -> BackedUp
-    ensures { λ r. ⌜ (r .refusal ≡ getD (now (refusals .entry)) at 0) × (r .version ≡ getD (now (versions .entry)) at 0) ⌝ }
-{
-    BackedUp {
-        refusal: trial_keeper::note_at(refusals, at),
-        version: trial_keeper::note_at(versions, at),
-    }
-}
-
-// Where the image ends that starts at `from`, which is not past the bytes sent.
-fn end_of(lengths: &[u32], at: usize, from: usize, bytes: usize) -> usize
-    requires { ⌜ from ≤ bytes ⌝ }
-    ensures { λ r. ⌜ (r ≡ min (from + getD (now (lengths .entry)) at 0) bytes) × (from ≤ r) × (r ≤ bytes) ⌝ }
-{
-    let length = trial_keeper::note_at(lengths, at) as usize;
-    if length < bytes - from {
-        return from + length;
-    }
-    bytes
-}
-
 // The counter that an image's refusal adds to.
 fn outcome_of(refusal: u32) -> usize
     ensures { λ r. ⌜ (refusal ≡ 0 → r ≡ 60) × (0 < refusal → r ≡ 61) ⌝ }
@@ -128,8 +105,8 @@ fn judge_each(
     let mut from: usize = 0;
     let mut i: usize = 0;
     while i < tills.len() {
-        let end = end_of(lengths, i, from, sent.len());
-        let a = answer_at(refusals, versions, i);
+        let end = trial_images::end_of(lengths, i, from, sent.len());
+        let a = trial_images::answer_at(refusals, versions, i);
         judge_one(
             a,
             c,
@@ -145,18 +122,20 @@ fn judge_each(
     }
 }
 
-// The answers to the images, each by itself.
-fn judge_images(
-    a: AllBackedUp,
+// A closing whose lists fit each other.
+fn back_up(
     c: Capacities,
     user: u32,
     tills: &[u32],
     lengths: &[u32],
     sent: &[u8],
+    pool: &mut [u8],
+    table: &mut [u32],
     images: &mut [u8],
     notes: &mut [u32],
     counts: &mut [u64],
 ) {
+    let a = call(user, tills, lengths, sent, pool, table, counts);
     let refusals = a.refusals;
     let versions = a.versions;
     judge_answer(a, tills.len(), 0, counts);
@@ -174,24 +153,7 @@ fn judge_images(
     );
 }
 
-// A closing whose lists fit each other.
-fn back_up(
-    c: Capacities,
-    user: u32,
-    tills: &[u32],
-    lengths: &[u32],
-    sent: &[u8],
-    pool: &mut [u8],
-    table: &mut [u32],
-    images: &mut [u8],
-    notes: &mut [u32],
-    counts: &mut [u64],
-) {
-    let a = call(user, tills, lengths, sent, pool, table, counts);
-    judge_images(a, c, user, tills, lengths, sent, images, notes, counts);
-}
-
-// Of the lists the first n places, of the room the first bytes. Images that had no room show as a wrong answer.
+// Of the lists the first n places, of the room the first bytes: as many as there are. Images that had no place or no room show as a wrong answer.
 fn back_up_first(
     c: Capacities,
     user: u32,
@@ -206,24 +168,18 @@ fn back_up_first(
     notes: &mut [u32],
     counts: &mut [u64],
 ) {
-    if tills.len() < n {
-        counts::expect(counts, false);
-        return;
-    }
-    if lengths.len() < n {
-        counts::expect(counts, false);
-        return;
-    }
-    if sent.len() < bytes {
-        counts::expect(counts, false);
-        return;
-    }
+    let t = trial_choice::at_most(n, tills.len());
+    let l = trial_choice::at_most(n, lengths.len());
+    let s = trial_choice::at_most(bytes, sent.len());
+    counts::expect(counts, t == n);
+    counts::expect(counts, l == n);
+    counts::expect(counts, s == bytes);
     back_up(
         c,
         user,
-        &tills[0..n],
-        &lengths[0..n],
-        &sent[0..bytes],
+        &tills[0..t],
+        &lengths[0..l],
+        &sent[0..s],
         pool,
         table,
         images,

@@ -125,61 +125,70 @@ pub fn lengths(counts: &mut [u64]) {
     }
 }
 
-// Those of the ranges that are refused.
-fn lay_out_past(n: u32, pool: &mut [u8], table: &mut [u32], counts: &mut [u64]) {
-    let s = range_of(n);
-    let c = s.c;
-    if s.expected == 1 {
-        trial_calls::lay_out(c, pool, table, counts, 1);
-    }
-}
-
-fn ranges(pool: &mut [u8], table: &mut [u32], counts: &mut [u64]) {
-    let mut n = 0;
-    while n < 20 {
-        lay_out_past(n, pool, table, counts);
-        n += 1;
-    }
-}
-
-// On the first bytes and words of the buffers.
-fn lay_out_ones(
-    pool: &mut [u8],
-    table: &mut [u32],
+// Capacities, the bytes and words lent, and the number that they get.
+struct Lent {
+    c: Capacities,
     bytes: usize,
     words: usize,
-    counts: &mut [u64],
-) {
-    if pool.len() < bytes {
-        counts::expect(counts, false);
-        return;
+    expected: u32,
+}
+
+// One past the least and the most of each of the five: ten numbers in a row. All of the buffers is lent.
+fn out_of_range(n: u32) -> Lent {
+    let s = range_of(n / 2 % 5 * 4 + 2 + n % 2);
+    let c = s.c;
+    Lent {
+        c: c,
+        bytes: trial_compare::POOL,
+        words: trial_compare::TABLE,
+        expected: s.expected,
     }
-    if table.len() < words {
-        counts::expect(counts, false);
-        return;
-    }
-    trial_calls::lay_out(
-        with_one(0, 1),
-        &mut pool[0..bytes],
-        &mut table[0..words],
-        counts,
-        2,
-    );
 }
 
 // A store of ones has 64 bytes and 35 words.
-fn other_lengths(pool: &mut [u8], table: &mut [u32], counts: &mut [u64]) {
-    let mut n = 0;
-    while n < 2 {
-        lay_out_ones(pool, table, 63 + 2 * n, 35, counts);
-        lay_out_ones(pool, table, 64, 34 + 2 * n, counts);
-        n += 1;
+fn of_other_length(bytes: usize, words: usize) -> Lent {
+    let c = with_one(0, 1);
+    Lent {
+        c: c,
+        bytes: bytes,
+        words: words,
+        expected: 2,
     }
 }
 
+fn lent_of(n: u32) -> Lent {
+    match n {
+        0 => of_other_length(63, 35),
+        1 => of_other_length(65, 35),
+        2 => of_other_length(64, 34),
+        3 => of_other_length(64, 36),
+        _ => out_of_range(n),
+    }
+}
+
+// On the first bytes and words of the buffers; too few of them are a wrong answer.
+fn lay_out_one(n: u32, pool: &mut [u8], table: &mut [u32], counts: &mut [u64]) {
+    let l = lent_of(n);
+    let c = l.c;
+    let bytes = trial_choice::at_most(l.bytes, pool.len());
+    let words = trial_choice::at_most(l.words, table.len());
+    counts::expect(counts, bytes == l.bytes);
+    counts::expect(counts, words == l.words);
+    trial_calls::lay_out(
+        c,
+        &mut pool[0..bytes],
+        &mut table[0..words],
+        counts,
+        l.expected,
+    );
+}
+
 pub fn layouts(pool: &mut [u8], table: &mut [u32], counts: &mut [u64]) {
-    ranges(pool, table, counts);
-    other_lengths(pool, table, counts);
+    let mut n = 0;
+    while n < 14 {
+        lay_out_one(n, pool, table, counts);
+        n += 1;
+    }
 }
 
 // Version n comes to a store of ones.
@@ -222,15 +231,11 @@ fn none_held(pool: &[u8], table: &[u32], counts: &mut [u64]) {
 }
 
 // All 65,535 numbers are given, and no more.
-fn to_the_last(image: &[u8], pool: &mut [u8], table: &mut [u32], counts: &mut [u64]) {
+fn on_store(image: &[u8], pool: &mut [u8], table: &mut [u32], counts: &mut [u64]) {
+    trial_calls::lay_out(with_one(0, 1), pool, table, counts, 0);
     every_number(image, pool, table, counts);
     no_more(image, pool, table, counts);
     none_held(pool, table, counts);
-}
-
-fn on_store(image: &[u8], pool: &mut [u8], table: &mut [u32], counts: &mut [u64]) {
-    trial_calls::lay_out(with_one(0, 1), pool, table, counts, 0);
-    to_the_last(image, pool, table, counts);
 }
 
 pub fn last_number(counts: &mut [u64]) {

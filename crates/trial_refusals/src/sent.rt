@@ -43,17 +43,24 @@ fn offered_unsound(prints: &[u8], pool: &[u8], table: &[u32], counts: &mut [u64]
     refuse_offer(prints, &mut marks, pool, table, counts, 10);
 }
 
-// A second message: the length, both marks, what follows (1 the image, 2 another one, 0 nothing); the number and the version that are expected.
+// What can follow a second message, by where it starts: the segments of the image, those of another one, nothing.
+const IMAGE: usize = 0;
+
+const OTHER: usize = 1024;
+
+const NOTHING: usize = 2048;
+
+// A second message: the length, both marks, where what follows starts; the number and the version that are expected.
 struct Message {
     bytes: u32,
     first: u8,
     second: u8,
-    follows: u32,
+    follows: usize,
     expected: u32,
     version: u32,
 }
 
-fn refused(bytes: u32, first: u8, second: u8, follows: u32, expected: u32) -> Message {
+fn refused(bytes: u32, first: u8, second: u8, follows: usize, expected: u32) -> Message {
     Message {
         bytes: bytes,
         first: first,
@@ -64,7 +71,7 @@ fn refused(bytes: u32, first: u8, second: u8, follows: u32, expected: u32) -> Me
     }
 }
 
-fn taken(mark: u8, follows: u32, version: u32) -> Message {
+fn taken(mark: u8, follows: usize, version: u32) -> Message {
     Message {
         bytes: 576,
         first: mark,
@@ -79,17 +86,18 @@ fn taken(mark: u8, follows: u32, version: u32) -> Message {
 // box has the image and nothing needs to be sent; but a byte follows a lesser length. The last is for what is no sound store.
 fn message_of(n: u32) -> Message {
     match n {
-        0 => refused(576, 1, 1, 2, 19),
-        1 => refused(575, 1, 1, 1, 19),
-        2 => refused(576, 2, 0, 1, 4),
-        3 => refused(576, 0, 0, 0, 20),
-        4 => taken(1, 1, 1),
-        5 => taken(0, 0, 2),
-        6 => refused(575, 0, 0, 0, 19),
-        _ => refused(576, 1, 1, 1, 10),
+        0 => refused(576, 1, 1, OTHER, 19),
+        1 => refused(575, 1, 1, IMAGE, 19),
+        2 => refused(576, 2, 0, IMAGE, 4),
+        3 => refused(576, 0, 0, NOTHING, 20),
+        4 => taken(1, IMAGE, 1),
+        5 => taken(0, NOTHING, 2),
+        6 => refused(575, 0, 0, NOTHING, 19),
+        _ => refused(576, 1, 1, IMAGE, 10),
     }
 }
 
+// What follows has as many bytes as the image, if there are as many.
 fn send(
     m: Message,
     prints: &[u8],
@@ -99,35 +107,27 @@ fn send(
     counts: &mut [u64],
 ) {
     let marks = [m.first, m.second];
-    let a = store::backup_sent(pool, table, 0, 0, m.bytes, prints, &marks, segments);
+    let from = trial_choice::at_most(m.follows, segments.len());
+    let end = from + trial_choice::at_most(OTHER, segments.len() - from);
+    let a = store::backup_sent(
+        pool,
+        table,
+        0,
+        0,
+        m.bytes,
+        prints,
+        &marks,
+        &segments[from..end],
+    );
     counts::answered(counts, counts::BACKUPS, a.refusal, m.expected);
     counts::expect(counts, a.version == m.version);
-}
-
-fn send_one(
-    m: Message,
-    prints: &[u8],
-    image: &[u8],
-    other: &[u8],
-    pool: &mut [u8],
-    table: &mut [u32],
-    counts: &mut [u64],
-) {
-    if m.follows == 0 {
-        send(m, prints, b"", pool, table, counts);
-    } else if m.follows == 1 {
-        send(m, prints, image, pool, table, counts);
-    } else {
-        send(m, prints, other, pool, table, counts);
-    }
 }
 
 // A refusal leaves the buffers.
 fn send_judged(
     m: Message,
     prints: &[u8],
-    image: &[u8],
-    other: &[u8],
+    segments: &[u8],
     pool: &mut [u8],
     table: &mut [u32],
     counts: &mut [u64],
@@ -135,62 +135,54 @@ fn send_judged(
     let mut bytes = [0u8; 2048];
     let mut entries = [0u32; 240];
     trial_compare::copy(pool, table, &mut bytes, &mut entries);
-    send_one(m, prints, image, other, pool, table, counts);
+    send(m, prints, segments, pool, table, counts);
     trial_judge::buffers(m.expected, &bytes, &entries, pool, table, counts);
 }
 
 fn send_each(
     prints: &[u8],
-    image: &[u8],
-    other: &[u8],
+    segments: &[u8],
     pool: &mut [u8],
     table: &mut [u32],
     counts: &mut [u64],
 ) {
     let mut n = 0;
     while n < 7 {
-        send_judged(message_of(n), prints, image, other, pool, table, counts);
+        send_judged(message_of(n), prints, segments, pool, table, counts);
         n += 1;
     }
 }
 
 // With a reserved word of the till that is not zero, both are refused.
-fn unsound(prints: &[u8], image: &[u8], pool: &mut [u8], table: &mut [u32], counts: &mut [u64]) {
+fn unsound(prints: &[u8], segments: &[u8], pool: &mut [u8], table: &mut [u32], counts: &mut [u64]) {
     trial_keeper::put_note(table, 11, 1);
     offered_unsound(prints, pool, table, counts);
-    send_judged(message_of(7), prints, image, image, pool, table, counts);
+    send_judged(message_of(7), prints, segments, pool, table, counts);
 }
 
-fn in_turn(
-    prints: &[u8],
-    image: &[u8],
-    other: &[u8],
-    pool: &mut [u8],
-    table: &mut [u32],
-    counts: &mut [u64],
-) {
+fn in_turn(prints: &[u8], segments: &[u8], pool: &mut [u8], table: &mut [u32], counts: &mut [u64]) {
     offered_wrong(prints, pool, table, counts);
-    send_each(prints, image, other, pool, table, counts);
-    unsound(prints, image, pool, table, counts);
+    send_each(prints, segments, pool, table, counts);
+    unsound(prints, segments, pool, table, counts);
 }
 
-fn on_store(prints: &[u8], image: &[u8], other: &[u8], counts: &mut [u64]) {
+fn on_store(prints: &[u8], segments: &[u8], counts: &mut [u64]) {
     let mut pool = [0u8; 2048];
     let mut table = [0u32; 240];
     trial_calls::lay_out(capacities(), &mut pool, &mut table, counts, 0);
-    in_turn(prints, image, other, &mut pool, &mut table, counts);
+    in_turn(prints, segments, &mut pool, &mut table, counts);
 }
 
-fn spelt(prints: &mut [u8], image: &mut [u8], other: &mut [u8], counts: &mut [u64]) {
-    images::spell(image, b"ABCDEFGHI");
-    images::spell(other, b"ZBCDEFGHI");
-    trial_sent::print_all(image, 512, prints);
-    on_store(prints, image, other, counts);
+// The image's segments, with null blocks up to the end, then the other's.
+fn spelt(prints: &mut [u8], segments: &mut [u8], counts: &mut [u64]) {
+    images::spell(segments, b"ABCDEFGHI\0\0\0\0\0\0\0ZBCDEFGHI");
+    let end = trial_choice::at_most(OTHER, segments.len());
+    trial_sent::print_all(&segments[0..end], 512, prints);
+    on_store(prints, segments, counts);
 }
 
 pub fn messages(counts: &mut [u64]) {
     let mut prints = [0u8; 40];
-    let mut image = [0u8; 1024];
-    let mut other = [0u8; 1024];
-    spelt(&mut prints, &mut image, &mut other, counts);
+    let mut segments = [0u8; 2048];
+    spelt(&mut prints, &mut segments, counts);
 }

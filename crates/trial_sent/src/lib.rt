@@ -362,7 +362,7 @@ fn both_judged(
     a
 }
 
-// AcceptResult as the backup of the whole image.
+// Judged as the backup of the whole image.
 pub fn back_up(
     c: Capacities,
     user: u32,

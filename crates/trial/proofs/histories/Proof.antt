@@ -7,7 +7,7 @@ use Rattle.trial.proofs.histories.Statement.{statement}
 use Rattle.trial.proofs.histories.Tie as tie
 use Rattle.trial.proofs.histories.Reads as reads
 use Rattle.trial.proofs.histories.Lts as lts
-use Rattle.trial_history.proofs.history.Reads as history-reads
+use Rattle.trial.proofs.history.history.Reads as history-reads
 use Rattle.trial.proofs.store_of.Reads as store-of-reads
 
 abbrev Inv-loop : tie.InvT-loop

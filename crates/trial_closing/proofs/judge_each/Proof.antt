@@ -7,8 +7,8 @@ use Rattle.trial_closing.proofs.judge_each.Statement.{statement}
 use Rattle.trial_closing.proofs.judge_each.Tie as tie
 use Rattle.trial_closing.proofs.judge_each.Reads as reads
 use Rattle.trial_closing.proofs.judge_each.Lts as lts
-use Rattle.trial_closing.proofs.answer_at.Reads as answer-at-reads
-use Rattle.trial_closing.proofs.end_of.Reads as end-of-reads
+use Rattle.trial_images.proofs.answer_at.Reads as answer-at-reads
+use Rattle.trial_images.proofs.end_of.Reads as end-of-reads
 use Rattle.trial_closing.proofs.judge_one.Reads as judge-one-reads
 
 abbrev Inv-loop : tie.InvT-loop

@@ -11,10 +11,10 @@ use Rattle.trial_refusals.proofs.sent.message_of.Reads as message-of-re
 use Rattle.trial_refusals.proofs.sent.send_judged.Reads as send-judged-reads
 
 abbrev Inv-loop : tie.InvT-loop
-Inv-loop prints image other pool₀ table₀ counts₀ n₀ pool table counts n = (n ≤ 7) × (length pool ≡ length pool₀) × (length table ≡ length table₀) × (length counts ≡ length counts₀)
+Inv-loop prints segments pool₀ table₀ counts₀ n₀ pool table counts n = (n ≤ 7) × (length pool ≡ length pool₀) × (length table ≡ length table₀) × (length counts ≡ length counts₀)
 
 abbrev μ-loop : tie.MeasureT-loop
-μ-loop prints image other pool₀ table₀ counts₀ n₀ pool table counts n = 7 - n
+μ-loop prints segments pool₀ table₀ counts₀ n₀ pool table counts n = 7 - n
 
 -- src/sent.rt:151:5
 loop-holds : tie.Need-loop-holds Inv-loop μ-loop
