@@ -11,6 +11,7 @@ use Rattle.model.specs.Table.{shapeOf}
 use Rattle.model.specs.Sound.{hasLengths}
 use Rattle.laws.specs.Ranges.{Measured, Ranges}
 use Rattle.laws.proofs.Ranges.{ranges}
+use Rattle.laws.proofs.Stores.{header-ranges}
 use Rattle.audit_header.specs.Header.{HeaderSound}
 use Rattle.audit.specs.Sound.{Sized}
 
@@ -22,22 +23,17 @@ module _ (pool ws : List ℕ) (h : HeaderSound pool ws) where
   pub header-measured : Measured (shapeOf ws .measures)
   header-measured = in-ranges .measured
 
-  pub header-sized : Sized (shapeOf ws .measures) pool ws
-  unfolding hasLengths poolBytes tableWords shapeOf
-  header-sized =
-      let r = in-ranges in
-      record {
-        tills = r .tills;
-        versions = r .versions;
-        blocks = r .blocks;
-        records = r .records;
-        cells = r .cells;
-        bytes = eqb-true _ _ (clause _ 1 (h .lengths));
-        words = eqb-true _ _ (clause _ 2 (h .lengths));
-      }
-
   pub header-long : 8 ≤ length ws
-  header-long = omega (arith, header-sized .words)
+  unfolding hasLengths tableWords
+  header-long = let e : length ws ≡ tableWords (shapeOf ws) = eqb-true _ _ (clause _ 2 (h .lengths)) in omega (arith, e)
+
+  header-sized : Sized (shapeOf ws .measures) pool ws
+  unfolding hasLengths poolBytes tableWords shapeOf
+  header-sized = record {
+    header = header-ranges ws in-ranges header-long;
+    bytes = eqb-true _ _ (clause _ 1 (h .lengths));
+    words = eqb-true _ _ (clause _ 2 (h .lengths));
+  }
 
   -- of the measures that the code read
   pub header-body : (m : Measures) → m ≡ shapeOf ws .measures → Measured m × Sized m pool ws

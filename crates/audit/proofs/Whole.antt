@@ -29,7 +29,7 @@ use Rattle.laws.proofs.Ranges.{ranges}
 use Rattle.audit_words.specs.Words.{RecordForm}
 use Rattle.lists.proofs.Answers.{every-map}
 use Rattle.audit_words.proofs.Positions.{segment-long}
-use Rattle.audit_words.proofs.Records.{IsRecordRow, record-says, says-record}
+use Rattle.audit_words.proofs.Records.{IsRecordRow, record-canonical, canonical-record}
 use Rattle.audit_cells.specs.Cells.{CellsSound}
 use Rattle.audit_counts.specs.Counters.{countTo}
 use Rattle.audit_counts.proofs.Pointers.{rows-count}
@@ -115,7 +115,7 @@ module _ (s : Shape) (ok : Measured (s .measures)) (pool ws : List ℕ) (h : has
   unfolding hasLengths poolBytes
   pool-long = eqb-true _ _ (clause _ 1 h)
 
-  table-long : length ws ≡ recordsAt nt nv nb + nr * sw
+  table-long : length ws ≡ recordsAt (s .capacities) + nr * sw
   unfolding hasLengths tableWords
   table-long = eqb-true _ _ (clause _ 2 h)
 
@@ -263,7 +263,7 @@ module _ (s : Shape) (ok : Measured (s .measures)) (pool ws : List ℕ) (h : has
     fines = with-long (TillSound bytes storage nv nb) (TillFine s storage) tw (λ x e t. till-fine s some-bytes storage x e t) (chunks tw tills) long-tills canonical
 
     record-fines : Each (IsRecordRow n) (chunks sw records)
-    record-fines = with-long (RecordForm n) (IsRecordRow n) sw (record-says n) (chunks sw records) long-records (b .forms)
+    record-fines = with-long (RecordForm n) (IsRecordRow n) sw (record-canonical n) (chunks sw records) long-records (b .forms)
 
     tilled : Each Tilled (chunks tw tills)
     unfolding Tilled
@@ -323,9 +323,9 @@ module _ (s : Shape) (ok : Measured (s .measures)) (pool ws : List ℕ) (h : has
     unfolding isSound stateIn
     cells-at = record { named = clause _ 3 sound; filled = clause _ 6 sound }
 
-    says-at : Each (TillSound bytes storage nv nb) (chunks tw tills)
+    tills-sound-at : Each (TillSound bytes storage nv nb) (chunks tw tills)
     unfolding Tilled
-    says-at =
+    tills-sound-at =
         with-long (TillFine s storage) (TillSound bytes storage nv nb) tw (λ x e f. fine-till s some-bytes storage x e f) (chunks tw tills) long-tills
         (each-weaken (λ x. (tillToWords nv nb (tillIn bytes nv nb x) ≡ x) × (isTill s storage (tillIn bytes nv nb x) ≡ true)) (TillFine s storage) (λ x p. record { words = p .0; sound = p .1 }) (chunks tw tills)
         (each-both (λ x. tillToWords nv nb (tillIn bytes nv nb x) ≡ x) (λ x. isTill s storage (tillIn bytes nv nb x) ≡ true) (chunks tw tills) tilled
@@ -335,7 +335,7 @@ module _ (s : Shape) (ok : Measured (s .measures)) (pool ws : List ℕ) (h : has
     forms-at : Each (RecordForm n) (chunks sw records)
     unfolding Recorded
     forms-at =
-        with-long (IsRecordRow n) (RecordForm n) sw (says-record n) (chunks sw records) long-records
+        with-long (IsRecordRow n) (RecordForm n) sw (canonical-record n) (chunks sw records) long-records
         (each-weaken (λ x. (recordToWords (segmentIn n x) ≡ x) × (isFreeOrHolds (segmentIn n x) ≡ true)) (IsRecordRow n) (λ x p. record { words = p .0; used = p .1 }) (chunks sw records)
         (each-both (λ x. recordToWords (segmentIn n x) ≡ x) (λ x. isFreeOrHolds (segmentIn n x) ≡ true) (chunks sw records) recorded
         (every-each (λ x. isFreeOrHolds (segmentIn n x)) (λ x. isFreeOrHolds (segmentIn n x) ≡ true) (λ x e. e) (chunks sw records) (sym (every-map isFreeOrHolds (segmentIn n) (chunks sw records)) ∙ used-at))))
@@ -344,8 +344,8 @@ module _ (s : Shape) (ok : Measured (s .measures)) (pool ws : List ℕ) (h : has
     sound-body = record {
       forms = forms-at;
       cells = cells-at;
-      tillsSound = each-tills says-at;
-      counts = sound-counts n (allPointers (map (tillIn bytes nv nb) (chunks tw tills))) (tillsPointers bytes nv nb nt tills) records (counted says-at) right-at;
+      tillsSound = each-tills tills-sound-at;
+      counts = sound-counts n (allPointers (map (tillIn bytes nv nb) (chunks tw tills))) (tillsPointers bytes nv nb nt tills) records (counted tills-sound-at) right-at;
     }
 
   -- ---- the store

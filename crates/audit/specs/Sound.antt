@@ -1,12 +1,13 @@
 -- What the whole check tells, part by part.
 use mathlib.Core.Path.{_≡_}
-use Prim.Native.Nat.{ℕ, _+_, _*_, _≤_, _<_}
+use Prim.Native.Nat.{ℕ, _+_, _*_, _<_}
 use mathlib.Core.List.{List}
 use lib.ListN.{length, getD, take, drop}
 use Rattle.lists.specs.Rows.{chunks}
 use Rattle.lists.specs.Each.{Each}
 use Rattle.model.specs.Measures.{Measures, tillWords, recordWords, recordsAt}
 use Rattle.model.specs.Table.{shapeOf, tillsPart, recordsPart, storageIn}
+use Rattle.laws.specs.Stores.{HeaderRanges}
 use Rattle.audit_words.specs.Words.{RecordForm}
 use Rattle.audit_cells.specs.Cells.{CellsSound}
 use Rattle.audit_counts.specs.Counters.{CountsExact}
@@ -14,13 +15,9 @@ use Rattle.audit_tills.specs.Sound.{tillsPointers, TillSound}
 
 -- a table's capacities are in range, and the buffers have the lengths of a store of these measures
 pub record Sized (m : Measures) (pool ws : List ℕ) : Type 0 where
-  pub tills : getD ws 0 0 ≤ 16
-  pub versions : getD ws 1 0 ≤ 64
-  pub blocks : getD ws 2 0 ≤ 1024
-  pub records : getD ws 3 0 ≤ 4096
-  pub cells : getD ws 4 0 ≤ 32768
+  pub header : HeaderRanges ws
   pub bytes : length pool ≡ getD ws 4 0 * m .blockBytes
-  pub words : length ws ≡ recordsAt (getD ws 0 0) (getD ws 1 0) (getD ws 2 0) + getD ws 3 0 * recordWords (m .segmentBlocks)
+  pub words : length ws ≡ recordsAt (shapeOf ws .capacities) + getD ws 3 0 * recordWords (m .segmentBlocks)
 
 -- the words of `count` tills of `v` versions of `b` blocks, and those of the records
 pub record Body (m : Measures) (pool tills records : List ℕ) (count v b : ℕ) : Type 0 where

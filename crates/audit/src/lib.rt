@@ -5,7 +5,7 @@ ghost use Prim.Native.Nat.{ℕ, _+_, _*_, _≤_, _<_};
 ghost use lib.ListN.{length, take, drop};
 ghost use Rattle.lists.specs.Lists.{isSome};
 ghost use Rattle.lists.specs.Decides.{Decides};
-ghost use Rattle.model.specs.Measures.{tillWords, recordWords, recordsAt};
+ghost use Rattle.model.specs.Measures.{tillWords, recordWords};
 ghost use Rattle.model.specs.Table.{storageIn};
 ghost use Rattle.model.specs.Sound.{storeOf};
 ghost use Rattle.laws.specs.Ranges.{Measured};
@@ -66,15 +66,6 @@ fn parts_sound(
     counted_sound(pool, tills, records, count, versions, blocks, m)
 }
 
-// Where the records begin.
-fn records_at(tills: usize, versions: usize, blocks: usize) -> usize
-    requires { ⌜ (tills ≤ 16) × (versions ≤ 64) × (blocks ≤ 1024) ⌝ }
-    ensures { λ r. ⌜ (r ≡ recordsAt tills versions blocks) × (r ≤ 2000000) ⌝ }
-{
-    let width = 4 + versions * (3 + blocks);
-    layout::HEADER_WORDS + tills * width
-}
-
 // The same, of a table whose capacities are in range, and of buffers of their lengths.
 fn body_sound(pool: &[u8], table: &[u32], m: Measures) -> bool
     requires { ⌜ Measured (measuresOf m) × Sized (measuresOf m) (now pool) (now table) ⌝ }
@@ -83,7 +74,7 @@ fn body_sound(pool: &[u8], table: &[u32], m: Measures) -> bool
     let tills = table[0] as usize;
     let versions = table[1] as usize;
     let blocks = table[2] as usize;
-    let base = records_at(tills, versions, blocks);
+    let base = layout::records_at(table);
     parts_sound(
         pool,
         &table[layout::HEADER_WORDS..base],

@@ -1,14 +1,14 @@
 -- What the marks and the bytes say of the cells is what sound asks.
 use mathlib.Core.Path.{_≡_, refl, sym, ap, _∙_}
-use mathlib.Core.Bool.{Bool, true, false, not, Bool·beq}
+use mathlib.Core.Bool.{Bool, true, false, Bool·beq}
 use mathlib.Core.List.{List, [], _∷_, map}
 use Prim.Native.Nat.{ℕ, zero, suc, _+_, _*_, _/_, _≤_, _<_}
 use native.Mathlib.Nat.{not-suc-le-zero, le-of-suc-le-suc, zero-add, add-zero}
 use native.Mathlib.Omega.{arith}
 use lib.ListN.{length, getD, take, drop, replicate, length-map, length-replicate, List·getD-map}
-use Rattle.lists.specs.Lists.{isIn, allZero}
+use Rattle.lists.specs.Lists.{isIn}
 use Rattle.lists.specs.Rows.{chunks}
-use Rattle.lists.specs.Marks.{fits, marked, collect}
+use Rattle.lists.specs.Marks.{fits, marked}
 use Rattle.lists.proofs.Checkers.{clash}
 use Rattle.lists.proofs.Tests.{clause, all-true}
 use Rattle.lists.proofs.Cuts.{length-chunks, chunk-at, length-read}
@@ -16,8 +16,9 @@ use Rattle.model.specs.State.{Block}
 use Rattle.model.specs.Measures.{Measures, recordWords}
 use Rattle.model.specs.Records.{cellsOf, namedCells}
 use Rattle.model.specs.Table.{segmentIn, recordsIn, cellsIn, storageIn}
-use Rattle.model.specs.Sound.{hasCells, areFilled}
+use Rattle.model.specs.Sound.{hasCells, areFilled, isFilled}
 use Rattle.audit_cells.specs.Cells.{CellsSound}
+use Rattle.lists.proofs.Marks.{collect}
 use Rattle.lists.proofs.Apart.{collect-at, Apart, fits-apart, apart-fits, none-marked, marked-all}
 
 -- ---- the cells named, in the code's order
@@ -50,7 +51,7 @@ eq-beq true false h = absurd (clash h refl)
 eq-beq false true h = absurd (clash refl h)
 eq-beq false false h = refl
 
-filled-of : (named : List ℕ) (i : ℕ) (bs : List Block) → ((k : ℕ) → k < length bs → isIn (i + k) named ≡ not (allZero (getD bs k []))) → areFilled named i bs ≡ true
+filled-of : (named : List ℕ) (i : ℕ) (bs : List Block) → ((k : ℕ) → k < length bs → isIn (i + k) named ≡ isFilled (getD bs k [])) → areFilled named i bs ≡ true
 unfolding areFilled
 filled-of named i [] h = refl
 filled-of named i (b ∷ bs) h =
@@ -59,7 +60,7 @@ filled-of named i (b ∷ bs) h =
       (filled-of named (suc i) bs (λ k g. ap (λ (n : ℕ). isIn n named) (let e : suc i + k ≡ i + suc k = omega arith in e) ∙ h (suc k) (omega arith)), tt),
     )
 
-filled-at : (named : List ℕ) (i : ℕ) (bs : List Block) → areFilled named i bs ≡ true → (k : ℕ) → k < length bs → isIn (i + k) named ≡ not (allZero (getD bs k []))
+filled-at : (named : List ℕ) (i : ℕ) (bs : List Block) → areFilled named i bs ≡ true → (k : ℕ) → k < length bs → isIn (i + k) named ≡ isFilled (getD bs k [])
 unfolding areFilled
 filled-at named i [] h k g = absurd (not-suc-le-zero g)
 filled-at named i (b ∷ bs) h zero g = ap (λ (n : ℕ). isIn n named) (add-zero i) ∙ beq-eq _ _ (clause _ 0 h)
@@ -72,7 +73,7 @@ filled-at named i (b ∷ bs) h (suc k) g =
 pub record Marked (sz : Measures) (m : ℕ) (pool ws : List ℕ) : Type 0 where
   pub named : fits (length pool / sz .blockBytes) (namedCells (recordsIn (sz .segmentBlocks) ws)) (replicate m false) ≡ true
   pub filled : (c : ℕ) → c < length pool / sz .blockBytes
-      → getD (marked (namedCells (recordsIn (sz .segmentBlocks) ws)) (replicate m false)) c false ≡ not (allZero (take (sz .blockBytes) (drop (c * sz .blockBytes) pool)))
+      → getD (marked (namedCells (recordsIn (sz .segmentBlocks) ws)) (replicate m false)) c false ≡ isFilled (take (sz .blockBytes) (drop (c * sz .blockBytes) pool))
 
 module _ (sz : Measures) (m : ℕ) (pool ws : List ℕ) (most : length pool / sz .blockBytes ≤ m) where
   abbrev named : List ℕ
@@ -86,25 +87,25 @@ module _ (sz : Measures) (m : ℕ) (pool ws : List ℕ) (most : length pool / sz
   unfolding cellsIn
   cell-is k h = chunk-at (sz .blockBytes) pool k h
 
-  pub marked-say : Marked sz m pool ws → CellsSound (storageIn sz pool ws)
+  pub marked-sound : Marked sz m pool ws → CellsSound (storageIn sz pool ws)
   unfolding storageIn hasCells
-  marked-say s =
+  marked-sound s =
       let p : Apart (length pool / sz .blockBytes) named (replicate m false) = fits-apart (length pool / sz .blockBytes) named (replicate m false) (rw (length-replicate m false) most) (s .named) in
       record {
         named = all-true _ (rw cells-long (p .below), (p .apart, tt));
         filled = filled-of named 0 (cellsIn (sz .blockBytes) pool) (λ k h.
             let g : k < length pool / sz .blockBytes = rw cells-long at h in
             ap (λ (x : ℕ). isIn x named) (zero-add k) ∙ sym (marked-all m named k (omega (arith, g, most))) ∙ s .filled k g
-            ∙ ap (λ (l : List ℕ). not (allZero l)) (sym (cell-is k g)));
+            ∙ ap (λ (l : List ℕ). isFilled l) (sym (cell-is k g)));
       }
 
-  pub say-marked : CellsSound (storageIn sz pool ws) → Marked sz m pool ws
+  pub sound-marked : CellsSound (storageIn sz pool ws) → Marked sz m pool ws
   unfolding storageIn hasCells
-  say-marked s =
+  sound-marked s =
       record {
         named = apart-fits (length pool / sz .blockBytes) named (replicate m false)
             (record { below = rw cells-long at (clause _ 0 (s .named)); apart = clause _ 1 (s .named); free = λ x e. none-marked m x });
         filled = λ k g.
             marked-all m named k (omega (arith, g, most)) ∙ ap (λ (x : ℕ). isIn x named) (sym (zero-add k))
-            ∙ filled-at named 0 (cellsIn (sz .blockBytes) pool) (s .filled) k (rw cells-long g) ∙ ap (λ (l : List ℕ). not (allZero l)) (cell-is k g);
+            ∙ filled-at named 0 (cellsIn (sz .blockBytes) pool) (s .filled) k (rw cells-long g) ∙ ap (λ (l : List ℕ). isFilled l) (cell-is k g);
       }

@@ -1,15 +1,15 @@
 // The cells that positions name: within the pool, no two the same, and just those that are not all zero.
-ghost use mathlib.Core.Bool.{true, false, not};
+ghost use mathlib.Core.Bool.{true, false};
 ghost use mathlib.Core.Path.{_≡_};
 ghost use mathlib.Core.List.{[], _∷_};
 ghost use Prim.Native.Nat.{ℕ, _+_, _*_, _/_, _%_, _≤_, _<_};
 ghost use lib.ListN.{length, getD, take, drop};
 ghost use Rattle.lists.specs.Decides.{Decides};
-ghost use Rattle.lists.specs.Lists.{allZero};
 ghost use Rattle.lists.specs.Marks.{MarkResult};
 ghost use Rattle.model.specs.State.{nullPosition};
 ghost use Rattle.model.specs.Measures.{recordWords};
 ghost use Rattle.model.specs.Records.{cellsOf, namedCells};
+ghost use Rattle.model.specs.Sound.{isFilled};
 ghost use Rattle.model.specs.Table.{segmentIn, recordsIn, storageIn};
 ghost use Rattle.laws.specs.Ranges.{Measured};
 ghost use Rattle.numbers.specs.Measures.{measuresOf};
@@ -75,7 +75,7 @@ fn mark_all(records: &[u32], n: usize, cells: usize, occupied: &mut [bool]) -> b
 // Whether a cell has a byte other than zero if and only if it is occupied.
 fn cell_matches(pool: &[u8], c: Cell, occupied: bool, bytes: usize) -> bool
     requires { ⌜ (bytes ≤ 512) × (c .0 * bytes + bytes ≤ length (now pool)) × (64 ≤ bytes) × (bytes % 64 ≡ 0) ⌝ }
-    ensures { λ r. ⌜ Decides r (occupied ≡ not (allZero (take bytes (drop (c .0 * bytes) (now (pool .entry)))))) ⌝ }
+    ensures { λ r. ⌜ Decides r (occupied ≡ isFilled (take bytes (drop (c .0 * bytes) (now (pool .entry))))) ⌝ }
 {
     let at = c.byte(bytes);
     let end = at + bytes;
@@ -88,7 +88,7 @@ fn cell_matches(pool: &[u8], c: Cell, occupied: bool, bytes: usize) -> bool
 // Whether that holds of every cell.
 fn cells_filled(pool: &[u8], occupied: &[bool], bytes: usize) -> bool
     requires { ⌜ (0 < bytes) × (bytes ≤ 512) × (length (now pool) / bytes ≤ length (now occupied)) × (length (now occupied) ≤ 32768) × (64 ≤ bytes) × (bytes % 64 ≡ 0) ⌝ }
-    ensures { λ r. ⌜ Decides r ((c : ℕ) → c < length (now (pool .entry)) / bytes → getD (now (occupied .entry)) c false ≡ not (allZero (take bytes (drop (c * bytes) (now (pool .entry)))))) ⌝ }
+    ensures { λ r. ⌜ Decides r ((c : ℕ) → c < length (now (pool .entry)) / bytes → getD (now (occupied .entry)) c false ≡ isFilled (take bytes (drop (c * bytes) (now (pool .entry))))) ⌝ }
 {
     let n = numbers::parts(pool.len(), bytes);
     let mut c: usize = 0;

@@ -65,30 +65,30 @@ module _ (ps : List Pointer) (k i c n : ℕ) where
   abbrev Asked : ℕ → Type 0
   Asked a = a ≡ 1 → (1 ≤ n) × (n ≡ count (leadsTo k i) ps)
 
-  position-says : (a r b : ℕ) → a < 2 → Asked a → isCounted ps k i (positionOf a r b c n) ≡ true
+  position-counted : (a r b : ℕ) → a < 2 → Asked a → isCounted ps k i (positionOf a r b c n) ≡ true
   unfolding positionOf
-  position-says zero zero zero l h = refl
-  position-says zero zero (suc b) l h = refl
-  position-says zero (suc r) b l h = refl
-  position-says (suc a) r b l h = let g = h (omega arith) in all-true _ (lt-ltb 0 _ (g .0), (eq-eqb _ _ (g .1), tt))
+  position-counted zero zero zero l h = refl
+  position-counted zero zero (suc b) l h = refl
+  position-counted zero (suc r) b l h = refl
+  position-counted (suc a) r b l h = let g = h (omega arith) in all-true _ (lt-ltb 0 _ (g .0), (eq-eqb _ _ (g .1), tt))
 
-  says-position : (a r b : ℕ) → isCounted ps k i (positionOf a r b c n) ≡ true → Asked a
+  counted-position : (a r b : ℕ) → isCounted ps k i (positionOf a r b c n) ≡ true → Asked a
   unfolding positionOf
-  says-position zero r b h e = absurd (omega arith)
-  says-position (suc a) r b h e = (ltb-true 0 _ (clause _ 0 h), eqb-true _ _ (clause _ 1 h))
+  counted-position zero r b h e = absurd (omega arith)
+  counted-position (suc a) r b h e = (ltb-true 0 _ (clause _ 0 h), eqb-true _ _ (clause _ 1 h))
 
 -- ---- a record's words
 
 module _ (n : ℕ) (ps : List Pointer) (k : ℕ) (row : List ℕ) (l : length row ≡ recordWords n) where
-  record-says : ((i : ℕ) → i < n → CountExact n row i (count (leadsTo k i) ps)) → areCounted ps k 0 (segmentIn n row) ≡ true
-  record-says h =
+  record-canonical : ((i : ℕ) → i < n → CountExact n row i (count (leadsTo k i) ps)) → areCounted ps k 0 (segmentIn n row) ≡ true
+  record-canonical h =
       counted-of ps k 0 (segmentIn n row) (λ j b.
       let g : j < n = rw (segment-long n row l) at b in
-      rw (zero-add j, segment-at n row l j g) (position-says ps k j _ _ (bitOf (getD row 0 0) j) (bitOf (getD row 1 0) j) (bitOf (getD row 2 0) j) (omega arith) (h j g)))
+      rw (zero-add j, segment-at n row l j g) (position-counted ps k j _ _ (bitOf (getD row 0 0) j) (bitOf (getD row 1 0) j) (bitOf (getD row 2 0) j) (omega arith) (h j g)))
 
-  says-record : areCounted ps k 0 (segmentIn n row) ≡ true → (i : ℕ) → i < n → CountExact n row i (count (leadsTo k i) ps)
-  says-record h i b =
-      says-position ps k i _ _ (bitOf (getD row 0 0) i) (bitOf (getD row 1 0) i) (bitOf (getD row 2 0) i)
+  canonical-record : areCounted ps k 0 (segmentIn n row) ≡ true → (i : ℕ) → i < n → CountExact n row i (count (leadsTo k i) ps)
+  canonical-record h i b =
+      counted-position ps k i _ _ (bitOf (getD row 0 0) i) (bitOf (getD row 1 0) i) (bitOf (getD row 2 0) i)
       (rw (zero-add i, segment-at n row l i b) at (counted-at ps k 0 (segmentIn n row) h i (rw (segment-long n row l) b)))
 
 -- ---- counters that were made from zeros
@@ -118,10 +118,10 @@ module _ (n : ℕ) (ps : List Pointer) (tills ws : List ℕ)
       all-of ps 0 (map (segmentIn n) (chunks (recordWords n) ws)) (segmentIn n []) (λ k b.
       let h : k < length ws / recordWords n = rw (length-read (segmentIn n) (recordWords n) ws) at b in
       rw (zero-add k, read-at (segmentIn n) (recordWords n) ws k h)
-      (record-says n ps k (take (recordWords n) (drop (k * recordWords n) ws)) (row-long k h) (λ i g. rw (same k i h g) at (s k h i g))))
+      (record-canonical n ps k (take (recordWords n) (drop (k * recordWords n) ws)) (row-long k h) (λ i g. rw (same k i h g) at (s k h i g))))
 
   pub sound-counts : allCounted ps 0 (recordsIn n ws) ≡ true → CountsExact n tills ws
   unfolding recordsIn
   sound-counts e k h i g =
-      rw (same k i h g) (says-record n ps k (take (recordWords n) (drop (k * recordWords n) ws)) (row-long k h)
+      rw (same k i h g) (canonical-record n ps k (take (recordWords n) (drop (k * recordWords n) ws)) (row-long k h)
       (rw (zero-add k, read-at (segmentIn n) (recordWords n) ws k h) at (all-at ps 0 (map (segmentIn n) (chunks (recordWords n) ws)) (segmentIn n []) e k (rw (length-read (segmentIn n) (recordWords n) ws) h))) i g)

@@ -40,13 +40,13 @@ module _ (n : ℕ) (row counts : List ℕ) where
     left-less s =
         record {
           held = λ k e. keeps k e (eqb k t) refl;
-          canonical = λ k h z. tells k h z (eqb k t) refl;
+          canonical = λ k h z. exact k h z (eqb k t) refl;
         }
       where
         keeps : (k : ℕ) → bitOf (m - 2 ^ t) k ≡ 1 → (b : Bool) → eqb k t ≡ b → bitOf (getD row 0 0) k ≡ 1
         keeps k e true q = absurd (omega (arith, subst (λ (j : ℕ). bitOf (m - 2 ^ t) j ≡ 1) (eqb-true k t q) e, clear-at m t (first-bit f)))
         keeps k e false q = w .held k (sym (clear-other m t k (first-bit f) (eqb-false k t q)) ∙ e)
 
-        tells : (k : ℕ) → k < n → bitOf (m - 2 ^ t) k ≡ 0 → (b : Bool) → eqb k t ≡ b → CountExact n row k (getD counts k 0)
-        tells k h z true q = subst (λ (j : ℕ). CountExact n row j (getD counts j 0)) (sym (eqb-true k t q)) (λ o. s)
-        tells k h z false q = w .canonical k h (sym (clear-other m t k (first-bit f) (eqb-false k t q)) ∙ z)
+        exact : (k : ℕ) → k < n → bitOf (m - 2 ^ t) k ≡ 0 → (b : Bool) → eqb k t ≡ b → CountExact n row k (getD counts k 0)
+        exact k h z true q = subst (λ (j : ℕ). CountExact n row j (getD counts j 0)) (sym (eqb-true k t q)) (λ o. s)
+        exact k h z false q = w .canonical k h (sym (clear-other m t k (first-bit f) (eqb-false k t q)) ∙ z)

@@ -39,13 +39,13 @@ read-other w a b d = other (w / kindUnit) (w % kindUnit) a b d
 
 -- ---- IsPointerWord
 
-pub direct-says : (w : ℕ) → w / kindUnit ≡ 1 → IsPointerWord w
+pub direct-canonical : (w : ℕ) → w / kindUnit ≡ 1 → IsPointerWord w
 unfolding pointerWord
-direct-says w e = rw (read-direct w e) (omega arith)
+direct-canonical w e = rw (read-direct w e) (omega arith)
 
-pub indirect-says : (w : ℕ) → w / kindUnit ≡ 2 → IsPointerWord w
+pub indirect-canonical : (w : ℕ) → w / kindUnit ≡ 2 → IsPointerWord w
 unfolding pointerWord
-indirect-says w e = rw (read-indirect w e) (omega arith)
+indirect-canonical w e = rw (read-indirect w e) (omega arith)
 
 -- the two words that stand alone
 pub null-reads : (w : ℕ) → w ≡ pointerWord nullPointer → wordToPointer w ≡ nullPointer
@@ -56,14 +56,14 @@ pub blank-reads : (w : ℕ) → w ≡ pointerWord blankPointer → wordToPointer
 unfolding pointerWord
 blank-reads w e = read-blank w (omega arith)
 
-pub null-says : (w : ℕ) → w ≡ pointerWord nullPointer → IsPointerWord w
-null-says w e = ap pointerWord (null-reads w e) ∙ sym e
+pub null-canonical : (w : ℕ) → w ≡ pointerWord nullPointer → IsPointerWord w
+null-canonical w e = ap pointerWord (null-reads w e) ∙ sym e
 
-pub blank-says : (w : ℕ) → w ≡ pointerWord blankPointer → IsPointerWord w
-blank-says w e = ap pointerWord (blank-reads w e) ∙ sym e
+pub blank-canonical : (w : ℕ) → w ≡ pointerWord blankPointer → IsPointerWord w
+blank-canonical w e = ap pointerWord (blank-reads w e) ∙ sym e
 
-pub other-says : (w : ℕ) → (w / kindUnit ≡ 1 → ⊥) → (w / kindUnit ≡ 2 → ⊥) → (w ≡ pointerWord nullPointer → ⊥) → IsPointerWord w → w ≡ pointerWord blankPointer
-other-says w a b z e = go (eqb (w / kindUnit) 3) refl
+pub canonical-other : (w : ℕ) → (w / kindUnit ≡ 1 → ⊥) → (w / kindUnit ≡ 2 → ⊥) → (w ≡ pointerWord nullPointer → ⊥) → IsPointerWord w → w ≡ pointerWord blankPointer
+canonical-other w a b z e = go (eqb (w / kindUnit) 3) refl
   where
     go : (t : Bool) → eqb (w / kindUnit) 3 ≡ t → w ≡ pointerWord blankPointer
     go true k = sym (rw (read-blank w (eqb-true _ _ k)) at e)

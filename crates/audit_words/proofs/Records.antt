@@ -192,9 +192,9 @@ module _ (n : ℕ) (row : List ℕ) (l : length row ≡ recordWords n) where
       (sym (take-append-drop n (drop 3 row))
       ∙ ap (λ (r : List ℕ). take n (drop 3 row) ++ r) (drop-drop n 3 row ∙ sym (take-all n (drop (3 + n) row) (omega (arith, length-drop (3 + n) row)))))))
 
-  pub record-says : RecordForm n row → IsRecordRow n row
+  pub record-canonical : RecordForm n row → IsRecordRow n row
   unfolding recordToWords segmentIn
-  record-says f =
+  record-canonical f =
       let k = kept f in
       record {
         words = rw (k .helds, k .removeds, k .blanks, k .cells, k .counts) (sym apart);
@@ -282,8 +282,8 @@ module _ (n : ℕ) (row : List ℕ) (l : length row ≡ recordWords n) where
         no-count (held c n) e = absurd (omega arith)
         no-count removed e = refl
 
-    says-form : RecordForm n row
-    says-form = record {
+    canonical-form : RecordForm n row
+    canonical-form = record {
       helds = rw helds at (rw long at (mask-lt isHeld seg));
       removeds = rw removeds at (rw long at (mask-lt isRemoved seg));
       blanks = rw blanks at (rw long at (mask-lt isBlankPosition seg));
@@ -291,5 +291,5 @@ module _ (n : ℕ) (row : List ℕ) (l : length row ≡ recordWords n) where
       used = λ z. let u = used-at seg (s .used) (helds ∙ z) in (sym removeds ∙ u .0, sym blanks ∙ u .1);
     }
 
-  pub says-record : IsRecordRow n row → RecordForm n row
-  says-record s = says-form s
+  pub canonical-record : IsRecordRow n row → RecordForm n row
+  canonical-record s = canonical-form s

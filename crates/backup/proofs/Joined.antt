@@ -6,7 +6,7 @@ use native.Mathlib.Nat.{mul-assoc, mul-comm, mul-le-mul, mul-le-mul-left, mul-le
 use native.Mathlib.Omega.{arith}
 use lib.ListN.{length, getD, take, drop, length-map, length-take}
 use lib.Seq.{length-take-le}
-use Rattle.model.specs.Measures.{Measures, partsFor, recordWords, tillWords, tableWords}
+use Rattle.model.specs.Measures.{Measures, partsFor, recordWords, tillWords, tableWords, recordsAt}
 use Rattle.model.specs.State.{Till, State, Pointer, Outcome, refused, done}
 use Rattle.model.specs.Place.{Placed, placeAll}
 use Rattle.model.specs.Image.{imageBlocks, imageSegments}
@@ -18,11 +18,12 @@ use Rattle.laws.proofs.Image.{blocks-length}
 use Rattle.laws.proofs.Remaining.{newest-suffices}
 use Rattle.laws.specs.Storage.{Suffices}
 use Rattle.laws.proofs.Measures.{sizes, parts-enough, parts-few, parts-least}
-use Rattle.laws.specs.Stores.{Sound, HeaderRanges, tillAt, recordsFrom}
+use Rattle.laws.specs.Stores.{Sound, HeaderRanges, tillAt}
 use Rattle.laws.proofs.Stores.{till-is, header, long, fit, fits, found}
 use Rattle.laws.proofs.Tills.{there, in-words, till-words}
 use Rattle.tills.specs.declared.Head.{Head}
-use Rattle.tills.specs.Answers.{tillSize, HeadOf}
+use Rattle.tills.specs.Answers.{HeadOf}
+use Rattle.tills.proofs.Cases.{tillSize}
 use Rattle.backup_accept.specs.Accept.{Accepted}
 use Rattle.place.specs.All.{segmentsIn}
 use Rattle.chain.specs.Limit.{within}
@@ -84,8 +85,8 @@ module _ {mc : Measures} {pool table : List ℕ} {t : ℕ} {r : Head} {day : ℕ
   pub image-short : length image ≤ 65536
   image-short = image-most (p .sound) (p .accepted)
 
-  pub storage-ready : (from : ℕ) → from ≡ recordsFrom (shapeOf table) → StoreInPre mc image pool table from words prev
-  storage-ready from e = record {
+  pub store-in-pre : (from : ℕ) → from ≡ recordsAt (shapeOf table .capacities) → StoreInPre mc image pool table from words prev
+  store-in-pre from e = record {
     sound = p .sound;
     measures = p .measures;
     begins = e;
@@ -139,8 +140,8 @@ module _ {mc : Measures} {pool table : List ℕ} {t : ℕ} {r : Head} {day : ℕ
               ∙ ap (λ (ws : List ℕ). take (tillSize table) (drop (tillAt (shapeOf table) t) ws)) (q .1 .tables)
               ∙ (unfold shapeOf tillOf in till-is (shapeOf table) (sweptState (measuresOn table) (stateIn (shapeOf table) pool table) (blocksOn table image) (newestOf pool table t) (x .storage)) t (there (p .sound) t (p .accepted .there)))
 
-      pub file-ready : length table′ ≡ length table → length prev′ ≡ length prev → FilePre table′ (r .at) (r .at + m) (getD table 2 0) prev′ (take k words′)
-      file-ready lt lp =
+      pub file-pre : length table′ ≡ length table → length prev′ ≡ length prev → FilePre table′ (r .at) (r .at + m) (getD table 2 0) prev′ (take k words′)
+      file-pre lt lp =
           let (x, y, w) = till-in (p .sound) t (p .accepted .there) (r .at) m (p .head .at) em in
           record {
             order = omega arith;

@@ -9,12 +9,12 @@ use borrow.Rule.Slice.PartMut.{midOf, putMid}
 use Rattle.lists.specs.Rows.{joined, rows}
 use Rattle.model.specs.Image.{imageBlocks, imageSegments, withBlanks}
 use Rattle.lists.proofs.Rows.{length-rows}
-use Rattle.model.specs.Measures.{Measures, recordWords, tableWords}
+use Rattle.model.specs.Measures.{Measures, recordWords, tableWords, recordsAt}
 use Rattle.model.specs.Place.{Placed, placeAll}
 use Rattle.model.specs.State.{Block, Pointer, Segment, Storage, State, Outcome, refused, done}
 use Rattle.model.specs.Table.{shapeOf, stateIn, storageIn, stateToWords, stateToBytes, recordToWords, wordToPointer}
 use Rattle.laws.specs.Storage.{StorageFits, Suffices}
-use Rattle.laws.specs.Stores.{recordsFrom, Sound}
+use Rattle.laws.specs.Stores.{Sound}
 use Rattle.laws.proofs.Stores.{records-is, records-put, found, fits, valid, long, header}
 use Rattle.laws.proofs.Measures.{sizes}
 use Rattle.sound_laws.proofs.Records.{storage-is, stored-read}
@@ -31,29 +31,25 @@ module _ {pool table : List ℕ} (h : Sound pool table) where
   st = stateIn (shapeOf table) pool table
 
   abbrev part : List ℕ
-  part = midOf (recordsFrom (shapeOf table)) (length table - recordsFrom (shapeOf table)) table
+  part = midOf (recordsAt (shapeOf table .capacities)) (length table - recordsAt (shapeOf table .capacities)) table
 
   count : length (st .tills) ≡ shapeOf table .capacities .tills
   count = fits h .tillCount
 
   part-is : part ≡ rows recordToWords (st .storage .records)
   part-is =
-      subst (λ (ws : List ℕ). take (length ws - recordsFrom (shapeOf table)) (drop (recordsFrom (shapeOf table)) ws) ≡ rows recordToWords (st .storage .records))
+      subst (λ (ws : List ℕ). take (length ws - recordsAt (shapeOf table .capacities)) (drop (recordsAt (shapeOf table .capacities)) ws) ≡ rows recordToWords (st .storage .records))
       (found h .words) (records-is (shapeOf table) st count)
 
-  bytes-are : pool ≡ joined (st .storage .cells)
-  unfolding stateToBytes
-  bytes-are = sym (found h .bytes)
-
   part-put : (storage : Storage) (ws : List ℕ) → ws ≡ rows recordToWords (storage .records)
-      → putMid (recordsFrom (shapeOf table)) (length table - recordsFrom (shapeOf table)) table ws ≡ stateToWords (shapeOf table) (record { tills = st .tills; storage = storage })
+      → putMid (recordsAt (shapeOf table .capacities)) (length table - recordsAt (shapeOf table .capacities)) table ws ≡ stateToWords (shapeOf table) (record { tills = st .tills; storage = storage })
   part-put storage ws e =
-      ap (λ (x : List ℕ). putMid (recordsFrom (shapeOf table)) (length table - recordsFrom (shapeOf table)) table x) e
-      ∙ subst (λ (l : List ℕ). take (recordsFrom (shapeOf table)) l ++ (rows recordToWords (storage .records) ++ drop (length l - recordsFrom (shapeOf table)) (drop (recordsFrom (shapeOf table)) l)) ≡ stateToWords (shapeOf table) (record { tills = st .tills; storage = storage }))
+      ap (λ (x : List ℕ). putMid (recordsAt (shapeOf table .capacities)) (length table - recordsAt (shapeOf table .capacities)) table x) e
+      ∙ subst (λ (l : List ℕ). take (recordsAt (shapeOf table .capacities)) l ++ (rows recordToWords (storage .records) ++ drop (length l - recordsAt (shapeOf table .capacities)) (drop (recordsAt (shapeOf table .capacities)) l)) ≡ stateToWords (shapeOf table) (record { tills = st .tills; storage = storage }))
       (found h .words) (records-put (shapeOf table) st count (storage .records) (storage .cells))
 
   storage-back : storageIn (measuresOn table) pool part ≡ st .storage
-  storage-back = storage-is h (recordsFrom (shapeOf table)) refl
+  storage-back = storage-is h (recordsAt (shapeOf table .capacities)) refl
 
   part-length : length part ≡ getD table 3 0 * recordWords (measuresOn table .segmentBlocks)
   unfolding shapeOf
@@ -65,7 +61,7 @@ module _ (m : Measures) (image pool table : List ℕ) (from : ℕ) (words prev :
   pub from-in : from ≤ length table
   from-in = go (long (r .sound)) (r .begins)
     where
-      go : length table ≡ tableWords (shapeOf table) → from ≡ recordsFrom (shapeOf table) → from ≤ length table
+      go : length table ≡ tableWords (shapeOf table) → from ≡ recordsAt (shapeOf table .capacities) → from ≤ length table
       go l b = unfold tableWords in omega (arith, l, b)
 
   -- where the records begin, and with the table's measures
@@ -73,7 +69,7 @@ module _ (m : Measures) (image pool table : List ℕ) (from : ℕ) (words prev :
   readied-on = record {
     ready = record {
       most = r .short;
-      stored = stored-read (r .sound) (recordsFrom (shapeOf table)) refl (measuresOn table) refl;
+      stored = stored-read (r .sound) (recordsAt (shapeOf table .capacities)) refl (measuresOn table) refl;
       counts =
           unfold storageIn in subst (λ (x : Storage). Countable 2147483648 (x .records)) (sym (storage-back (r .sound))) (sound-counts (shapeOf table) (st (r .sound)) (found (r .sound) .sound));
       room = r .room ∙ ap (λ (n : Measures). segmentsIn n image * n .segmentBlocks) (r .measures);
@@ -101,7 +97,7 @@ module _ (m : Measures) (image pool table : List ℕ) (from : ℕ) (words prev :
       (subst (λ (x : Measures). StoreResult x image ps (limited others most x (imageBlocks (x .blockBytes) image) ps (placedIn x image pool (midOf from (length table - from) table))) n pool (midOf from (length table - from) table) pool′ ws′ words′ prev′) (r .measures) d)
     where
       go : (o : Outcome Placed) → StoreResult (measuresOn table) image ps o n pool (part (r .sound)) pool′ ws′ words′ prev′
-          → StoreInResult image ps pool table o n pool′ (putMid (recordsFrom (shapeOf table)) (length table - recordsFrom (shapeOf table)) table ws′) words′ prev′
+          → StoreInResult image ps pool table o n pool′ (putMid (recordsAt (shapeOf table .capacities)) (length table - recordsAt (shapeOf table .capacities)) table ws′) words′ prev′
       go (refused k) q = (q .0, q .1, q .2, part-put (r .sound) (st (r .sound) .storage) ws′ (q .3 ∙ part-is (r .sound)) ∙ found (r .sound) .words)
       go (done p) q = (
         q .0,

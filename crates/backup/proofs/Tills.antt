@@ -18,7 +18,7 @@ use Rattle.laws.specs.Stores.{Sound}
 use Rattle.laws.proofs.Stores.{header, fits, found}
 use Rattle.laws.proofs.Tills.{there, few, last-most}
 use Rattle.backup_accept.specs.Accept.{HasRoomLeft}
-use Rattle.backup_file.specs.Filing.{Room, HasFreeSlot, FewBlocks, HasPointers, Held}
+use Rattle.backup_file.specs.Filing.{Room, HasFreeSlot, FewBlocks, HasPointers, VersionsFit}
 use Rattle.backup_file.proofs.Slots.{few-blocks}
 use Rattle.backup_laws.proofs.Newest.{newest-good, newest-few, words-back}
 use Rattle.backup_steps.specs.Steps.{Pointed}
@@ -38,7 +38,7 @@ module _ {pool table : List ℕ} (h : Sound pool table) (t : ℕ) (in-table : t 
   unfolding tillOf
   till-fit = each-at (TillFits (shapeOf table)) emptyTill (stateIn (shapeOf table) pool table .tills) (fits h .tills) t (there h t in-table)
 
-  till-held : Held (shapeOf table .measures .blockBytes) v b till
+  till-held : VersionsFit (shapeOf table .measures .blockBytes) v b till
   unfolding shapeOf
   till-held = record {
     most = few h t in-table;
@@ -76,7 +76,7 @@ module _ {pool table : List ℕ} (h : Sound pool table) (t : ℕ) (in-table : t 
 
   -- with the measures as the code read them
   module _ (m : Measures) (em : m ≡ shapeOf table .measures) where
-    pub held-read : Held (m .blockBytes) v b till
+    pub held-read : VersionsFit (m .blockBytes) v b till
     held-read = rw em till-held
 
     pub few-read : (ws : List ℕ) → ws ≡ tillToWords v b till → FewBlocks (m .blockBytes) b ws × (0 < m .blockBytes) × (m .blockBytes ≤ 512)

@@ -4,7 +4,7 @@ use mathlib.Core.List.{List, [], map}
 use Prim.Native.Nat.{ℕ, _+_, _-_, _*_, _≤_, _<_}
 use lib.ListN.{length, getD, set, take, drop}
 use Rattle.model.specs.Image.{imageBlocks, imageSegments, withBlanks}
-use Rattle.model.specs.Measures.{Measures, Shape, tillWords, recordWords}
+use Rattle.model.specs.Measures.{Measures, Shape, tillWords, recordWords, recordsAt}
 use Rattle.model.specs.Calls.{tillOf, tillWith, newestPointers}
 use Rattle.backup_file.specs.Filing.{Room, HasFreeSlot}
 use Rattle.model.specs.Place.{Placed, placeAll}
@@ -12,7 +12,7 @@ use Rattle.model.specs.State.{Block, Pointer, Storage, State, Outcome, refused,
 use Rattle.model.specs.Sweep.{release, sweep}
 use Rattle.model.specs.Table.{shapeOf, stateIn, stateToWords, stateToBytes, pointerWord, wordToPointer}
 use Rattle.model.specs.Turn.{turn, turning}
-use Rattle.laws.specs.Stores.{recordsFrom, tillAt, Sound}
+use Rattle.laws.specs.Stores.{tillAt, Sound}
 use Rattle.laws.specs.Storage.{Suffices}
 use Rattle.place.specs.All.{segmentsIn}
 use Rattle.backup_steps.specs.Limit.{limited}
@@ -37,7 +37,7 @@ limitedOn others most pool table image ps = limited others most (measuresOn tabl
 pub record StoreInPre (m : Measures) (image pool table : List ℕ) (from : ℕ) (words prev : List ℕ) : Type 0 where
   pub sound : Sound pool table
   pub measures : m ≡ measuresOn table
-  pub begins : from ≡ recordsFrom (shapeOf table)
+  pub begins : from ≡ recordsAt (shapeOf table .capacities)
   pub short : length image ≤ 65536
   pub room : length words ≡ segmentsIn m image * m .segmentBlocks
   pub pointers : Pointed (measuresOn table .segmentBlocks) (getD table 3 0 * recordWords (measuresOn table .segmentBlocks)) prev

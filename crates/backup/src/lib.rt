@@ -69,7 +69,7 @@ fn copy_newest(
     ensures { λ r. ⌜ (take r (now (prev .exit)) ≡ map pointerWord (newestOf (now (pool .entry)) (now (table .entry)) till)) × (r ≤ getD (now (table .entry)) 2 0) ⌝ }
 {
     let b = table[2] as usize;
-    let end = at + tills::till_words(table);
+    let end = at + layout::till_words(table);
     backup_file::newest_pointers(&table[at..end], b, prev, m.bytes)
 }
 
@@ -89,9 +89,9 @@ fn store_and_file(
     requires { ⌜ BackupPre (measuresOf m) (now pool) (now table) till head day (now image) (now prev) (now words) × (limit .others ≤ 524288) ⌝ }
     ensures { λ r. ⌜ backedUpAnswer r (now (pool .exit)) (now (table .exit)) ≡ within (limit .others) (limit .most) (now (pool .entry)) (now (table .entry)) (backupDatedOf (now (pool .entry)) (now (table .entry)) till day (now (image .entry))) ⌝ }
 {
-    let from = tills::records_at(table);
+    let from = layout::records_at(table);
     let b = table[2] as usize;
-    let end = head.at + tills::till_words(table);
+    let end = head.at + layout::till_words(table);
     let r = store_in(image, pool, table, from, words, prev, m, limit);
     if r != 0 {
         return BackedUp {

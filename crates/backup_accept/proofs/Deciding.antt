@@ -86,25 +86,18 @@ module _ {pool table : List ℕ} (h : Sound pool table) (t : ℕ) where
     too-early f m =
         rw (h .is, lt-leb _ _ n, ne-eqb (length image) 0 (λ e. omega (arith, e, some)), le-ltb _ _ few, lt-leb _ _ (f .room), ne-eqb (tillOf state t .last) 65535 (λ e. omega (arith, e, f .number)), lt-ltb day newest m)
 
-    -- a call that is accepted so far
-    pub goes-on : HasRoomLeft pool table t → newest ≤ day
-        → backupDatedOf pool table t day image ≡ backupAnswer pool table (shapeOf table) (placeAndFile withBlanks (shapeOf table) state t day image (tillOf state t))
-    unfolding backupDatedOf backupBy backupIn backup shapeOf dayFor
-    goes-on f m =
-        rw (h .is, lt-leb _ _ n, ne-eqb (length image) 0 (λ e. omega (arith, e, some)), le-ltb _ _ few, lt-leb _ _ (f .room), ne-eqb (tillOf state t .last) 65535 (λ e. omega (arith, e, f .number)), le-ltb day newest m)
-
   module _ (r : Head) (o : HeadOf pool table t r) where
-    pub told-11 : getD table 1 0 ≤ r .held → 11 ≡ tillRefusal (shapeOf table) state t
+    pub refusal-11 : getD table 1 0 ≤ r .held → 11 ≡ tillRefusal (shapeOf table) state t
     unfolding shapeOf
-    told-11 m = rw (le-leb (getD table 1 0) (length (tillOf state t .versions)) (omega (arith, m, o .held)))
+    refusal-11 m = rw (le-leb (getD table 1 0) (length (tillOf state t .versions)) (omega (arith, m, o .held)))
 
-    pub told-12 : (r .held < getD table 1 0) → r .last ≡ 65535 → 12 ≡ tillRefusal (shapeOf table) state t
+    pub refusal-12 : (r .held < getD table 1 0) → r .last ≡ 65535 → 12 ≡ tillRefusal (shapeOf table) state t
     unfolding shapeOf
-    told-12 m e = rw (lt-leb (getD table 1 0) (length (tillOf state t .versions)) (omega (arith, m, o .held)), eq-eqb (tillOf state t .last) 65535 (sym (o .last) ∙ e))
+    refusal-12 m e = rw (lt-leb (getD table 1 0) (length (tillOf state t .versions)) (omega (arith, m, o .held)), eq-eqb (tillOf state t .last) 65535 (sym (o .last) ∙ e))
 
-    pub told-0 : (r .held < getD table 1 0) → (r .last ≡ 65535 → ⊥) → 0 ≡ tillRefusal (shapeOf table) state t
+    pub refusal-0 : (r .held < getD table 1 0) → (r .last ≡ 65535 → ⊥) → 0 ≡ tillRefusal (shapeOf table) state t
     unfolding shapeOf
-    told-0 m e = rw (lt-leb (getD table 1 0) (length (tillOf state t .versions)) (omega (arith, m, o .held)), ne-eqb (tillOf state t .last) 65535 (λ q. e (o .last ∙ q)))
+    refusal-0 m e = rw (lt-leb (getD table 1 0) (length (tillOf state t .versions)) (omega (arith, m, o .held)), ne-eqb (tillOf state t .last) 65535 (λ q. e (o .last ∙ q)))
 
   -- 28, once the till has a slot and a number left
   module _ (day r : ℕ) (e : r ≡ tillRefusal (shapeOf table) state t) where

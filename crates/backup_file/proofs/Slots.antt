@@ -8,6 +8,7 @@ use lib.ListN.{length, getD, set, take, drop, replicate, length-append, length-m
 use lib.Seq.{take-at, drop-at, getD-append-add, length-take-le, drop-nil, getD-take}
 use borrow.Rule.Slice.PartMut.{midOf, putMid}
 use Rattle.lists.specs.Each.{Each}
+use Rattle.lists.specs.Lists.{lastOf}
 use Rattle.lists.specs.Rows.{fill, rows, joined}
 use Rattle.lists.proofs.Rows.{fill-split, fill-zeros, length-fill, fill-add, length-rows, wide-all, rows-append}
 use Rattle.lists.proofs.Slices.{mid-is, mid-put, drop-same, tail-is, tail-put, none-left}
@@ -20,7 +21,7 @@ use Rattle.laws.proofs.Newest.{newest-last, with-last}
 use Rattle.laws.proofs.RoundTrip.{length-version, length-till, held-word, last-word}
 use Rattle.slots.proofs.Slots.{Ends, ends, front, front-length, rows-length, slot-head}
 use Rattle.laws.proofs.Measures.{parts-enough}
-use Rattle.backup_file.specs.Filing.{newestAt, Room, FewBlocks, HasPointers, Held, turnedTill, addedTill, SameHead, HasFreeSlot}
+use Rattle.backup_file.specs.Filing.{newestAt, Room, FewBlocks, HasPointers, VersionsFit, turnedTill, addedTill, SameHead, HasFreeSlot}
 
 -- ---- the versions before the newest, and the newest
 
@@ -83,9 +84,6 @@ pub newest-slot : (k w n : ℕ) → 0 < k → 4 + k * w ≤ n → 4 + (k - 1) * 
 newest-slot zero w n h m = absurd (not-suc-le-zero h)
 newest-slot (suc k) w n h m = let e : suc k - 1 ≡ k = omega arith in rw e (omega (arith, m, suc-mul k w))
 
-pub next-slot : (k w n : ℕ) → 4 + (k + 1) * w ≤ n → 4 + k * w + w ≤ n
-next-slot k w n m = let e : k + 1 ≡ suc k = omega arith in omega (arith, subst (λ (j : ℕ). 4 + j * w ≤ n) e m, suc-mul k w)
-
 -- ---- the newest version's pointers
 
 cong-till : (v b last : ℕ) (rights : List Rights) (vs ws : List Version) → vs ≡ ws → tillToWords v b (record { last = last; rights = rights; versions = vs }) ≡ tillToWords v b (record { last = last; rights = rights; versions = ws })
@@ -95,7 +93,7 @@ pub none-held : (v b : ℕ) (t : Till) (till : List ℕ) → till ≡ tillToWord
 none-held v b t till et z = none-left (t .versions) (sym (held-word v b t) ∙ ap (λ (l : List ℕ). getD l 1 0) (sym et) ∙ z)
 
 pub no-newest : (v b : ℕ) (t : Till) (till out : List ℕ) → till ≡ tillToWords v b t → getD till 1 0 ≡ 0 → take 0 out ≡ map pointerWord (newestPointers (t .versions))
-unfolding newestPointers
+unfolding lastOf newestPointers
 no-newest v b t till out et z = ap (λ (vs : List Version). map pointerWord (newestPointers vs)) (sym (none-held v b t till et z))
 
 pub no-turned : (v b : ℕ) (t : Till) (ps : List Pointer) (till : List ℕ) → till ≡ tillToWords v b t → getD till 1 0 ≡ 0 → till ≡ tillToWords v b (turnedTill t ps)
@@ -171,7 +169,7 @@ some-versions v b t till et some = ends (t .versions) (omega (arith, some, ap (�
 
 pub newest-read : (bytes b : ℕ) (till : List ℕ) (at n : ℕ) → 0 < getD till 1 0 → at ≡ newestAt b till → n ≡ partsFor bytes (getD till (at + 1) 0)
     → (rest out : List ℕ) → out ≡ take (at + 3 + n - (at + 3)) (drop (at + 3) till) ++ rest → at + 3 + n ≤ length till
-    → (v : ℕ) (t : Till) → Held bytes v b t → till ≡ tillToWords v b t → take n out ≡ map pointerWord (newestPointers (t .versions))
+    → (v : ℕ) (t : Till) → VersionsFit bytes v b t → till ≡ tillToWords v b t → take n out ≡ map pointerWord (newestPointers (t .versions))
 newest-read bytes b till at n some ea en rest out eo fits v t h et =
     let e : Ends (t .versions) = some-versions v b t till et some in
     let k : at + 3 + n - (at + 3) ≡ n = omega arith in
@@ -305,7 +303,7 @@ unfolding tillWith
 version-filed b till mid out bytes day pws qws f g v t ps qs room et ep lo eq =
     g v (turnedTill t ps) qs (omega (arith, room, turned-length (t .versions) ps)) (f v t ps (omega (arith, room)) et ep lo) eq
 
-pub few-blocks : (bytes v b : ℕ) (t : Till) (till : List ℕ) → 0 < bytes → b * bytes ≤ 65536 → Held bytes v b t → till ≡ tillToWords v b t → FewBlocks bytes b till
+pub few-blocks : (bytes v b : ℕ) (t : Till) (till : List ℕ) → 0 < bytes → b * bytes ≤ 65536 → VersionsFit bytes v b t → till ≡ tillToWords v b t → FewBlocks bytes b till
 few-blocks bytes v b t till some most h et held =
     let e : Ends (t .versions) = some-versions v b t till et held in
     let w : HasPointers bytes b (e .newest) = newest-each (HasPointers bytes b) (e .before) (e .newest) (subst (Each (HasPointers bytes b)) (e .is) (h .versions)) in

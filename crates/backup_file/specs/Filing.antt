@@ -29,7 +29,7 @@ pub record HasPointers (bytes b : ℕ) (u : Version) : Type 0 where
   pub blocks : length (u .pointers) ≡ partsFor bytes (u .length)
   pub most : length (u .pointers) ≤ b
 
-pub record Held (bytes v b : ℕ) (t : Till) : Type 0 where
+pub record VersionsFit (bytes v b : ℕ) (t : Till) : Type 0 where
   pub most : length (t .versions) ≤ v
   pub versions : Each (HasPointers bytes b) (t .versions)
 

@@ -6,7 +6,7 @@ ghost use lib.ListN.{length, getD, take, drop};
 ghost use Rattle.model.specs.State.{Till, Pointer};
 ghost use Rattle.model.specs.Table.{tillToWords, pointerWord};
 ghost use Rattle.model.specs.Calls.{newestPointers, tillWith};
-ghost use Rattle.backup_file.specs.Filing.{newestAt, Room, FewBlocks, Held, turnedTill, addedTill, SameHead, HasFreeSlot};
+ghost use Rattle.backup_file.specs.Filing.{newestAt, Room, FewBlocks, VersionsFit, turnedTill, addedTill, SameHead, HasFreeSlot};
 
 // Where the newest held version's slot begins.
 fn newest_at(till: &[u32], b: usize) -> usize
@@ -19,7 +19,7 @@ fn newest_at(till: &[u32], b: usize) -> usize
 // The newest held version's pointer words to the front of out; how many.
 pub fn newest_pointers(till: &[u32], b: usize, out: &mut [u32], bytes: usize) -> usize
     requires { ⌜ Room b (now till) × FewBlocks bytes b (now till) × (b ≤ length (now out)) × (0 < bytes) × (bytes ≤ 512) ⌝ }
-    ensures { λ r. ⌜ ((v : ℕ) (t : Till) → Held bytes v b t → now (till .entry) ≡ tillToWords v b t → take r (now (out .exit)) ≡ map pointerWord (newestPointers (t .versions))) × (r ≤ b) ⌝ }
+    ensures { λ r. ⌜ ((v : ℕ) (t : Till) → VersionsFit bytes v b t → now (till .entry) ≡ tillToWords v b t → take r (now (out .exit)) ≡ map pointerWord (newestPointers (t .versions))) × (r ≤ b) ⌝ }
 {
     if till[1] == 0 {
         return 0;

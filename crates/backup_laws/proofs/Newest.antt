@@ -7,6 +7,7 @@ use native.Mathlib.Nat.{not-suc-le-zero}
 use native.Mathlib.Omega.{arith}
 use lib.ListN.{length, getD}
 use Rattle.lists.specs.Each.{Each}
+use Rattle.lists.proofs.Last.{last-each}
 use Rattle.lists.proofs.Each.{each-at, each-of, each-weaken, keep-each}
 use Rattle.model.specs.Calls.{newestPointers}
 use Rattle.model.specs.Image.{withBlanks}
@@ -45,15 +46,12 @@ module _ (n l : ℕ) where
 
 newest-of : (P : Version → Type 0) (Q : Pointer → Type 0) → ((u : Version) → P u → Each Q (u .pointers)) → (us : List Version) → Each P us → Each Q (newestPointers us)
 unfolding newestPointers
-newest-of P Q f [] e = tt
-newest-of P Q f (u ∷ []) e = f u (e .0)
-newest-of P Q f (u ∷ w ∷ us) e = newest-of P Q f (w ∷ us) (e .1)
+newest-of P Q f us e = last-each (λ (u : Version). u .pointers) P (Each Q) f [] tt us e
 
 newest-most : (n : ℕ) (us : List Version) → Each (λ (u : Version). length (u .pointers) ≤ n) us → length (newestPointers us) ≤ n
 unfolding newestPointers
-newest-most n [] e = omega arith
-newest-most n (u ∷ []) e = e .0
-newest-most n (u ∷ w ∷ us) e = newest-most n (w ∷ us) (e .1)
+newest-most n us e =
+    last-each (λ (u : Version). u .pointers) (λ (u : Version). length (u .pointers) ≤ n) (λ (ps : List Pointer). length ps ≤ n) (λ u h. h) [] (omega arith) us e
 
 module _ (s : Shape) (st : State) (sound : isSound s st ≡ true) (t : ℕ) (ht : t < length (st .tills)) where
   abbrev us : List Version

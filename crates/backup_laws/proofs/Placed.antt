@@ -12,7 +12,7 @@ use Rattle.lists.specs.Rows.{joined}
 use Rattle.lists.proofs.Tests.{by-test}
 use Rattle.model.specs.Image.{imageSegments, isBare, withBlanks}
 use Rattle.model.specs.Measures.{Measures, recordWords}
-use Rattle.model.specs.Place.{Placed, stored, writeRun, writeRecord, shareOrWrite, placeSegment, afterSome, placeNext, placeAll}
+use Rattle.model.specs.Place.{Placed, storedBlocks, writeRun, writeRecord, shareOrWrite, placeSegment, afterSome, placeNext, placeAll}
 use Rattle.model.specs.Records.{isFree, equals}
 use Rattle.model.specs.Runs.{Run, findRun}
 use Rattle.model.specs.State.{Block, Pointer, Storage, Outcome, refused, done}
@@ -70,7 +70,7 @@ run-positive a seg k (some r) = tt
 record-positive : (a : Storage) (seg : List Block) (o : Option ℕ) → Positive (writeRecord withBlanks a seg o)
 unfolding writeRecord
 record-positive a seg none = lit< tt
-record-positive a seg (some k) = run-positive a seg k (findRun a (length (stored withBlanks seg)))
+record-positive a seg (some k) = run-positive a seg k (findRun a (length (storedBlocks withBlanks seg)))
 
 either-positive : (a : Storage) (seg : List Block) (o : Option ℕ) → Positive (shareOrWrite withBlanks a seg o)
 unfolding shareOrWrite

@@ -61,23 +61,23 @@ counts-stay (held c zero ∷ seg) = omega (arith, counts-stay seg)
 counts-stay (held c (suc n) ∷ seg) = omega (arith, counts-stay seg)
 counts-stay (removed ∷ seg) = omega (arith, counts-stay seg)
 
-row-stays : (n : ℕ) (seg : Segment) → length seg ≡ n → count isCount (drop (3 + n) (recordToWords seg)) ≡ count isReferenced seg
+row-referenced : (n : ℕ) (seg : Segment) → length seg ≡ n → count isCount (drop (3 + n) (recordToWords seg)) ≡ count isReferenced seg
 unfolding recordToWords
-row-stays n seg e =
+row-referenced n seg e =
     ap (count isCount) (sym (drop-drop n 3 (recordToWords seg)) ∙ drop-at (map cellOf seg) (map countOf seg) n (length-map seg cellOf ∙ e)) ∙ counts-stay seg
 
 -- ---- all rows
 
-stays-most : (n : ℕ) (segs : List Segment) → Each (λ (s : Segment). length s ≡ n) segs → total (count isReferenced) segs ≤ length segs * n
+referenced-most : (n : ℕ) (segs : List Segment) → Each (λ (s : Segment). length s ≡ n) segs → total (count isReferenced) segs ≤ length segs * n
 unfolding total
-stays-most n [] h = omega (arith, zero-mul n)
-stays-most n (x ∷ segs) h = omega (arith, stays-most n segs (h .1), count-most isReferenced x, h .0, suc-mul (length segs) n)
+referenced-most n [] h = omega (arith, zero-mul n)
+referenced-most n (x ∷ segs) h = omega (arith, referenced-most n segs (h .1), count-most isReferenced x, h .0, suc-mul (length segs) n)
 
 -- at most 65,536
 all-few : (n : ℕ) (ws : List ℕ) → EncodesRecords n ws (recordsIn n ws) → n ≤ 16 → length ws ≤ 4096 * recordWords n → total (count isReferenced) (recordsIn n ws) ≤ 65536
 all-few n ws r few short =
     let rows : length (recordsIn n ws) ≤ 4096 = omega (arith, records-count n ws, rows-few (length ws) (recordWords n) (omega arith) 4096 short) in
-    omega (arith, stays-most n (recordsIn n ws) (r .sized), mul-le-mul rows few)
+    omega (arith, referenced-most n (recordsIn n ws) (r .sized), mul-le-mul rows few)
 
 -- where 65,536 are not too many, none are
 pub never-many : (n : ℕ) (ws : List ℕ) → EncodesRecords n ws (recordsIn n ws) → n ≤ 16 → length ws ≤ 4096 * recordWords n → (others most : ℕ) (b : Bool) → b ≡ ltb most (others + 65536) → not b ≡ true
@@ -94,7 +94,7 @@ module _ {n : ℕ} {ws : List ℕ} {width rows at k : ℕ} (a : AtRow n ws width
       → Leaving n ws (k + 1) (left + one) × (left + one ≤ 65536)
   unfolding total
   leaving-next h left one g e =
-      let o : one ≡ count isReferenced (getD (recordsIn n ws) k []) = e ∙ ap (λ (row : List ℕ). count isCount (drop (3 + n) row)) (at-row a h r) ∙ row-stays n (getD (recordsIn n ws) k []) (at-sized a h r) in
+      let o : one ≡ count isReferenced (getD (recordsIn n ws) k []) = e ∙ ap (λ (row : List ℕ). count isCount (drop (3 + n) row)) (at-row a h r) ∙ row-referenced n (getD (recordsIn n ws) k []) (at-sized a h r) in
       let next : Leaving n ws (k + 1) (left + one) = omega (arith, g, o, ap (total (count isReferenced)) (drop-next (recordsIn n ws) k [] (omega (arith, h, a .all)))) in
       (next, omega (arith, next, all-few n ws r few short))
 

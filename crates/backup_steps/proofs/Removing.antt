@@ -21,7 +21,7 @@ use Rattle.place_undo.specs.Undo.{undoUpto}
 use Rattle.storage.specs.Fits.{WithinRecords, NamesHeld}
 use Rattle.storage.specs.Stored.{Stored, EncodesRecords, Encodes, positionIn}
 use Rattle.storage.proofs.Read.{records-of, records-read}
-use Rattle.sweep.proofs.Released.{released, released-storage, told-as}
+use Rattle.sweep.proofs.Released.{released, released-storage, encodes-as}
 use Rattle.backup_steps.specs.Limit.{beyond, TakeBackPre, RemovePre, RemoveResult}
 
 -- ---- what is let go is still held
@@ -82,7 +82,7 @@ module _ {m : Measures} {pool ws out : List ℕ} {n : ℕ} {placed : List ℕ} {
     pub settled-back : over ≡ true → (pool″ ws″ : List ℕ) → Encodes m pool″ ws″ (undoUpto m placed segments (claim (storageIn m pool ws′) gone)) → RemoveResult (beyond others most m storage gone) m storage gone before 21 pool″ ws″
     settled-back t pool″ ws″ d =
         subst (λ (b : Bool). RemoveResult b m storage gone before 21 pool″ ws″) (sym t ∙ over-is)
-        (refl, told-as (ap (undoUpto m placed segments) (sym (ap (λ (x : Storage). claim x gone) now-is ∙ claimed-back storage gone (rw (records-of m pool ws) (s .suffices))))) d)
+        (refl, encodes-as (ap (undoUpto m placed segments) (sym (ap (λ (x : Storage). claim x gone) now-is ∙ claimed-back storage gone (rw (records-of m pool ws) (s .suffices))))) d)
 
     pub settled-swept : over ≡ false → (pool″ ws″ : List ℕ) → Encodes m pool″ ws″ (sweep m (storageIn m pool ws′)) → RemoveResult (beyond others most m storage gone) m storage gone before 0 pool″ ws″
-    settled-swept t pool″ ws″ d = subst (λ (b : Bool). RemoveResult b m storage gone before 0 pool″ ws″) (sym t ∙ over-is) (refl, told-as (ap (sweep m) (sym now-is)) d)
+    settled-swept t pool″ ws″ d = subst (λ (b : Bool). RemoveResult b m storage gone before 0 pool″ ws″) (sym t ∙ over-is) (refl, encodes-as (ap (sweep m) (sym now-is)) d)

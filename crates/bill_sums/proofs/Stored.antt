@@ -13,12 +13,12 @@ use Rattle.lists.specs.Rows.{fill, chunks}
 use Rattle.lists.proofs.Cuts.{part-word, length-chunks, chunk-at}
 use Rattle.lists.proofs.Sets.{map-at}
 use Rattle.lists.proofs.Slices.{tail-all, part-front}
-use Rattle.model.specs.Measures.{Measures, tillWords}
+use Rattle.model.specs.Measures.{Measures, tillWords, recordsAt}
 use Rattle.model.specs.State.{Till, State}
 use Rattle.model.specs.Sound.{Store}
 use Rattle.model.specs.Table.{wordToPointer, shapeOf, stateIn, tillIn, tillsIn}
 use Rattle.model.specs.Calls.{emptyTill}
-use Rattle.laws.specs.Stores.{recordsFrom, Sound}
+use Rattle.laws.specs.Stores.{Sound}
 use Rattle.laws.proofs.Serves.{pointersOf}
 use Rattle.laws.proofs.Stores.{valid, header, records-room}
 use Rattle.laws.proofs.Tills.{few, held-word}
@@ -77,7 +77,7 @@ module _ {pool table : List ℕ} (h : Sound pool table) where
   rows-of : TillRows width (getD table 0 0) blocks words
   unfolding shapeOf
   rows-of = record {
-    inside = omega (arith, records-room h (recordsFrom (shapeOf table)) refl .0, length-drop 8 table);
+    inside = omega (arith, records-room h (recordsAt (shapeOf table .capacities)) refl .0, length-drop 8 table);
     few = λ t l. omega (arith, held-few t l, header h .versions);
     room = λ t l. let q : getD (tillRow width words t) 1 0 * (3 + blocks) ≤ versions * (3 + blocks) = mul-le-mul-right (3 + blocks) (held-few t l) in omega (arith, q);
   }

@@ -236,7 +236,7 @@ pub fn bill_store(pool: &[u8], table: &[u32], price: u32) -> Bill
         };
     }
     let m = layout::measures_in(table);
-    let width = tills::till_words(table);
+    let width = layout::till_words(table);
     let count = table[0] as usize;
     let blocks = table[2] as usize;
     let records = table[3] as usize;

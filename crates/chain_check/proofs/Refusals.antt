@@ -55,9 +55,9 @@ module _ (lengths pools : List ℕ) (n : ℕ) (e : n ≡ total (λ n. n) (take (
   pub pools-differ : {P : Type 0} → ¬ (n ≡ length pools) → Decides false ((total (λ n. n) lengths ≡ length pools) × P)
   pools-differ d = is-not (λ q. d (sum-is ∙ q .0))
 
-  pub tables-told : n ≡ length pools → (others tables : List ℕ) (m : ℕ) → m ≡ total (λ n. n) (take (length others) others)
+  pub tables-decided : n ≡ length pools → (others tables : List ℕ) (m : ℕ) → m ≡ total (λ n. n) (take (length others) others)
       → Decides (eqb m (length tables)) ((total (λ n. n) lengths ≡ length pools) × (total (λ n. n) others ≡ length tables))
-  tables-told q others tables m f =
+  tables-decided q others tables m f =
       let a : m ≡ total (λ (k : ℕ). k) others = f ∙ ap (total (λ (k : ℕ). k)) (take-length others) in
       same-as (λ t. (sym sum-is ∙ q, sym a ∙ t)) (λ t. a ∙ t .1) (decides-eqb m (length tables))
 

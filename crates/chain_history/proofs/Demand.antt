@@ -35,13 +35,13 @@ use Rattle.chain.specs.Limit.{occupied, allCells, otherCells, isOver, within, b
 use Rattle.chain.specs.Calls.{chainBackup, chainRestore, chainRetire, chainListing, chainVersionOn, chainTally, chainBill, chainWriteStream, chainOffer, chainBackupSent, chainBackupAll, chainSetRights, backupOnChain, allOnChain, retireOnChain, rightsOnChain}
 use Rattle.chain_history.specs.Calls.{ChainCall, buffersAt, withBuffers, answerOn, leftOn, chainAfter, chainAfterAll, layoutsRefused, unlessOver, reaches, callsTo, allCallsTo}
 use Rattle.chain_history.specs.Demand.{Fresh, FreshChain, namesStore, bringsLimit, StoresServe, ChainDemands, ChainDemand3}
-use Rattle.chain_history.proofs.Puts.{Lengths, put, put-outside, put-lengths, put-here, put-other, not-refused, refused-outside, cells-put}
+use Rattle.chain_history.proofs.Puts.{LengthsAddUp, put, put-outside, put-lengths, put-here, put-other, not-refused, refused-outside, cells-put}
 use Rattle.chain_history.proofs.Steps.{after-append, refused-append, step-left, step-refused}
 
 -- ---- chains whose stores calls have left
 
 pub record ChainSound (shapes : ℕ → Shape) (c : Chain) : Type 0 where
-  pub lengths : Lengths c
+  pub lengths : LengthsAddUp c
   pub left : (j : ℕ) → j < storeCount c → (st : State) × Represents (shapes j) (buffersAt c j) st
 
 module _ (shapes : ℕ → Shape) (c : Chain) (g : ChainSound shapes c) where
@@ -68,7 +68,7 @@ left-lengths s b b′ st st′ l l′ = (pool b′ st′ l′ ∙ sym (pool b st
 -- ---- one call
 
 -- a call that names a store outside the chain leaves all as it was
-left-outside : (c : Chain) → Lengths c → (i limit u : ℕ) → storeCount c ≤ i → chainRefusal c i ≡ 3 → (call : Call) → leftOn c i limit u call ≡ c
+left-outside : (c : Chain) → LengthsAddUp c → (i limit u : ℕ) → storeCount c ≤ i → chainRefusal c i ≡ 3 → (call : Call) → leftOn c i limit u call ≡ c
 unfolding leftOn
 left-outside c l i limit u h z (callLayout s) = put-outside c l i h _
 left-outside c l i limit u h z (callBackup era t d image) = unfold chainBackup backupRefusal withBuffers in rw z refl

@@ -20,7 +20,7 @@ use Rattle.chain.specs.Limit.{occupied, allCells, otherCells}
 use Rattle.chain_history.specs.Calls.{buffersAt, withBuffers}
 
 -- one to eight stores, and lengths that add up
-pub record Lengths (c : Chain) : Type 0 where
+pub record LengthsAddUp (c : Chain) : Type 0 where
   pub count : isChain c ≡ true
   pub pools : total (λ n. n) (c .poolLengths) ≡ length (c .pools)
   pub tables : total (λ n. n) (c .tableLengths) ≡ length (c .tables)
@@ -33,7 +33,7 @@ abbrev pub put : Chain → ℕ → Buffers → Chain
 put c i b = withBuffers c (poolsWith c i (b .pool)) (tablesWith c i (b .table))
 
 -- the same store put back
-module _ (c : Chain) (l : Lengths c) (i : ℕ) where
+module _ (c : Chain) (l : LengthsAddUp c) (i : ℕ) where
   pub pools-same : poolsWith c i (poolAt c i) ≡ c .pools
   unfolding poolsWith poolAt
   pools-same = ap joined (set-getD (partsBy (c .poolLengths) (c .pools)) i []) ∙ joined-parts-by (c .poolLengths) (c .pools) (l .pools)
@@ -47,7 +47,7 @@ module _ (c : Chain) (l : Lengths c) (i : ℕ) where
   put-same = ap₂ (λ (p t : List ℕ). record { pools = p; tables = t; poolLengths = c .poolLengths; tableLengths = c .tableLengths }) pools-same tables-same
 
 -- a store outside the chain
-pub put-outside : (c : Chain) → Lengths c → (i : ℕ) → storeCount c ≤ i → (b : Buffers) → put c i b ≡ c
+pub put-outside : (c : Chain) → LengthsAddUp c → (i : ℕ) → storeCount c ≤ i → (b : Buffers) → put c i b ≡ c
 unfolding withBuffers poolsWith tablesWith
 put-outside c l i h b =
     ap₂ (λ (p t : List ℕ). record { pools = p; tables = t; poolLengths = c .poolLengths; tableLengths = c .tableLengths })
@@ -55,8 +55,8 @@ put-outside c l i h b =
     (ap joined (set-out (partsBy (c .tableLengths) (c .tables)) i (b .table) (omega (arith, length-parts-by (c .tableLengths) (c .tables), lists-same c (l .count)))) ∙ joined-parts-by (c .tableLengths) (c .tables) (l .tables))
 
 -- another one, with buffers as long
-module _ (c : Chain) (l : Lengths c) (i : ℕ) (b : Buffers) (hp : length (b .pool) ≡ length (poolAt c i)) (ht : length (b .table) ≡ length (tableAt c i)) where
-  pub put-lengths : Lengths (put c i b)
+module _ (c : Chain) (l : LengthsAddUp c) (i : ℕ) (b : Buffers) (hp : length (b .pool) ≡ length (poolAt c i)) (ht : length (b .table) ≡ length (tableAt c i)) where
+  pub put-lengths : LengthsAddUp (put c i b)
   unfolding withBuffers poolsWith tablesWith poolAt tableAt isChain
   put-lengths = record {
     count = l .count;
@@ -84,7 +84,7 @@ module _ (c : Chain) (l : Lengths c) (i : ℕ) (b : Buffers) (hp : length (b .po
 
 -- ---- a chain whose stores are all sound is refused for its store's number only
 
-module _ (c : Chain) (l : Lengths c) (sound : (j : ℕ) → j < storeCount c → isStoreAt c j ≡ true) where
+module _ (c : Chain) (l : LengthsAddUp c) (sound : (j : ℕ) → j < storeCount c → isStoreAt c j ≡ true) where
   all-sound : isSoundChain c ≡ true
   unfolding isSoundChain addUp
   all-sound = all-true _ (eq-eqb _ _ (l .pools), (eq-eqb _ _ (l .tables), (every-counted (isStoreAt c) 0 (storeCount c) (λ j p q. sound j (omega arith)), tt)))
@@ -99,7 +99,7 @@ module _ (c : Chain) (l : Lengths c) (sound : (j : ℕ) → j < storeCount c →
 
 -- ---- the cells of all stores
 
-pub cells-put : (c : Chain) (l : Lengths c) (i : ℕ) (b : Buffers) → length (b .pool) ≡ length (poolAt c i) → length (b .table) ≡ length (tableAt c i) → i < storeCount c
+pub cells-put : (c : Chain) (l : LengthsAddUp c) (i : ℕ) (b : Buffers) → length (b .pool) ≡ length (poolAt c i) → length (b .table) ≡ length (tableAt c i) → i < storeCount c
     → allCells (put c i b) ≡ otherCells c i + occupied (b .pool) (b .table)
 unfolding allCells otherCells withBuffers buffersAt
 cells-put c l i b hp ht h =

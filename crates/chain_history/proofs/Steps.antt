@@ -17,7 +17,7 @@ use Rattle.chain.specs.Chain.{Chain, poolAt, tableAt, tablesWith, chainRefusal}
 use Rattle.chain.specs.Limit.{otherCells, isOver, within, imageWithin, backupAllWithin}
 use Rattle.chain.specs.Calls.{chainBackup, chainBackupSent, chainBackupAll, chainRetire, chainSetRights, backupOnChain, allOnChain, retireOnChain, rightsOnChain}
 use Rattle.chain_history.specs.Calls.{buffersAt, withBuffers, leftOn, unlessOver, imagesLeft, reaches}
-use Rattle.chain_history.proofs.Puts.{Lengths, put, pools-same, put-same}
+use Rattle.chain_history.proofs.Puts.{LengthsAddUp, put, pools-same, put-same}
 
 -- ---- lists of a store's calls, one after the other
 
@@ -84,7 +84,7 @@ module _ (others limit u : ℕ) where
 
 -- ---- a call that names store `i` of a chain that is not refused
 
-module _ (c : Chain) (l : Lengths c) (i limit u : ℕ) (z : chainRefusal c i ≡ 0) where
+module _ (c : Chain) (l : LengthsAddUp c) (i limit u : ℕ) (z : chainRefusal c i ≡ 0) where
   abbrev b : Buffers
   b = buffersAt c i
 

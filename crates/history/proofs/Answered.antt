@@ -31,7 +31,7 @@ use Rattle.history.proofs.Carried.{images-few, sixteen}
 use Rattle.history.proofs.Fed.{Stands, stands-made}
 use Rattle.history.proofs.Users.{backup-done, done-made, done-accepted, unless-done}
 use Rattle.history.proofs.Keys.{may-same, accepted-same}
-use Rattle.history.proofs.Bullets.{listing-kept, backup-last, sent-last, retire-goes, retire-not, retire-given}
+use Rattle.history.proofs.Bullets.{listing-kept, backup-last, sent-last, retire-accepted, retire-not, retire-given}
 
 module _ (s : Shape) (fit : Fit s) where
   -- an accepted backup, on the buffers of its state
@@ -113,7 +113,7 @@ module _ (s : Shape) (b : Buffers) (st : State) (k : Keeper) (l : Represents s b
         ap (λ (a : BackupAnswer). a .version) q ∙ backup-last s b st k l z era t d image (sym (ap (λ (a : BackupAnswer). a .refusal) q) ∙ e);
     backupSent = sent-last s b st k l z;
     backupAll = closing-last;
-    goes = λ u t v x newer m e. ap (λ (a : RetireAnswer). a .refusal) (may-retire u t v m) ∙ retire-goes s b st k l z t v x newer e;
+    goes = λ u t v x newer m e. ap (λ (a : RetireAnswer). a .refusal) (may-retire u t v m) ∙ retire-accepted s b st k l z t v x newer e;
     notHeld = λ u t v m e h. ap (λ (a : RetireAnswer). a .refusal) (may-retire u t v m) ∙ retire-not s b st k l z t v e h;
     retire = λ u t v e.
         let q = retired-by u t v e in

@@ -112,9 +112,9 @@ module _ (s : Shape) (u x : ℕ) where
             plain-same s st st′ x (callBackup withBlanks (im .till) none (im .image)) refl (subst NotFull p (room-left _ f)) (subst NotFull p′ (room-left _ f′)) (o (im .till) ne)
 
   -- his images change nothing of till `u`
-  image-stays : Proper (s .measures) → (st : State) → isSound s st ≡ true → LacksIn st → (im : TillImage) → viewAt (s .measures .blockBytes) (stateOr st (backupOne s st x im)) u ≡ viewAt (s .measures .blockBytes) st u
+  image-unchanged : Proper (s .measures) → (st : State) → isSound s st ≡ true → LacksIn st → (im : TillImage) → viewAt (s .measures .blockBytes) (stateOr st (backupOne s st x im)) u ≡ viewAt (s .measures .blockBytes) st u
   unfolding backupOne
-  image-stays pr st h k im = go (eqb u (im .till)) refl
+  image-unchanged pr st h k im = go (eqb u (im .till)) refl
     where
       go : (q : Bool) → eqb u (im .till) ≡ q
           → viewAt (s .measures .blockBytes) (stateOr st (unless (refusalAt s st x (im .till) toBackUp) refused (backup withBlanks s st (im .till) none (im .image)))) u ≡ viewAt (s .measures .blockBytes) st u
@@ -140,8 +140,8 @@ module _ (s : Shape) (u x : ℕ) where
       let one = image-answer st st′ o k k′ im (f .0) (f′ .0) in
       let later = each-same pr ims n (omega (arith, l)) (stateOr st (backupOne s st x im)) (stateOr st′ (backupOne s st′ x im)) (one-sound s pr x im st h) (one-sound s pr x im st′ h′)
       (one-off s u pr x im st st′ h h′ o (f .0) (f′ .0))
-      (λ right e. k right (sym (refusal-same s (stateOr st (backupOne s st x im)) st x u right (image-stays pr st h k im)) ∙ e))
-      (λ right e. k′ right (sym (refusal-same s (stateOr st′ (backupOne s st′ x im)) st′ x u right (image-stays pr st′ h′ k′ im)) ∙ e)) (f .1) (f′ .1) in
+      (λ right e. k right (sym (refusal-same s (stateOr st (backupOne s st x im)) st x u right (image-unchanged pr st h k im)) ∙ e))
+      (λ right e. k′ right (sym (refusal-same s (stateOr st′ (backupOne s st′ x im)) st′ x u right (image-unchanged pr st′ h′ k′ im)) ∙ e)) (f .1) (f′ .1) in
       (ap₂ _∷_ (answer-refusal _ _ one) (later .0), ap₂ _∷_ (answer-number _ _ one) (later .1))
 
 -- the first message is refused by its arguments alone

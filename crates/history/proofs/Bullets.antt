@@ -270,9 +270,9 @@ module _ (s : Shape) (b : Buffers) (st : State) (k : Keeper) (l : Represents s b
           (subst (Agree (s .measures .blockBytes) (keptFrom v (keptTill k t .versions))) (f .2) (held t v)) in
           (x .0, x .1, x .2, f .3 ∙ x .3)
 
-  pub retire-goes : (t v : ℕ) (x : Kept) (newer : List Kept) → keptFrom v (keptTill k t .versions) ≡ x ∷ newer → retireOf (b .pool) (b .table) t v .refusal ≡ 0
+  pub retire-accepted : (t v : ℕ) (x : Kept) (newer : List Kept) → keptFrom v (keptTill k t .versions) ≡ x ∷ newer → retireOf (b .pool) (b .table) t v .refusal ≡ 0
   unfolding answerOf answerShown tillNamed refusalIn shown
-  retire-goes t v x newer e =
+  retire-accepted t v x newer e =
       ap refusalIn (answer-is (callRetire t v) refl tt)
       ∙ ap (λ (q : Bool). refusalIn (cond q (retired 3 0) (retireShown (notHeld (shown t .last) v) (shownFrom v (shown t .versions))))) (held-there t v x newer e)
       ∙ go (shownFrom v (shown t .versions)) (subst (λ (xs : List Kept). Agree (s .measures .blockBytes) xs (shownFrom v (shown t .versions))) e (held t v))

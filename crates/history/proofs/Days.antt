@@ -9,8 +9,9 @@ use native.Mathlib.Omega.{arith}
 use lib.ListN.{length, getD, replicate, List·getD-eq-default}
 use lib.Dec.{eqb, leb}
 use borrow.Author.Tests.{ne-eqb, eqb-true, eqb-false, leb-true, le-leb, lt-leb}
-use Rattle.lists.specs.Lists.{keep}
+use Rattle.lists.specs.Lists.{keep, lastOf}
 use Rattle.lists.specs.Each.{Each}
+use Rattle.lists.proofs.Last.{last-map}
 use Rattle.lists.proofs.Each.{each-append}
 use Rattle.lists.proofs.Keep.{keep-same}
 use Rattle.model.specs.Measures.{Shape}
@@ -27,7 +28,7 @@ use Rattle.history.specs.Users.{UserCall, buffersBy, stateBy, refusedLay
 use Rattle.history.specs.Keeper.{Kept, KeptTill, Keeper, noTill, keptTill, newestKept, keptNotAfter, CallMade, comesTo}
 use Rattle.history.proofs.View.{VersionView, TillView, viewVersions, viewOf, viewAt, withKinds, turnNewest, newestDayShown, dayShown, shownWith, takeOverKind, dropVersion, shownWithout, shownRights, changed, IsPlain, shownNotAfter}
 use Rattle.history.specs.Demand.{NeverFall, Days}
-use Rattle.history.proofs.Shown.{lastOf, newestOf, newest-day-is, day-is, views-days, newest-or-none, of-views}
+use Rattle.history.proofs.Shown.{newestOf, newest-day-is, day-is, views-days, newest-or-none, of-views}
 use Rattle.history.proofs.Numbered.{Numbered, backup-numbered}
 use Rattle.history.proofs.Frame.{frame-own, frame-other}
 use Rattle.history.proofs.Kept.{Agree, agree-numbers, agree-days}
@@ -43,13 +44,13 @@ daysOf : List VersionView → List ℕ
 daysOf ws = map (λ (w : VersionView). w .day) ws
 
 -- the last is the latest
-last-latest : (day : ℕ) (days : List ℕ) → Each (λ (later : ℕ). day ≤ later) days → 0 < length days → day ≤ lastOf days
+last-latest : (day : ℕ) (days : List ℕ) → Each (λ (later : ℕ). day ≤ later) days → 0 < length days → day ≤ lastOf (λ (n : ℕ). n) 0 days
 unfolding lastOf
 last-latest day [] h l = absurd (omega (arith, l))
 last-latest day (d ∷ []) h l = h .0
 last-latest day (d ∷ e ∷ days) h l = last-latest day (e ∷ days) (h .1) (omega arith)
 
-fall-snoc : (days : List ℕ) (day : ℕ) → NeverFall days → lastOf days ≤ day → NeverFall (days ++ (day ∷ []))
+fall-snoc : (days : List ℕ) (day : ℕ) → NeverFall days → lastOf (λ (n : ℕ). n) 0 days ≤ day → NeverFall (days ++ (day ∷ []))
 unfolding lastOf
 fall-snoc [] day h l = (tt, tt)
 fall-snoc (d ∷ []) day h l = ((l, tt), (tt, tt))
@@ -57,11 +58,9 @@ fall-snoc (d ∷ e ∷ days) day h l =
     let most : d ≤ day = omega (arith, l, last-latest d (e ∷ days) (h .0) (omega arith)) in
     (each-append (λ (later : ℕ). d ≤ later) (e ∷ days) (day ∷ []) (h .0) (most, tt), fall-snoc (e ∷ days) day (h .1) l)
 
-newest-day : (ws : List VersionView) → newestDayShown ws ≡ lastOf (daysOf ws)
-unfolding newestDayShown lastOf daysOf
-newest-day [] = refl
-newest-day (w ∷ []) = refl
-newest-day (w ∷ x ∷ ws) = newest-day (x ∷ ws)
+newest-day : (ws : List VersionView) → newestDayShown ws ≡ lastOf (λ (n : ℕ). n) 0 (daysOf ws)
+unfolding newestDayShown daysOf
+newest-day ws = last-map (λ (w : VersionView). w .day) 0 ws
 
 turned-days : (era : Era) (bytes : ℕ) (new : List Block) (ws : List VersionView) → daysOf (turnNewest era bytes new ws) ≡ daysOf ws
 unfolding turnNewest withKinds daysOf
@@ -200,11 +199,9 @@ dated-all s (c ∷ calls) b st l z r =
 
 -- ---- the keeper's days
 
-newest-kept : (xs : List Kept) → newestKept xs ≡ lastOf (map (λ (x : Kept). x .number) xs)
-unfolding newestKept lastOf
-newest-kept [] = refl
-newest-kept (x ∷ []) = refl
-newest-kept (x ∷ y ∷ xs) = newest-kept (y ∷ xs)
+newest-kept : (xs : List Kept) → newestKept xs ≡ lastOf (λ (n : ℕ). n) 0 (map (λ (x : Kept). x .number) xs)
+unfolding newestKept
+newest-kept xs = last-map (λ (x : Kept). x .number) 0 xs
 
 module _ (s : Shape) (b : Buffers) (st : State) (k : Keeper) (l : Represents s b st) (z : Stands s k st) (dated : Dated s st) where
   -- what is shown of till `t`

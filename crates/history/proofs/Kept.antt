@@ -10,8 +10,9 @@ use native.Mathlib.Omega.{arith}
 use lib.ListN.{length, getD, set, length-map}
 use lib.Dec.{eqb}
 use borrow.Author.Tests.{eqb-true, ne-eqb}
-use Rattle.lists.specs.Lists.{keep, isSome, firstFrom, sameNumbers, rises}
-use Rattle.lists.specs.Over.{over}
+use Rattle.lists.specs.Lists.{keep, isSome, firstFrom, sameNumbers, rises, lastOf}
+use Rattle.lists.proofs.Last.{last-map}
+use Rattle.lists.proofs.Over.{over}
 use Rattle.lists.proofs.First.{first-some}
 use Rattle.lists.proofs.Rises.{rises-first}
 use Rattle.lists.proofs.Same.{same-refl}
@@ -89,7 +90,7 @@ module _ (bytes : ℕ) where
   agree-filed : (era : Era) (n n′ day day′ : ℕ) (image : List ℕ) → n ≡ n′ → day ≡ day′ → (xs : List Kept) (ws : List VersionView) → Agree bytes xs ws
       → Agree bytes (xs ++ (record { number = n′; image = image; day = day′; previous = newestKept xs } ∷ []))
       (turnNewest era bytes (imageBlocks bytes image) ws ++ (record { number = n; length = length image; day = day; image = image; kinds = map (newKind era) (imageBlocks bytes image) } ∷ []))
-  unfolding turnNewest withKinds newestKept
+  unfolding turnNewest withKinds lastOf newestKept
   agree-filed era n n′ day day′ image e o [] [] a = (new-shown era n n′ day day′ 0 image e o, tt)
   agree-filed era n n′ day day′ image e o [] (w ∷ ws) a = absurd a
   agree-filed era n n′ day day′ image e o (x ∷ xs) [] a = absurd a
@@ -117,7 +118,7 @@ module _ (bytes : ℕ) where
 
   -- the day of a new version
   agree-newest-day : (xs : List Kept) (ws : List VersionView) → Agree bytes xs ws → newestDayShown ws ≡ newestDayKept xs
-  unfolding newestDayShown newestDayKept
+  unfolding lastOf newestDayShown newestDayKept
   agree-newest-day [] [] a = refl
   agree-newest-day [] (w ∷ ws) a = absurd a
   agree-newest-day (x ∷ xs) [] a = absurd a
@@ -258,10 +259,7 @@ module _ (bytes : ℕ) where
 
   pub agree-newest : (xs : List Kept) (ws : List VersionView) → Agree bytes xs ws → newestShown ws ≡ newestKept xs
   unfolding newestShown newestKept
-  agree-newest [] [] a = refl
-  agree-newest [] (w ∷ ws) a = absurd a
-  agree-newest (x ∷ xs) [] a = absurd a
-  agree-newest (x ∷ []) (w ∷ []) a = a .0 .number
-  agree-newest (x ∷ []) (w ∷ v ∷ ws) a = absurd (a .1)
-  agree-newest (x ∷ y ∷ xs) (w ∷ []) a = absurd (a .1)
-  agree-newest (x ∷ y ∷ xs) (w ∷ v ∷ ws) a = agree-newest (y ∷ xs) (v ∷ ws) (a .1)
+  agree-newest xs ws a =
+      last-map (λ (w : VersionView). w .number) 0 ws
+      ∙ ap (lastOf (λ (n : ℕ). n) 0) (agree-numbers xs ws a)
+      ∙ sym (last-map (λ (x : Kept). x .number) 0 xs)

@@ -14,7 +14,7 @@ use Rattle.model.specs.State.{Block, Storage, Version, Rights, Till, State, Out
 use Rattle.model.specs.Image.{Era, isBare, imageBlocks, imageSegments}
 use Rattle.model.specs.Records.{isFree, equals}
 use Rattle.model.specs.Runs.{Run, findRun}
-use Rattle.model.specs.Place.{Placed, stored, writeRun, writeRecord, shareOrWrite, placeSegment, afterSome, placeNext, placeAll}
+use Rattle.model.specs.Place.{Placed, storedBlocks, writeRun, writeRecord, shareOrWrite, placeSegment, afterSome, placeNext, placeAll}
 use Rattle.model.specs.Trace.{imageOf}
 use Rattle.model.specs.Calls.{tillOf, heldFrom, restoreFrom, restoreRefusal, restore, heldBefore, retireFrom, retire, newestDay, dayFor, VersionOnAnswer, notAfter, versionOnIn, fileIn, placeAndFile, backup, listTill, listingRefusal, listingIn, RestoreAnswer, After, firstOf, notHeld, lookUp, outcomeRefusal, outcomeNumber}
 use Rattle.model.specs.Rights.{setRights}
@@ -39,7 +39,7 @@ run-room era a seg k (some run) = tt
 record-room : (era : Era) (a : Storage) (seg : List Block) (o : Option ℕ) → NoRoom (writeRecord era a seg o)
 unfolding writeRecord
 record-room era a seg none = inl refl
-record-room era a seg (some k) = run-room era a seg k (findRun a (length (stored era seg)))
+record-room era a seg (some k) = run-room era a seg k (findRun a (length (storedBlocks era seg)))
 
 either-room : (era : Era) (a : Storage) (seg : List Block) (o : Option ℕ) → NoRoom (shareOrWrite era a seg o)
 unfolding shareOrWrite

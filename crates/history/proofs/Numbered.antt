@@ -15,7 +15,7 @@ use Rattle.model.specs.State.{Block, Storage, Version, Rights, staff, State, Ou
 use Rattle.model.specs.Image.{Era, isBare, imageBlocks, imageSegments}
 use Rattle.model.specs.Records.{isFree, equals}
 use Rattle.model.specs.Runs.{Run, findRun}
-use Rattle.model.specs.Place.{Placed, stored, writeRun, writeRecord, shareOrWrite, placeSegment, afterSome, placeNext, placeAll}
+use Rattle.model.specs.Place.{Placed, storedBlocks, writeRun, writeRecord, shareOrWrite, placeSegment, afterSome, placeNext, placeAll}
 use Rattle.laws.proofs.Tills.{not-held-some}
 use Rattle.model.specs.Calls.{tillOf, heldFrom, heldBefore, retireFrom, newestDay, dayFor, fileIn, placeAndFile, backup, retire, firstOf, notHeld, lookUp, After}
 use Rattle.model.specs.Rights.{unless, setRights}
@@ -39,7 +39,7 @@ run-numbered era a seg k (some run) = tt
 record-numbered : (era : Era) (a : Storage) (seg : List Block) (o : Option ℕ) → Numbered (writeRecord era a seg o)
 unfolding writeRecord
 record-numbered era a seg none = lit< tt
-record-numbered era a seg (some k) = run-numbered era a seg k (findRun a (length (stored era seg)))
+record-numbered era a seg (some k) = run-numbered era a seg k (findRun a (length (storedBlocks era seg)))
 
 either-numbered : (era : Era) (a : Storage) (seg : List Block) (o : Option ℕ) → Numbered (shareOrWrite era a seg o)
 unfolding shareOrWrite

@@ -7,7 +7,8 @@ use Prim.Native.Nat.{ℕ, suc}
 use lib.ListN.{length, getD, length-map, List·getD-map, List·getD-eq-default}
 use lib.Dec.{eqb, ltb, leb}
 use borrow.Author.Tests.{ltb-true, ltb-false}
-use Rattle.lists.specs.Lists.{counted, keep, largest, rises}
+use Rattle.lists.specs.Lists.{counted, keep, largest, rises, lastOf}
+use Rattle.lists.proofs.Last.{last-map}
 use Rattle.lists.proofs.Counted.{counted-same}
 use Rattle.lists.proofs.Keep.{keep-same}
 use Rattle.lists.proofs.Tests.{clause, every-at}
@@ -21,26 +22,17 @@ use Rattle.history.proofs.PointerKinds.{Kind, kindOf, hopsOfKind}
 use Rattle.history.proofs.View.{VersionView, viewVersions, viewOf, viewAt, hopsShown, chainShown, shownFrom, oldestShown, newestShown, newestDayShown, dayShown, shownNotAfter, newestShownOrNone}
 
 -- the last of the numbers that are there, or 29
-unfoldable pub lastOf : List ℕ → ℕ
-lastOf [] = 0
-lastOf (n ∷ []) = n
-lastOf (n ∷ m ∷ ns) = lastOf (m ∷ ns)
-
 unfoldable pub newestOf : List ℕ → VersionOnAnswer
 newestOf [] = record { refusal = 29; version = 0 }
-newestOf (n ∷ ns) = record { refusal = 0; version = lastOf (n ∷ ns) }
+newestOf (n ∷ ns) = record { refusal = 0; version = lastOf (λ (x : ℕ). x) 0 (n ∷ ns) }
 
-newest-number : (vs : List Version) → newestNumber vs ≡ lastOf (map (λ (v : Version). v .number) vs)
-unfolding newestNumber lastOf
-newest-number [] = refl
-newest-number (v ∷ []) = refl
-newest-number (v ∷ w ∷ vs) = newest-number (w ∷ vs)
+newest-number : (vs : List Version) → newestNumber vs ≡ lastOf (λ (n : ℕ). n) 0 (map (λ (v : Version). v .number) vs)
+unfolding newestNumber
+newest-number vs = last-map (λ (v : Version). v .number) 0 vs
 
-newest-shown : (ws : List VersionView) → newestShown ws ≡ lastOf (map (λ (w : VersionView). w .number) ws)
-unfolding newestShown lastOf
-newest-shown [] = refl
-newest-shown (w ∷ []) = refl
-newest-shown (w ∷ x ∷ ws) = newest-shown (x ∷ ws)
+newest-shown : (ws : List VersionView) → newestShown ws ≡ lastOf (λ (n : ℕ). n) 0 (map (λ (w : VersionView). w .number) ws)
+unfolding newestShown
+newest-shown ws = last-map (λ (w : VersionView). w .number) 0 ws
 
 of-versions : (vs : List Version) → newestOrNone vs ≡ newestOf (map (λ (v : Version). v .number) vs)
 unfolding newestOrNone newestOf
@@ -69,26 +61,24 @@ module _ (bytes : ℕ) (a : Storage) where
   oldest-is (v ∷ vs) = refl
 
   pub newest-is : (vs : List Version) → newestNumber vs ≡ newestShown (viewVersions bytes a vs)
-  unfolding newestNumber newestShown viewVersions
-  newest-is [] = refl
-  newest-is (v ∷ []) = refl
-  newest-is (v ∷ w ∷ vs) = newest-is (w ∷ vs)
-
-  pub newest-day-is : (vs : List Version) → newestDay vs ≡ newestDayShown (viewVersions bytes a vs)
-  unfolding newestDay newestDayShown viewVersions
-  newest-day-is [] = refl
-  newest-day-is (v ∷ []) = refl
-  newest-day-is (v ∷ w ∷ vs) = newest-day-is (w ∷ vs)
-
-  pub day-is : (d : Option ℕ) (vs : List Version) → dayFor d vs ≡ dayShown d (viewVersions bytes a vs)
-  unfolding dayFor dayShown
-  day-is none vs = newest-day-is vs
-  day-is (some day) vs = refl
+  newest-is vs = newest-number vs ∙ ap (lastOf (λ (n : ℕ). n) 0) (sym (views-numbers vs)) ∙ sym (newest-shown (viewVersions bytes a vs))
 
   pub views-days : (vs : List Version) → map (λ (w : VersionView). w .day) (viewVersions bytes a vs) ≡ map (λ (v : Version). v .day) vs
   unfolding viewVersions
   views-days [] = refl
   views-days (v ∷ vs) = ap {B = List ℕ} (λ l. v .day ∷ l) (views-days vs)
+
+  pub newest-day-is : (vs : List Version) → newestDay vs ≡ newestDayShown (viewVersions bytes a vs)
+  unfolding newestDay newestDayShown
+  newest-day-is vs =
+      last-map (λ (v : Version). v .day) 0 vs
+      ∙ ap (lastOf (λ (n : ℕ). n) 0) (sym (views-days vs))
+      ∙ sym (last-map (λ (w : VersionView). w .day) 0 (viewVersions bytes a vs))
+
+  pub day-is : (d : Option ℕ) (vs : List Version) → dayFor d vs ≡ dayShown d (viewVersions bytes a vs)
+  unfolding dayFor dayShown
+  day-is none vs = newest-day-is vs
+  day-is (some day) vs = refl
 
   -- lookup by day goes by numbers and days
   pub newest-or-none : (day : ℕ) (vs : List Version) → newestOrNone (notAfter day vs) ≡ newestShownOrNone (shownNotAfter day (viewVersions bytes a vs))

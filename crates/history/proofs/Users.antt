@@ -179,10 +179,10 @@ answers-same s (c ∷ calls) b st e r =
 -- ---- accepted or refused
 
 -- what a refused outcome leaves
-pub refused-stays : (st : State) (o : Outcome After) → eqb (outcomeRefusal o) 0 ≡ false → stateOr st o ≡ st
+pub refused-unchanged : (st : State) (o : Outcome After) → eqb (outcomeRefusal o) 0 ≡ false → stateOr st o ≡ st
 unfolding stateOr outcomeRefusal
-refused-stays st (refused n) e = refl
-refused-stays st (done a) e = absurd (false≢true (sym e))
+refused-unchanged st (refused n) e = refl
+refused-unchanged st (done a) e = absurd (false≢true (sym e))
 
 abbrev pub acceptedBy : Shape → State → ℕ → Call → Bool
 acceptedBy s st u call = eqb (refusalIn (answerInBy s st u call)) 0
@@ -214,7 +214,7 @@ outcome-done st n o acc e = go (eqb n 0) refl e
   where
     go : (q : Bool) → eqb n 0 ≡ q → eqb (outcomeRefusal (cond q o (refused n))) 0 ≡ acc
         → (acc ≡ true → (eqb (outcomeRefusal o) 0 ≡ true) × (stateOr st (cond q o (refused n)) ≡ stateOr st o)) × (acc ≡ false → stateOr st (cond q o (refused n)) ≡ st)
-    go true q e = ((λ a. (e ∙ a, refl)), λ a. refused-stays st o (e ∙ a))
+    go true q e = ((λ a. (e ∙ a, refl)), λ a. refused-unchanged st o (e ∙ a))
     go false q e = let n : eqb n 0 ≡ acc = unfold outcomeRefusal in e in ((λ a. absurd (false≢true (sym q ∙ n ∙ a))), λ a. unfold stateOr in refl)
 
 -- an answer that waits for it
@@ -273,7 +273,7 @@ module _ (s : Shape) (st : State) (u : ℕ) where
       go new false false true other e = let no : false ≡ true = unfold outcomeRefusal in e in absurd (false≢true no)
       go new false false false true e = let no : false ≡ true = unfold outcomeRefusal in e in absurd (false≢true no)
       go new false false false false e = (e, refl)
-  set-done subject t r false e = refused-stays st (setRights s st u subject t r) e
+  set-done subject t r false e = refused-unchanged st (setRights s st u subject t r) e
 
   -- any plain call
   pub done-by : (call : Call) → IsPlain call → (acc : Bool) → acceptedBy s st u call ≡ acc → IsDone s st call acc (stateBy s st u call)

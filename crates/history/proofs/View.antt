@@ -5,8 +5,8 @@ use mathlib.Core.List.{List, [], _∷_, _++_, map}
 use mathlib.Core.Option.{Option, none, some}
 use lib.ListN.{length, getD, set, drop}
 use lib.Dec.{eqb, leb, ltb}
-use Rattle.lists.specs.Lists.{counted, keep, allZero, largest}
-use Rattle.lists.specs.Over.{over}
+use Rattle.lists.specs.Lists.{counted, keep, allZero, largest, lastOf}
+use Rattle.lists.proofs.Over.{over}
 use Rattle.model.specs.Measures.{Shape}
 use Rattle.model.specs.State.{Block, Storage, Version, Rights, staff, Till, State}
 use Rattle.model.specs.Image.{Era, isBare, imageBlocks}
@@ -76,9 +76,7 @@ turnNewest era bytes new (w ∷ x ∷ ws) = w ∷ turnNewest era bytes new (x �
 
 -- the newest one's day, and the day of a new version
 unfoldable pub newestDayShown : List VersionView → ℕ
-newestDayShown [] = 0
-newestDayShown (w ∷ []) = w .day
-newestDayShown (w ∷ x ∷ ws) = newestDayShown (x ∷ ws)
+newestDayShown ws = lastOf (λ (w : VersionView). w .day) 0 ws
 
 unfoldable pub dayShown : Option ℕ → List VersionView → ℕ
 dayShown none ws = newestDayShown ws
@@ -176,9 +174,7 @@ oldestShown [] = 0
 oldestShown (w ∷ ws) = w .number
 
 unfoldable pub newestShown : List VersionView → ℕ
-newestShown [] = 0
-newestShown (w ∷ []) = w .number
-newestShown (w ∷ x ∷ ws) = newestShown (x ∷ ws)
+newestShown ws = lastOf (λ (w : VersionView). w .number) 0 ws
 
 unfoldable pub shownNotAfter : ℕ → List VersionView → List VersionView
 shownNotAfter day ws = keep (λ (w : VersionView). leb (w .day) day) ws

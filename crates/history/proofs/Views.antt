@@ -9,9 +9,9 @@ use native.Mathlib.Omega.{arith}
 use lib.ListN.{length, getD, take, length-map, List·getD-map}
 use lib.Seq.{take-at}
 use lib.Dec.{eqb}
-use Rattle.lists.specs.Lists.{count, counted, allZero}
+use Rattle.lists.specs.Lists.{count, counted, allZero, lastOf}
 use Rattle.lists.specs.Rows.{joined, fill}
-use Rattle.lists.specs.Over.{over}
+use Rattle.lists.proofs.Over.{over}
 use Rattle.lists.specs.Each.{Each}
 use Rattle.lists.proofs.Counted.{counted-is, counted-same}
 use Rattle.lists.proofs.Counts.{count-append}
@@ -155,7 +155,7 @@ module _ (era : Era) (s : Shape) (p : Storage) (x : Exact p) (bs : List Block) (
   pub views-extended : (vs : List Version) → areTraceable (s .measures .blockBytes) (s .capacities .blocks) p vs ≡ true → Cut (s .measures .blockBytes) p vs
       → viewVersions (s .measures .blockBytes) p (extended era s p x bs newV ok vs)
       ≡ turnNewest era (s .measures .blockBytes) bs (viewVersions (s .measures .blockBytes) p vs) ++ viewVersions (s .measures .blockBytes) p (newV ∷ [])
-  unfolding viewVersions turnNewest withKinds extended withNewestPointers newestPointers areTraceable nextPointers tracedBlock
+  unfolding viewVersions turnNewest withKinds extended withNewestPointers lastOf newestPointers areTraceable nextPointers tracedBlock
   views-extended [] h c = refl
   views-extended (v ∷ []) h c =
       ap {B = List VersionView} (λ (w : VersionView). w ∷ viewVersions (s .measures .blockBytes) p (newV ∷ []))
@@ -188,7 +188,7 @@ take-kinds gone (p ∷ ps) = ap₂ _∷_ (take-kind gone p) (take-kinds gone ps)
 module _ (m : Measures) (a : Storage) (n : ℕ) (v : Version) (newer : List Version) (named : eqb (v .number) n ≡ true) where
   pub views-closed : (older : List Version) → Each (λ (w : Version). eqb (w .number) n ≡ false) older
       → viewVersions (m .blockBytes) a (closeUp older v newer) ≡ dropVersion n (viewVersions (m .blockBytes) a (older ++ (v ∷ newer)))
-  unfolding viewVersions dropVersion withKinds closeUp withNewestPointers newestPointers
+  unfolding viewVersions dropVersion withKinds closeUp withNewestPointers lastOf newestPointers
   views-closed [] o = go newer
     where
       go : (ws : List Version) → viewVersions (m .blockBytes) a ws ≡ dropVersion n (viewVersions (m .blockBytes) a (v ∷ ws))

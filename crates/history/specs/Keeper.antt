@@ -5,7 +5,7 @@ use mathlib.Core.List.{List, [], _∷_, _++_}
 use mathlib.Core.Option.{Option, none, some}
 use lib.ListN.{getD, set, replicate}
 use lib.Dec.{eqb, leb}
-use Rattle.lists.specs.Lists.{keep}
+use Rattle.lists.specs.Lists.{keep, lastOf}
 use Rattle.model.specs.Measures.{Capacities}
 use Rattle.model.specs.State.{Rights, staff, Outcome, refused, done}
 use Rattle.model.specs.Image.{withBlanks}
@@ -48,15 +48,11 @@ oldestKept [] = 0
 oldestKept (x ∷ xs) = x .number
 
 unfoldable pub newestKept : List Kept → ℕ
-newestKept [] = 0
-newestKept (x ∷ []) = x .number
-newestKept (x ∷ y ∷ xs) = newestKept (y ∷ xs)
+newestKept xs = lastOf (λ (x : Kept). x .number) 0 xs
 
 -- §13: the newest one's day, 0 if none is held; and the day of a new version, which is the one that is brought, or that
 unfoldable pub newestDayKept : List Kept → ℕ
-newestDayKept [] = 0
-newestDayKept (x ∷ []) = x .day
-newestDayKept (x ∷ y ∷ xs) = newestDayKept (y ∷ xs)
+newestDayKept xs = lastOf (λ (x : Kept). x .day) 0 xs
 
 unfoldable pub dayKept : Option ℕ → List Kept → ℕ
 dayKept none xs = newestDayKept xs

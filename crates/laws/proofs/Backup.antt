@@ -11,7 +11,7 @@ use lib.ListN.{length, getD, set, take, drop, replicate, length-set, length-appe
 use lib.Seq.{getD-take, getD-drop, length-take-le, getD-append-add}
 use lib.Dec.{eqb, leb, ltb}
 use borrow.Author.Tests.{eqb-false, eq-eqb, leb-true, leb-false, le-leb, ltb-false}
-use Rattle.lists.specs.Lists.{every, keep, count, rises, allZero}
+use Rattle.lists.specs.Lists.{every, keep, count, rises, allZero, lastOf}
 use Rattle.lists.specs.Rows.{joined}
 use Rattle.lists.proofs.Tests.{all-true, clause, every-at, every-set, or-false}
 use Rattle.lists.proofs.Same.{zeros-zero}
@@ -107,9 +107,6 @@ module _ (era : Era) (m : Measures) (a p : Storage) (bs : List Block) (pad : ℕ
 -- ---- the till's versions with the new one
 
 module _ (era : Era) (s : Shape) (p : Storage) (x : Exact p) (bs : List Block) (newV : Version) (ok : NewOk era (s .measures) p bs (newV .pointers)) where
-  ext : List Version → List Version
-  ext vs = extended era s p x bs newV ok vs
-
   one-version : (k i : ℕ) → count (leadsTo k i) (pointersOf (newV ∷ [])) ≡ count (leadsTo k i) (newV .pointers)
   unfolding joined
   one-version k i = ap (count (leadsTo k i)) (append-nil (newV .pointers))
@@ -118,7 +115,7 @@ module _ (era : Era) (s : Shape) (p : Storage) (x : Exact p) (bs : List Block) (
       → count (leadsTo k i) (pointersOf (extended era s p x bs newV ok vs)) + count (leadsTo k i) (turning era p bs (newestPointers vs))
       ≡ count (leadsTo k i) (pointersOf vs) + count (leadsTo k i) (newV .pointers)
   unfolding extended
-  ext-count k i [] = unfold withNewestPointers newestPointers turning keep count joined in empty
+  ext-count k i [] = unfold withNewestPointers lastOf newestPointers turning keep count joined in empty
     where
       empty : count (leadsTo k i) (newV .pointers ++ []) + 0 ≡ 0 + count (leadsTo k i) (newV .pointers)
       empty = omega (arith, ap (count (leadsTo k i)) (append-nil (newV .pointers)))
@@ -156,11 +153,11 @@ numbered s last rights vs ws h room top l e =
     )
 
 -- pointers that are not indirect, to held positions, lead
-plain-leads : (p : Storage) (qs : List Pointer) → ((j : ℕ) → isIndirect (getD qs j nullPointer) ≡ false)
+plain-resolves : (p : Storage) (qs : List Pointer) → ((j : ℕ) → isIndirect (getD qs j nullPointer) ≡ false)
     → ((k i : ℕ) → 0 < count (leadsTo k i) qs → isHeld (at (p .records) k i) ≡ true) → every (resolves p []) qs ≡ true
 unfolding every count
-plain-leads p [] f g = refl
-plain-leads p (q ∷ qs) f g = rw (one q (f 0) (λ k i e. g k i (omega (arith, ap {B = ℕ} (λ (t : Bool). cond t 1 0) e)))) (plain-leads p qs (λ j. f (suc j)) (λ k i c. g k i (omega (arith, c))))
+plain-resolves p [] f g = refl
+plain-resolves p (q ∷ qs) f g = rw (one q (f 0) (λ k i e. g k i (omega (arith, ap {B = ℕ} (λ (t : Bool). cond t 1 0) e)))) (plain-resolves p qs (λ j. f (suc j)) (λ k i c. g k i (omega (arith, c))))
   where
     one : (q : Pointer) → isIndirect q ≡ false → ((k i : ℕ) → leadsTo k i q ≡ true → isHeld (at (p .records) k i) ≡ true) → resolves p [] q ≡ true
     one nullPointer e r = refl
@@ -238,7 +235,7 @@ module _ (era : Era) (s : Shape) (pr : Proper (s .measures)) (st : State) (h : i
       )
 
   lead : every (resolves (placed .storage) []) (newV .pointers) ≡ true
-  lead = plain-leads (placed .storage) (newV .pointers) (good .plain) placed-held
+  lead = plain-resolves (placed .storage) (newV .pointers) (good .plain) placed-held
 
   many : 0 < partsFor (s .measures .blockBytes) (length image)
   many = parts-some (s .measures .blockBytes) (length image) (pr .bytes) some-bytes

@@ -90,17 +90,3 @@ module _ (pool table : List ℕ) (x : Store) (e : storeOf pool table ≡ some x)
           → IsStore (retireAnswer pool table (x .shape) o .pool) (retireAnswer pool table (x .shape) o .table)
       go (refused n) q = unfold retireAnswer in record { store = x; is = e }
       go (done a) q = unfold retireAnswer in left (x .shape) (a .state) fit (retire-sound (x .shape) t v (x .state) a (store-found pool table x e .sound) q)
-
-  -- what setting rights leaves
-  pub rights-store : (user subject t : ℕ) (r : Rights)
-      → storeOf pool (setRightsOf pool table user subject t r .table) ≡ some (record { shape = x .shape; state = stateOr (x .state) (setRights (x .shape) (x .state) user subject t r) })
-  unfolding setRightsOf setRightsIn
-  rights-store user subject t r = rw e (go (setRights (x .shape) (x .state) user subject t r) refl)
-    where
-      go : (o : Outcome After) → setRights (x .shape) (x .state) user subject t r ≡ o
-          → storeOf pool (rightsAnswer table (x .shape) o .table) ≡ some (record { shape = x .shape; state = stateOr (x .state) o })
-      go (refused n) q = unfold rightsAnswer stateOr in e
-      go (done a) q =
-          let set = rights-set (x .shape) (x .state) user subject t r a (store-found pool table x e .sound) q in
-          unfold rightsAnswer stateOr in
-          (ap (λ (p : List ℕ). storeOf p (stateToWords (x .shape) (a .state))) (sym (store-found pool table x e .bytes) ∙ set .bytes) ∙ round-trip (x .shape) (a .state) fit (set .sound))

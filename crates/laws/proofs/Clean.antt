@@ -20,7 +20,7 @@ use Rattle.model.specs.Runs.{Run, findRun}
 use Rattle.model.specs.Sweep.{clearCells, isUnreferenced, isReferenced, struck, moved, freeRecord, strikeOnly, compact, removeFrom, sweepRecord, sweepFrom, sweep}
 use Rattle.model.specs.Sound.{isFreeOrHolds}
 use Rattle.laws.specs.Storage.{SegmentFits, StorageFits, filledBit, Exact}
-use Rattle.laws.proofs.Uses.{uses-split, nothing-bit, referenced, staying-count}
+use Rattle.laws.proofs.Uses.{uses-split, nothing-bit, referenced, referenced-count}
 use Rattle.laws.proofs.Sweep.{Keeps, named-one, record-keeps}
 use Rattle.lists.proofs.Each.{each-at, each-set, each-sets}
 use Rattle.lists.proofs.Tests.{by-test, or-left, or-true}
@@ -161,7 +161,7 @@ module _ (m : Measures) (a : Storage) (f : StorageFits m a) (k : ℕ) (hk : k < 
         (λ e. by-test (λ (b : Storage). Swept m a b k) (eqb r s)
         (λ q. free-swept)
         (λ q.
-        let h : 0 < length (referenced seg) = omega (arith, staying-count seg, eqb-false r s q) in
+        let h : 0 < length (referenced seg) = omega (arith, referenced-count seg, eqb-false r s q) in
         by-test (λ (b : Storage). Swept m a b k) (ltb (100 * r) (m .rebuildPercent * s)) (λ t. strike-swept h) (λ t. compact-swept h (findRun a (s - r)))))
 
 -- ---- all records

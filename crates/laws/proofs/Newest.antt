@@ -5,7 +5,8 @@ use Prim.Native.Nat.{ℕ, _+_, _≤_}
 use native.Mathlib.Nat.{zero-add, le-refl}
 use native.Mathlib.Omega.{arith}
 use lib.ListN.{length}
-use Rattle.lists.specs.Lists.{count}
+use Rattle.lists.specs.Lists.{count, lastOf}
+use Rattle.lists.proofs.Last.{last-snoc}
 use Rattle.lists.specs.Rows.{joined}
 use Rattle.lists.proofs.Counts.{count-append}
 use Rattle.model.specs.State.{Pointer, Version, withPointers}
@@ -27,7 +28,7 @@ versions-append k i (v ∷ vs) ws =
 pub newest-count : (k i : ℕ) (v : Version) (vs : List Version) (qs : List Pointer)
     → count (leadsTo k i) (pointersOf (withNewestPointers (v ∷ vs) qs)) + count (leadsTo k i) (newestPointers (v ∷ vs))
     ≡ count (leadsTo k i) (pointersOf (v ∷ vs)) + count (leadsTo k i) qs
-unfolding withNewestPointers newestPointers joined
+unfolding withNewestPointers lastOf newestPointers joined
 newest-count k i v [] qs = omega (arith, count-append (leadsTo k i) (v .pointers) [], count-append (leadsTo k i) qs [])
 newest-count k i v (w ∷ vs) qs =
     omega (
@@ -39,7 +40,7 @@ newest-count k i v (w ∷ vs) qs =
 
 -- the newest version's pointers are among all
 pub newest-among : (k i : ℕ) (vs : List Version) → count (leadsTo k i) (newestPointers vs) ≤ count (leadsTo k i) (pointersOf vs)
-unfolding newestPointers joined
+unfolding lastOf newestPointers joined
 newest-among k i [] = le-refl _
 newest-among k i (v ∷ []) = omega (arith, count-append (leadsTo k i) (v .pointers) [])
 newest-among k i (v ∷ w ∷ vs) = omega (arith, newest-among k i (w ∷ vs), count-append (leadsTo k i) (v .pointers) (pointersOf (w ∷ vs)))
@@ -60,9 +61,7 @@ newest-length (v ∷ u ∷ vs) qs ws = omega (arith, newest-length (u ∷ vs) qs
 -- where the newest is given
 pub newest-last : (us : List Version) (u : Version) → newestPointers (us ++ (u ∷ [])) ≡ u .pointers
 unfolding newestPointers
-newest-last [] u = refl
-newest-last (v ∷ []) u = refl
-newest-last (v ∷ w ∷ us) u = newest-last (w ∷ us) u
+newest-last us u = last-snoc (λ (v : Version). v .pointers) [] us u
 
 pub with-last : (us : List Version) (u : Version) (ps : List Pointer) (ws : List Version)
     → withNewestPointers (us ++ (u ∷ [])) ps ++ ws ≡ us ++ (withPointers u ps ∷ ws)

@@ -20,7 +20,7 @@ use Rattle.model.specs.State.{Block, Pointer, nullPointer, direct, Position, nu
 use Rattle.model.specs.Image.{Era, withBlanks, isBlank, isBare}
 use Rattle.model.specs.Records.{isFree, isHeld, countOf, cellOf, cellsOf, namedCells, cellAt, positionAt, holds, equals}
 use Rattle.model.specs.Runs.{Run}
-use Rattle.model.specs.Place.{barePointer, barePosition, pointersTo, oneMore, newPositions, stored, share, write}
+use Rattle.model.specs.Place.{barePointer, barePosition, pointersTo, oneMore, newPositions, storedBlocks, share, write}
 use Rattle.model.specs.Trace.{blockAt}
 use Rattle.model.specs.Sound.{isFreeOrHolds, isNull, leadsTo}
 use Rattle.laws.proofs.Uses.{named-set}
@@ -246,7 +246,7 @@ unfolding filledBit
 bit-one b h = go (allZero b) refl
   where
     go : (z : Bool) → allZero b ≡ z → allZero b ≡ false
-    go true e = absurd (not-suc-le-zero (subst (λ (t : Bool). 0 < untick t) e h))
+    go true e = absurd (not-suc-le-zero (subst (λ (t : Bool). 0 < tick (not t)) e h))
     go false e = e
 
 pub counted-held : (p : Position) → 0 < countOf p → isHeld p ≡ true
@@ -370,14 +370,14 @@ new-counts era (b ∷ seg) c zero = go (isBare era b)
     go false = refl
 new-counts era (b ∷ seg) c (suc i) = new-counts era seg (cond (isBare era b) c (suc c)) i
 
-new-cells : (era : Era) (seg : List Block) (c : ℕ) → cellsOf (newPositions era c seg) ≡ numbers c (length (stored era seg))
-unfolding newPositions cellsOf numbers stored keep
+new-cells : (era : Era) (seg : List Block) (c : ℕ) → cellsOf (newPositions era c seg) ≡ numbers c (length (storedBlocks era seg))
+unfolding newPositions cellsOf numbers storedBlocks keep
 new-cells era [] c = unfold counted in refl
 new-cells era (b ∷ seg) c = go (isBare era b) (λ d. new-cells era seg d)
   where
-    go : (z : Bool) → ((d : ℕ) → cellsOf (newPositions era d seg) ≡ numbers d (length (stored era seg)))
-        → cellsOf (cond z (barePosition b) (held c 1) ∷ newPositions era (cond z c (suc c)) seg) ≡ numbers c (length (cond (not z) (b ∷ stored era seg) (stored era seg)))
-    go true r = by-bare-position b (λ (p : Position). cellsOf (p ∷ newPositions era c seg) ≡ numbers c (length (stored era seg))) (r c) (r c)
+    go : (z : Bool) → ((d : ℕ) → cellsOf (newPositions era d seg) ≡ numbers d (length (storedBlocks era seg)))
+        → cellsOf (cond z (barePosition b) (held c 1) ∷ newPositions era (cond z c (suc c)) seg) ≡ numbers c (length (cond (not z) (b ∷ storedBlocks era seg) (storedBlocks era seg)))
+    go true r = by-bare-position b (λ (p : Position). cellsOf (p ∷ newPositions era c seg) ≡ numbers c (length (storedBlocks era seg))) (r c) (r c)
     go false r = unfold counted in ap {B = List ℕ} (λ l. c ∷ l) (r (suc c))
 
 new-length : (era : Era) (seg : List Block) (c : ℕ) → length (newPositions era c seg) ≡ length seg
@@ -385,69 +385,69 @@ unfolding newPositions
 new-length era [] c = refl
 new-length era (b ∷ seg) c = ap suc (new-length era seg (cond (isBare era b) c (suc c)))
 
-new-held : (era : Era) (seg : List Block) (c : ℕ) → count isHeld (newPositions era c seg) ≡ length (stored era seg)
-unfolding newPositions count stored keep
+new-held : (era : Era) (seg : List Block) (c : ℕ) → count isHeld (newPositions era c seg) ≡ length (storedBlocks era seg)
+unfolding newPositions count storedBlocks keep
 new-held era [] c = refl
 new-held era (b ∷ seg) c = go (isBare era b) (new-held era seg (cond (isBare era b) c (suc c)))
   where
-    go : (z : Bool) {n : ℕ} → n ≡ length (stored era seg) → cond (isHeld (cond z (barePosition b) (held c 1))) 1 0 + n ≡ length (cond (not z) (b ∷ stored era seg) (stored era seg))
-    go true {n} e = by-bare-position b (λ (p : Position). cond (isHeld p) 1 0 + n ≡ length (stored era seg)) (omega (arith, e)) (omega (arith, e))
+    go : (z : Bool) {n : ℕ} → n ≡ length (storedBlocks era seg) → cond (isHeld (cond z (barePosition b) (held c 1))) 1 0 + n ≡ length (cond (not z) (b ∷ storedBlocks era seg) (storedBlocks era seg))
+    go true {n} e = by-bare-position b (λ (p : Position). cond (isHeld p) 1 0 + n ≡ length (storedBlocks era seg)) (omega (arith, e)) (omega (arith, e))
     go false {n} e = omega (arith, e)
 
 new-blocks : (era : Era) (cells : List Block) (seg : List Block) (c : ℕ)
-    → ((j : ℕ) → j < length (stored era seg) → getD cells (c + j) [] ≡ getD (stored era seg) j [])
+    → ((j : ℕ) → j < length (storedBlocks era seg) → getD cells (c + j) [] ≡ getD (storedBlocks era seg) j [])
     → (i : ℕ) → i < length seg → isBare era (getD seg i []) ≡ false → getD cells (cellOf (getD (newPositions era c seg) i nullPosition)) [] ≡ getD seg i []
-unfolding newPositions stored keep
+unfolding newPositions storedBlocks keep
 new-blocks era cells [] c g i h e = absurd (not-suc-le-zero h)
 new-blocks era cells (b ∷ seg) c g i h e = go (isBare era b) refl g i h e (λ d r j l n. new-blocks era cells seg d r j l n)
   where
     go : (z : Bool) → isBare era b ≡ z
-        → ((j : ℕ) → j < length (cond (not z) (b ∷ stored era seg) (stored era seg)) → getD cells (c + j) [] ≡ getD (cond (not z) (b ∷ stored era seg) (stored era seg)) j [])
+        → ((j : ℕ) → j < length (cond (not z) (b ∷ storedBlocks era seg) (storedBlocks era seg)) → getD cells (c + j) [] ≡ getD (cond (not z) (b ∷ storedBlocks era seg) (storedBlocks era seg)) j [])
         → (i : ℕ) → i < suc (length seg) → isBare era (getD (b ∷ seg) i []) ≡ false
-        → ((d : ℕ) → ((j : ℕ) → j < length (stored era seg) → getD cells (d + j) [] ≡ getD (stored era seg) j []) → (j : ℕ) → j < length seg → isBare era (getD seg j []) ≡ false
+        → ((d : ℕ) → ((j : ℕ) → j < length (storedBlocks era seg) → getD cells (d + j) [] ≡ getD (storedBlocks era seg) j []) → (j : ℕ) → j < length seg → isBare era (getD seg j []) ≡ false
         → getD cells (cellOf (getD (newPositions era d seg) j nullPosition)) [] ≡ getD seg j [])
         → getD cells (cellOf (getD (cond z (barePosition b) (held c 1) ∷ newPositions era (cond z c (suc c)) seg) i nullPosition)) [] ≡ getD (b ∷ seg) i []
     go true z g zero h e r = absurd (false≢true (sym e ∙ z))
     go true z g (suc i) h e r = r c g i (le-of-suc-le-suc h) e
-    go false z g zero h e r = ap (λ (n : ℕ). getD cells n []) (sym (add-zero c)) ∙ g 0 (zero-lt-suc (length (stored era seg)))
+    go false z g zero h e r = ap (λ (n : ℕ). getD cells n []) (sym (add-zero c)) ∙ g 0 (zero-lt-suc (length (storedBlocks era seg)))
     go false z g (suc i) h e r =
         r (suc c) (λ j l. ap (λ (n : ℕ). getD cells n []) (suc-add c j ∙ sym (add-suc c j)) ∙ g (suc j) (suc-le-suc l)) i (le-of-suc-le-suc h) e
 
-stored-bit : (era : Era) (seg : List Block) (j : ℕ) → j < length (stored era seg) → filledBit (getD (stored era seg) j []) ≡ 1
-unfolding stored keep filledBit
+stored-bit : (era : Era) (seg : List Block) (j : ℕ) → j < length (storedBlocks era seg) → filledBit (getD (storedBlocks era seg) j []) ≡ 1
+unfolding storedBlocks keep filledBit
 stored-bit era [] j h = absurd (not-suc-le-zero h)
 stored-bit era (b ∷ seg) j h = go (isBare era b) refl j h (λ i l. stored-bit era seg i l)
   where
-    go : (z : Bool) → isBare era b ≡ z → (j : ℕ) → j < length (cond (not z) (b ∷ stored era seg) (stored era seg))
-        → ((i : ℕ) → i < length (stored era seg) → filledBit (getD (stored era seg) i []) ≡ 1) → filledBit (getD (cond (not z) (b ∷ stored era seg) (stored era seg)) j []) ≡ 1
+    go : (z : Bool) → isBare era b ≡ z → (j : ℕ) → j < length (cond (not z) (b ∷ storedBlocks era seg) (storedBlocks era seg))
+        → ((i : ℕ) → i < length (storedBlocks era seg) → filledBit (getD (storedBlocks era seg) i []) ≡ 1) → filledBit (getD (cond (not z) (b ∷ storedBlocks era seg) (storedBlocks era seg)) j []) ≡ 1
     go true e j h r = r j h
-    go false e zero h r = ap {B = ℕ} (λ (t : Bool). cond t 0 1) (stored-full era b e)
+    go false e zero h r = ap {B = ℕ} (λ (t : Bool). cond (not t) 1 0) (stored-full era b e)
     go false e (suc j) h r = r j (le-of-suc-le-suc h)
 
-stored-whole : (era : Era) (m : Measures) (seg : List Block) → Each (HasBytes m) seg → Each (HasBytes m) (stored era seg)
-unfolding stored keep
+stored-whole : (era : Era) (m : Measures) (seg : List Block) → Each (HasBytes m) seg → Each (HasBytes m) (storedBlocks era seg)
+unfolding storedBlocks keep
 stored-whole era m [] h = tt
 stored-whole era m (b ∷ seg) h =
     by-test (Each (HasBytes m)) (not (isBare era b)) (λ e. (h .0, stored-whole era m seg (h .1))) (λ e. stored-whole era m seg (h .1))
 
-stored-some : (era : Era) (seg : List Block) → every (isBare era) seg ≡ false → 0 < length (stored era seg)
-unfolding stored keep every
+stored-some : (era : Era) (seg : List Block) → every (isBare era) seg ≡ false → 0 < length (storedBlocks era seg)
+unfolding storedBlocks keep every
 stored-some era [] h = absurd (false≢true (sym h))
 stored-some era (b ∷ seg) h = go (isBare era b) h (λ e. stored-some era seg e)
   where
-    go : (z : Bool) → cond z (every (isBare era) seg) false ≡ false → (every (isBare era) seg ≡ false → 0 < length (stored era seg))
-        → 0 < length (cond (not z) (b ∷ stored era seg) (stored era seg))
+    go : (z : Bool) → cond z (every (isBare era) seg) false ≡ false → (every (isBare era) seg ≡ false → 0 < length (storedBlocks era seg))
+        → 0 < length (cond (not z) (b ∷ storedBlocks era seg) (storedBlocks era seg))
     go true e r = r e
-    go false e r = zero-lt-suc (length (stored era seg))
+    go false e r = zero-lt-suc (length (storedBlocks era seg))
 
 -- a free record that is filled names its run's cells
 module _ (era : Era) (a : Storage) (x : Exact a) (seg : List Block) (k : ℕ) (hk : k < length (a .records)) (fr : isFree (getD (a .records) k []) ≡ true)
-    (run : Run) (ok : RunOk (Free a) (length (stored era seg)) run) where
+    (run : Run) (ok : RunOk (Free a) (length (storedBlocks era seg)) run) where
   n₁ : ℕ
-  n₁ = length (stored era seg)
+  n₁ = length (storedBlocks era seg)
 
   cells′ : List Block
-  cells′ = sets (a .cells) (run .start) (stored era seg)
+  cells′ = sets (a .cells) (run .start) (storedBlocks era seg)
 
   run-free : (j : ℕ) → j < n₁ → Free a (run .start + j)
   unfolding n₁
@@ -456,17 +456,17 @@ module _ (era : Era) (a : Storage) (x : Exact a) (seg : List Block) (k : ℕ) (h
   run-fits : (j : ℕ) → j < n₁ → run .start + n₁ ≤ length (a .cells)
   run-fits j h = omega (arith, h, run-free (n₁ - 1) (omega (arith, h)) .inside)
 
-  run-cells : (j : ℕ) → j < n₁ → getD cells′ (run .start + j) [] ≡ getD (stored era seg) j []
+  run-cells : (j : ℕ) → j < n₁ → getD cells′ (run .start + j) [] ≡ getD (storedBlocks era seg) j []
   unfolding cells′ n₁
-  run-cells j h = sets-in [] (stored era seg) (a .cells) (run .start) j h (run-fits j h)
+  run-cells j h = sets-in [] (storedBlocks era seg) (a .cells) (run .start) j h (run-fits j h)
 
   off : (c : ℕ) → 0 < uses c (namedCells (a .records)) → getD cells′ c [] ≡ getD (a .cells) c []
   unfolding cells′ n₁
   off c u = go (within-run c (run .start) n₁)
     where
       go : (c < run .start) ⊎ ((run .start + n₁ ≤ c) ⊎ ((j : ℕ) × (c ≡ run .start + j) × (j < n₁))) → getD cells′ c [] ≡ getD (a .cells) c []
-      go (inl b) = sets-before [] (stored era seg) (a .cells) (run .start) c b
-      go (inr (inl b)) = sets-after [] (stored era seg) (a .cells) (run .start) c b
+      go (inl b) = sets-before [] (storedBlocks era seg) (a .cells) (run .start) c b
+      go (inr (inl b)) = sets-after [] (storedBlocks era seg) (a .cells) (run .start) c b
       go (inr (inr t)) =
           absurd (not-suc-le-zero (subst (λ (y : ℕ). 0 < y) (ap (λ (y : ℕ). uses y (namedCells (a .records))) (t .1) ∙ run-free (t .0) (t .2) .unnamed) u))
 
@@ -486,10 +486,10 @@ module _ (era : Era) (a : Storage) (x : Exact a) (seg : List Block) (k : ℕ) (h
       go : (c < run .start) ⊎ ((run .start + n₁ ≤ c) ⊎ ((j : ℕ) × (c ≡ run .start + j) × (j < n₁))) → new ≡ filledBit (getD cells′ c [])
       go (inl b) =
           (let z : new ≡ uses c (namedCells (a .records)) = omega (arith, sum, none, uses-low n₁ (run .start) c b) in z) ∙ x c
-          ∙ ap filledBit (sym (sets-before [] (stored era seg) (a .cells) (run .start) c b))
+          ∙ ap filledBit (sym (sets-before [] (storedBlocks era seg) (a .cells) (run .start) c b))
       go (inr (inl b)) =
           (let z : new ≡ uses c (namedCells (a .records)) = omega (arith, sum, none, uses-high n₁ (run .start) c b) in z) ∙ x c
-          ∙ ap filledBit (sym (sets-after [] (stored era seg) (a .cells) (run .start) c b))
+          ∙ ap filledBit (sym (sets-after [] (storedBlocks era seg) (a .cells) (run .start) c b))
       go (inr (inr t)) =
           (let z : new ≡ 1 =
           omega (
@@ -505,11 +505,11 @@ module _ (era : Era) (a : Storage) (x : Exact a) (seg : List Block) (k : ℕ) (h
 
 module _ (era : Era) (m : Measures) (a : Storage) (f : StorageFits m a) (x : Exact a) (seg : List Block) (w : Each (HasBytes m) seg) (sz : length seg ≡ m .segmentBlocks)
     (k : ℕ) (hk : k < length (a .records)) (fr : isFree (getD (a .records) k []) ≡ true) (ne : every (isBare era) seg ≡ false)
-    (run : Run) (ok : RunOk (Free a) (length (stored era seg)) run) where
+    (run : Run) (ok : RunOk (Free a) (length (storedBlocks era seg)) run) where
   pub fill-ok : PlacedOk era m a (write era a seg k run .storage) seg (write era a seg k run .pointers)
   unfolding write cells′ n₁
   fill-ok =
-      placed-by era m a seg w k hk (newPositions era (run .start) seg) (sets (a .cells) (run .start) (stored era seg))
+      placed-by era m a seg w k hk (newPositions era (run .start) seg) (sets (a .cells) (run .start) (storedBlocks era seg))
       (record {
         records =
             each-set (SegmentFits m) (a .records) k (newPositions era (run .start) seg) (f .records)
@@ -517,12 +517,12 @@ module _ (era : Era) (m : Measures) (a : Storage) (f : StorageFits m a) (x : Exa
               size = new-length era seg (run .start) ∙ sz;
               used = used-by (newPositions era (run .start) seg) (omega (arith, new-held era seg (run .start), stored-some era seg ne));
             });
-        cells = each-sets (HasBytes m) (stored era seg) (a .cells) (run .start) (f .cells) (stored-whole era m seg w);
+        cells = each-sets (HasBytes m) (storedBlocks era seg) (a .cells) (run .start) (f .cells) (stored-whole era m seg w);
       })
-      (unfold write in write-exact era a x seg k hk fr run ok) (length-sets (a .cells) (run .start) (stored era seg))
+      (unfold write in write-exact era a x seg k hk fr run ok) (length-sets (a .cells) (run .start) (storedBlocks era seg))
       (λ i. new-counts era seg (run .start) i ∙ sym (ap (λ (n : ℕ). n + untick (isBare era (getD seg i []))) (free-none (getD (a .records) k []) fr i) ∙ zero-add (untick (isBare era (getD seg i [])))))
       (λ i p. absurd (not-suc-le-zero (subst (λ (n : ℕ). 0 < n) (free-none (getD (a .records) k []) fr i) p)))
       (λ j i h p.
       off era a x seg k hk fr run ok (cellOf (at (a .records) j i))
       (omega (arith, held-named (getD (a .records) j []) i (counted-held (at (a .records) j i) p), named-one (cellOf (at (a .records) j i)) (a .records) j)))
-      (λ i h e. new-blocks era (sets (a .cells) (run .start) (stored era seg)) seg (run .start) (run-cells era a x seg k hk fr run ok) i h e)
+      (λ i h e. new-blocks era (sets (a .cells) (run .start) (storedBlocks era seg)) seg (run .start) (run-cells era a x seg k hk fr run ok) i h e)

@@ -32,16 +32,19 @@ bytes-in n h =
 blocks-in : (n : ℕ) → isIn n (4 ∷ 8 ∷ 16 ∷ []) ≡ true → Blocks n
 blocks-in n h = each-in Blocks n (4 ∷ 8 ∷ 16 ∷ []) h ((lit≤ tt, lit≤ tt), ((lit≤ tt, lit≤ tt), ((lit≤ tt, lit≤ tt), tt)))
 
+pub measures-in : (m : Measures) → areMeasures m ≡ true → Measured m
+unfolding areMeasures
+measures-in m h =
+    let b = bytes-in (m .blockBytes) (clause _ 0 h) in
+    let n = blocks-in (m .segmentBlocks) (clause _ 1 h) in
+    record { someBytes = b .0; mostBytes = b .1; pieces = b .2; someBlocks = n .0; mostBlocks = n .1; mostPercent = leb-true _ _ (clause _ 2 h) }
+
 -- ---- all eight
 
 module _ (s : Shape) (h : inRange s ≡ true) where
   pub measured : Measured (s .measures)
-  unfolding inRange areMeasures
-  measured =
-      let m = clause _ 5 h in
-      let b = bytes-in (s .measures .blockBytes) (clause _ 0 m) in
-      let n = blocks-in (s .measures .segmentBlocks) (clause _ 1 m) in
-      record { someBytes = b .0; mostBytes = b .1; pieces = b .2; someBlocks = n .0; mostBlocks = n .1; mostPercent = leb-true _ _ (clause _ 2 m) }
+  unfolding inRange
+  measured = measures-in (s .measures) (clause _ 5 h)
 
   image-most : s .capacities .blocks * s .measures .blockBytes ≤ 65536
   unfolding inRange isWithin

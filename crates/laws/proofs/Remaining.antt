@@ -27,7 +27,7 @@ use Rattle.model.specs.Turn.{target, turning}
 use Rattle.model.specs.Sound.{isSound, leadsTo}
 use Rattle.model.specs.Calls.{tillOf, newestPointers}
 use Rattle.laws.specs.Storage.{Suffices}
-use Rattle.laws.proofs.Uses.{referenced, struck-cells, moved-cells, staying-count}
+use Rattle.laws.proofs.Uses.{referenced, struck-cells, moved-cells, referenced-count}
 use Rattle.laws.proofs.Counts.{at, Recount, change-at, change-all-length, change-held, falls, grows, lower-count, raise-count}
 use Rattle.laws.proofs.Place.{PlacedOk, counted-held}
 use Rattle.laws.proofs.Serves.{till-among, sound-valid}
@@ -35,14 +35,14 @@ use Rattle.laws.proofs.Newest.{newest-among}
 
 -- ---- one record: as many cells as positions that stay
 
-staying-stays : (seg : Segment) → length (referenced seg) ≡ count isReferenced seg
+referenced-length : (seg : Segment) → length (referenced seg) ≡ count isReferenced seg
 unfolding referenced cellsOf keep count
-staying-stays [] = refl
-staying-stays (nullPosition ∷ seg) = omega (arith, staying-stays seg)
-staying-stays (blankPosition ∷ seg) = omega (arith, staying-stays seg)
-staying-stays (held b zero ∷ seg) = omega (arith, staying-stays seg)
-staying-stays (held b (suc n) ∷ seg) = omega (arith, staying-stays seg)
-staying-stays (removed ∷ seg) = omega (arith, staying-stays seg)
+referenced-length [] = refl
+referenced-length (nullPosition ∷ seg) = omega (arith, referenced-length seg)
+referenced-length (blankPosition ∷ seg) = omega (arith, referenced-length seg)
+referenced-length (held b zero ∷ seg) = omega (arith, referenced-length seg)
+referenced-length (held b (suc n) ∷ seg) = omega (arith, referenced-length seg)
+referenced-length (removed ∷ seg) = omega (arith, referenced-length seg)
 
 cells-held : (seg : Segment) → length (cellsOf seg) ≡ count isHeld seg
 unfolding cellsOf count
@@ -69,7 +69,7 @@ module _ (m : Measures) (a : Storage) (k : ℕ) where
 
   strike-leaves : Leaves a (strikeOnly m a k seg) k
   unfolding strikeOnly seg
-  strike-leaves = record { segment = map struck seg; records = refl; cells = ap length (struck-cells seg) ∙ staying-stays seg }
+  strike-leaves = record { segment = map struck seg; records = refl; cells = ap length (struck-cells seg) ∙ referenced-length seg }
 
   compact-leaves : (o : Option Run) → Leaves a (compact m a k seg o) k
   unfolding compact numbers seg
@@ -77,7 +77,7 @@ module _ (m : Measures) (a : Storage) (k : ℕ) where
   compact-leaves (some run) = record {
     segment = moved (run .start) seg;
     records = refl;
-    cells = ap length (moved-cells seg (run .start)) ∙ length-counted (λ c. c) (run .start) (length (referenced seg)) ∙ staying-stays seg;
+    cells = ap length (moved-cells seg (run .start)) ∙ length-counted (λ c. c) (run .start) (length (referenced seg)) ∙ referenced-length seg;
   }
 
   free-leaves : count isUnreferenced seg ≡ count isHeld seg → Leaves a (freeRecord m a k seg) k
@@ -85,7 +85,7 @@ module _ (m : Measures) (a : Storage) (k : ℕ) where
   free-leaves q = record {
     segment = replicate (m .segmentBlocks) nullPosition;
     records = refl;
-    cells = omega (arith, q, free-cells (m .segmentBlocks), staying-count seg, staying-stays seg);
+    cells = omega (arith, q, free-cells (m .segmentBlocks), referenced-count seg, referenced-length seg);
   }
 
   record-leaves : Leaves a (sweepRecord m a k) k
@@ -96,7 +96,7 @@ module _ (m : Measures) (a : Storage) (k : ℕ) where
       (λ e. record {
         segment = seg;
         records = sym (set-getD (a .records) k []);
-        cells = omega (arith, eqb-true r 0 e, cells-held seg, staying-count seg, staying-stays seg);
+        cells = omega (arith, eqb-true r 0 e, cells-held seg, referenced-count seg, referenced-length seg);
       })
       (λ e. by-test (λ (b : Storage). Leaves a b k) (eqb r s)
       (λ q. free-leaves (eqb-true r s q))

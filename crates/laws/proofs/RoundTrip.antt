@@ -65,10 +65,6 @@ segment-back n seg l =
     ∙ take-all n counts (omega (arith, length-map seg countOf, l)) in
     ap₂ (positionsIn (maskOf isHeld seg) (maskOf isRemoved seg) (maskOf isBlankPosition seg)) first later ∙ positions-back seg
 
-pub free-words : recordToWords (freeSegment 8) ≡ replicate 19 0
-unfolding recordToWords freeSegment maskOf
-free-words = refl
-
 free-masks : (f : Position → Bool) → f nullPosition ≡ false → (n : ℕ) → maskOf f (replicate n nullPosition) ≡ 0
 unfolding maskOf
 free-masks f e zero = refl

@@ -24,7 +24,7 @@ use Rattle.model.specs.State.{Block, Pointer, nullPointer, blankPointer, direct
 use Rattle.model.specs.Image.{Era, isBare}
 use Rattle.model.specs.Records.{isFree, cellAt, positionAt, equals}
 use Rattle.model.specs.Runs.{Run, findRun}
-use Rattle.model.specs.Place.{Placed, barePointer, stored, share, write, writeRun, writeRecord, shareOrWrite, placeSegment, afterSome, placeNext, placeAll}
+use Rattle.model.specs.Place.{Placed, barePointer, storedBlocks, share, write, writeRun, writeRecord, shareOrWrite, placeSegment, afterSome, placeNext, placeAll}
 use Rattle.model.specs.Trace.{blockAt}
 use Rattle.model.specs.Sound.{isNull, leadsTo}
 use Rattle.laws.proofs.Runs.{RunOk, FoundOk, Free, find-ok}
@@ -46,9 +46,9 @@ IfDone P (done p) = P p
 module _ (era : Era) (P : Placed → Type 0) (a : Storage) (seg : List Block)
     (bare : every (isBare era) seg ≡ true → P (record { storage = a; pointers = map barePointer seg }))
     (shared : every (isBare era) seg ≡ false → (k : ℕ) → firstFrom (equals era a seg) 0 (a .records) ≡ some k → P (share era a seg k))
-    (filled : every (isBare era) seg ≡ false → (k : ℕ) → firstFrom isFree 0 (a .records) ≡ some k → (run : Run) → findRun a (length (stored era seg)) ≡ some run → P (write era a seg k run)) where
+    (filled : every (isBare era) seg ≡ false → (k : ℕ) → firstFrom isFree 0 (a .records) ≡ some k → (run : Run) → findRun a (length (storedBlocks era seg)) ≡ some run → P (write era a seg k run)) where
   module _ (ne : every (isBare era) seg ≡ false) where
-    by-run : (k : ℕ) → firstFrom isFree 0 (a .records) ≡ some k → (o : Option Run) → findRun a (length (stored era seg)) ≡ o → IfDone P (writeRun era a seg k o)
+    by-run : (k : ℕ) → firstFrom isFree 0 (a .records) ≡ some k → (o : Option Run) → findRun a (length (storedBlocks era seg)) ≡ o → IfDone P (writeRun era a seg k o)
     unfolding writeRun
     by-run k e none q = tt
     by-run k e (some run) q = filled ne k e run q
@@ -56,7 +56,7 @@ module _ (era : Era) (P : Placed → Type 0) (a : Storage) (seg : List Block)
     by-record : (o : Option ℕ) → firstFrom isFree 0 (a .records) ≡ o → IfDone P (writeRecord era a seg o)
     unfolding writeRecord
     by-record none e = tt
-    by-record (some k) e = by-run k e (findRun a (length (stored era seg))) refl
+    by-record (some k) e = by-run k e (findRun a (length (storedBlocks era seg))) refl
 
     by-match : (o : Option ℕ) → firstFrom (equals era a seg) 0 (a .records) ≡ o → IfDone P (shareOrWrite era a seg o)
     unfolding shareOrWrite
@@ -113,7 +113,7 @@ module _ (era : Era) (m : Measures) (a : Storage) (f : StorageFits m a) (x : Exa
       segment-cases era (λ p. PlacedOk era m a (p .storage) seg (p .pointers)) a seg bare-ok
       (λ ne k e. let (hk, q) = first-found [] (equals era a seg) (a .records) k e in share-ok era m a f x seg w k hk q)
       (λ ne k e run r.
-      let (hk, fr) = first-found [] isFree (a .records) k e in fill-ok era m a f x seg w sz k hk fr ne run (run-found a (length (stored era seg)) run r))
+      let (hk, fr) = first-found [] isFree (a .records) k e in fill-ok era m a f x seg w sz k hk fr ne run (run-found a (length (storedBlocks era seg)) run r))
 
 -- ---- all segments
 

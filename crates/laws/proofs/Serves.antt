@@ -62,12 +62,12 @@ module _ (s : Shape) (a b : Storage) (ps : List Pointer) (sv : Serves (s .measur
   abbrev Among : List Pointer → Type 0
   Among qs = (k i : ℕ) → count (leadsTo k i) qs ≤ count (leadsTo k i) ps
 
-  pub leads-again : (next qs : List Pointer) → every (resolves a next) qs ≡ true → Among qs → every (resolves b next) qs ≡ true
+  pub resolves-again : (next qs : List Pointer) → every (resolves a next) qs ≡ true → Among qs → every (resolves b next) qs ≡ true
   unfolding every count
-  leads-again next [] h g = refl
-  leads-again next (q ∷ qs) h g =
+  resolves-again next [] h g = refl
+  resolves-again next (q ∷ qs) h g =
       rw (one q (every-head (resolves a next) q qs h) (λ k i e. sv .holds k i (omega (arith, g k i, ap {B = ℕ} (λ (t : Bool). cond t 1 0) e))))
-      (leads-again next qs (every-tail (resolves a next) q qs h) (λ k i. omega (arith, g k i)))
+      (resolves-again next qs (every-tail (resolves a next) q qs h) (λ k i. omega (arith, g k i)))
     where
       one : (q : Pointer) → resolves a next q ≡ true → ((k i : ℕ) → leadsTo k i q ≡ true → isHeld (at (b .records) k i) ≡ true) → resolves b next q ≡ true
       one nullPointer h r = refl
@@ -93,7 +93,7 @@ module _ (s : Shape) (a b : Storage) (ps : List Pointer) (sv : Serves (s .measur
       all-true _ (
         clause _ 0 h,
         (
-          leads-again (nextPointers newer) (v .pointers) (clause _ 1 h) (λ k i. omega (arith, g k i, count-append (leadsTo k i) (v .pointers) (pointersOf newer))),
+          resolves-again (nextPointers newer) (v .pointers) (clause _ 1 h) (λ k i. omega (arith, g k i, count-append (leadsTo k i) (v .pointers) (pointersOf newer))),
           (
             unfold endsZero in
                 (ap (λ (x : Block). allZero (drop (v .length - s .measures .blockBytes * (length (v .pointers) - 1)) x)) (traced-again (v ∷ newer) g (length (v .pointers) - 1))

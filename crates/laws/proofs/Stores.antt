@@ -21,7 +21,7 @@ use Rattle.model.specs.Table.{recordToWords, tillToWords, headerToWords, stateT
 use Rattle.model.specs.Sound.{isSound, ifSound, hasLengths, Store, storeAs, storeOf}
 use Rattle.model.specs.Calls.{emptyTill, tillOf}
 use Rattle.laws.specs.Ranges.{Ranges}
-use Rattle.laws.specs.Stores.{tillAt, recordsFrom, storeRead, Sound, HeaderRanges}
+use Rattle.laws.specs.Stores.{tillAt, storeRead, Sound, HeaderRanges}
 use Rattle.laws.proofs.Measures.{sizes}
 use Rattle.laws.proofs.Ranges.{ranges}
 use Rattle.laws.proofs.Fits.{Fit, range-fit, StateFits, state-fits}
@@ -82,17 +82,17 @@ module _ (s : Shape) (st : State) where
     unfolding stateToWords
     words-split rs cells = sym (append-assoc (headerToWords s) (rows (tillToWords (s .capacities .versions) (s .capacities .blocks)) (st .tills)) (rows recordToWords rs))
 
-    records-front : length (headerToWords s ++ rows (tillToWords (s .capacities .versions) (s .capacities .blocks)) (st .tills)) ≡ (recordsFrom s)
+    records-front : length (headerToWords s ++ rows (tillToWords (s .capacities .versions) (s .capacities .blocks)) (st .tills)) ≡ (recordsAt (s .capacities))
     records-front = tills-front (st .tills) ∙ ap (λ (k : ℕ). 8 + k * tillWords (s .capacities .versions) (s .capacities .blocks)) n
 
-    pub records-is : take (length (stateToWords s st) - (recordsFrom s)) (drop (recordsFrom s) (stateToWords s st)) ≡ rows recordToWords (st .storage .records)
-    records-is = tail-is (headerToWords s ++ rows (tillToWords (s .capacities .versions) (s .capacities .blocks)) (st .tills)) (rows recordToWords (st .storage .records)) (stateToWords s st) (recordsFrom s) (words-split (st .storage .records) (st .storage .cells)) records-front
+    pub records-is : take (length (stateToWords s st) - (recordsAt (s .capacities))) (drop (recordsAt (s .capacities)) (stateToWords s st)) ≡ rows recordToWords (st .storage .records)
+    records-is = tail-is (headerToWords s ++ rows (tillToWords (s .capacities .versions) (s .capacities .blocks)) (st .tills)) (rows recordToWords (st .storage .records)) (stateToWords s st) (recordsAt (s .capacities)) (words-split (st .storage .records) (st .storage .cells)) records-front
 
     pub records-put : (rs : List Segment) (cells : List Block)
-        → take (recordsFrom s) (stateToWords s st) ++ (rows recordToWords rs ++ drop (length (stateToWords s st) - (recordsFrom s)) (drop (recordsFrom s) (stateToWords s st)))
+        → take (recordsAt (s .capacities)) (stateToWords s st) ++ (rows recordToWords rs ++ drop (length (stateToWords s st) - (recordsAt (s .capacities))) (drop (recordsAt (s .capacities)) (stateToWords s st)))
         ≡ stateToWords s (record { tills = st .tills; storage = record { records = rs; cells = cells } })
     records-put rs cells =
-        tail-put (headerToWords s ++ rows (tillToWords (s .capacities .versions) (s .capacities .blocks)) (st .tills)) (rows recordToWords (st .storage .records)) (stateToWords s st) (recordsFrom s) (words-split (st .storage .records) (st .storage .cells)) records-front (rows recordToWords rs)
+        tail-put (headerToWords s ++ rows (tillToWords (s .capacities .versions) (s .capacities .blocks)) (st .tills)) (rows recordToWords (st .storage .records)) (stateToWords s st) (recordsAt (s .capacities)) (words-split (st .storage .records) (st .storage .cells)) records-front (rows recordToWords rs)
         ∙ sym (words-split rs cells)
 
 -- ---- a sound store
@@ -123,6 +123,20 @@ module _ (pool table : List ℕ) where
       go (inl e) = e
       go (inr e) = absurd (false≢true (h ∙ ap isSome e))
 
+-- a header whose capacities are in range
+pub header-ranges : (table : List ℕ) → Ranges (shapeOf table) → 8 ≤ length table → HeaderRanges table
+unfolding shapeOf
+header-ranges table r e = record {
+  eight = e;
+  tills = r .tills;
+  versions = r .versions;
+  blocks = r .blocks;
+  records = r .records;
+  cells = r .cells;
+  measured = r .measured;
+  image = r .image;
+}
+
 module _ {pool table : List ℕ} (h : Sound pool table) where
   pub found : Found pool table (storeRead pool table)
   found = store-found pool table (storeRead pool table) (h .is)
@@ -140,22 +154,11 @@ module _ {pool table : List ℕ} (h : Sound pool table) where
   long = ap length (sym (found .words)) ∙ table-length (shapeOf table) (stateIn (shapeOf table) pool table) fits
 
   pub header : HeaderRanges table
-  unfolding shapeOf tableWords
-  header =
-      let r : Ranges (shapeOf table) = ranges (shapeOf table) (valid .range) in
-      record {
-        eight = omega (arith, long);
-        tills = r .tills;
-        versions = r .versions;
-        blocks = r .blocks;
-        records = r .records;
-        cells = r .cells;
-        measured = r .measured;
-        image = r .image;
-      }
+  unfolding tableWords
+  header = header-ranges table (ranges (shapeOf table) (valid .range)) (omega (arith, long))
 
   -- where the records' words begin, there is room
-  pub records-room : (at : ℕ) → at ≡ recordsFrom (shapeOf table) → (at ≤ length table) × (at ≤ 1051720)
+  pub records-room : (at : ℕ) → at ≡ recordsAt (shapeOf table .capacities) → (at ≤ length table) × (at ≤ 1051720)
   unfolding shapeOf tableWords
   records-room at e =
       let (a, b) = sizes (getD table 0 0) (getD table 1 0) (getD table 2 0) (header .tills) (header .versions) (header .blocks) in

@@ -11,6 +11,7 @@ use lib.ListN.{length, getD, set, replicate, length-set, length-map, List·getD-
 use lib.Seq.{sets, getD-set-same, getD-set-other}
 use lib.Dec.{eqb, leb, ltb}
 use borrow.Author.Tests.{eqb-true, eqb-false, ltb-true, ltb-false, leb-true, leb-false}
+use Rattle.model.specs.Sound.{isFilled}
 use Rattle.lists.specs.Lists.{every, keep, count, allZero, uses}
 use Rattle.lists.specs.Rows.{joined}
 use Rattle.model.specs.Measures.{Measures}
@@ -18,7 +19,7 @@ use Rattle.model.specs.State.{Block, Position, nullPosition, blankPosition, hel
 use Rattle.model.specs.Records.{freeSegment, cellsOf, namedCells, isHeld, cellOf, countOf, cellAt}
 use Rattle.model.specs.Runs.{Run, findRun}
 use Rattle.model.specs.Sweep.{clearCells, isUnreferenced, isReferenced, struck, moved, freeRecord, strikeOnly, compact, removeFrom, sweepRecord, sweepFrom, sweep}
-use Rattle.laws.proofs.Uses.{named-set, clear-in, clear-out, referenced, unreferenced, uses-split, struck-cells, moved-cells, staying-count}
+use Rattle.laws.proofs.Uses.{named-set, clear-in, clear-out, referenced, unreferenced, uses-split, struck-cells, moved-cells, referenced-count}
 use Rattle.laws.specs.Storage.{filledBit, Exact}
 use Rattle.laws.proofs.Runs.{RunOk, FoundOk, Free, find-ok}
 use Rattle.lists.proofs.Sets.{map-at, within-run, sets-after, sets-before, sets-in}
@@ -42,7 +43,7 @@ pub record Keeps (a b : Storage) : Type 0 where
 
 pub bit-most : (b : Block) → filledBit b ≤ 1
 unfolding filledBit
-bit-most b = by-test (λ (n : ℕ). n ≤ 1) (allZero b) (λ e. zero-le) (λ e. le-refl 1)
+bit-most b = by-test (λ (n : ℕ). n ≤ 1) (isFilled b) (λ e. le-refl 1) (λ e. zero-le)
 
 pub named-one : (c : ℕ) (segs : List Segment) (k : ℕ) → uses c (cellsOf (getD segs k [])) ≤ uses c (namedCells segs)
 unfolding namedCells joined
@@ -61,19 +62,19 @@ named-two c (s ∷ segs) (suc j) (suc k) h =
     omega (arith, named-two c segs j k (λ e. h (ap suc e)), uses-append c (cellsOf s) (joined (map cellsOf segs)))
 
 -- a position with a count names its cell, among those that stay
-stays-named : (seg : Segment) (i : ℕ) → 0 < countOf (getD seg i nullPosition) → 0 < uses (cellOf (getD seg i nullPosition)) (referenced seg)
+referenced-named : (seg : Segment) (i : ℕ) → 0 < countOf (getD seg i nullPosition) → 0 < uses (cellOf (getD seg i nullPosition)) (referenced seg)
 unfolding referenced keep cellsOf uses count
-stays-named [] i h = absurd (not-suc-le-zero h)
-stays-named (nullPosition ∷ seg) zero h = absurd (not-suc-le-zero h)
-stays-named (blankPosition ∷ seg) zero h = absurd (not-suc-le-zero h)
-stays-named (nullPosition ∷ seg) (suc i) h = stays-named seg i h
-stays-named (blankPosition ∷ seg) (suc i) h = stays-named seg i h
-stays-named (held b zero ∷ seg) zero h = absurd (not-suc-le-zero h)
-stays-named (held b zero ∷ seg) (suc i) h = stays-named seg i h
-stays-named (held b (suc n) ∷ seg) zero h = omega (arith, uses-here b (referenced seg))
-stays-named (held b (suc n) ∷ seg) (suc i) h = omega (arith, stays-named seg i h)
-stays-named (removed ∷ seg) zero h = absurd (not-suc-le-zero h)
-stays-named (removed ∷ seg) (suc i) h = stays-named seg i h
+referenced-named [] i h = absurd (not-suc-le-zero h)
+referenced-named (nullPosition ∷ seg) zero h = absurd (not-suc-le-zero h)
+referenced-named (blankPosition ∷ seg) zero h = absurd (not-suc-le-zero h)
+referenced-named (nullPosition ∷ seg) (suc i) h = referenced-named seg i h
+referenced-named (blankPosition ∷ seg) (suc i) h = referenced-named seg i h
+referenced-named (held b zero ∷ seg) zero h = absurd (not-suc-le-zero h)
+referenced-named (held b zero ∷ seg) (suc i) h = referenced-named seg i h
+referenced-named (held b (suc n) ∷ seg) zero h = omega (arith, uses-here b (referenced seg))
+referenced-named (held b (suc n) ∷ seg) (suc i) h = omega (arith, referenced-named seg i h)
+referenced-named (removed ∷ seg) zero h = absurd (not-suc-le-zero h)
+referenced-named (removed ∷ seg) (suc i) h = referenced-named seg i h
 
 -- ---- one record in place of another, and other cells
 
@@ -107,7 +108,7 @@ module _ (a : Storage) (x : Exact a) (k : ℕ) (hk : k < length (a .records)) (s
       go true e = rw (eqb-true j k e, at-k) (here i (rw (eqb-true j k e) at p))
       go false e =
           let c : ℕ = cellOf (getD (getD (a .records) j []) i nullPosition) in
-          let u : 0 < uses c (referenced (getD (a .records) j [])) = stays-named (getD (a .records) j []) i p in
+          let u : 0 < uses c (referenced (getD (a .records) j [])) = referenced-named (getD (a .records) j []) i p in
           let q = eqb-false j k e in
           rw (at-other j q)
           (other c (omega (arith, u, uses-split c (getD (a .records) j []), named-two c (a .records) j k q, x c, bit-most (getD (a .cells) c [])))
@@ -166,18 +167,18 @@ moved-block f cells (removed ∷ seg) at g zero h = absurd (not-suc-le-zero h)
 moved-block f cells (removed ∷ seg) at g (suc i) h = moved-block f cells seg at g i h
 
 -- where nothing stays, no position has a count
-none-stays : (seg : Segment) → length (referenced seg) ≡ 0 → (i : ℕ) → countOf (getD seg i nullPosition) ≡ 0
+none-referenced : (seg : Segment) → length (referenced seg) ≡ 0 → (i : ℕ) → countOf (getD seg i nullPosition) ≡ 0
 unfolding referenced keep cellsOf
-none-stays [] e i = refl
-none-stays (nullPosition ∷ seg) e zero = refl
-none-stays (blankPosition ∷ seg) e zero = refl
-none-stays (nullPosition ∷ seg) e (suc i) = none-stays seg e i
-none-stays (blankPosition ∷ seg) e (suc i) = none-stays seg e i
-none-stays (held b zero ∷ seg) e zero = refl
-none-stays (held b zero ∷ seg) e (suc i) = none-stays seg e i
-none-stays (held b (suc n) ∷ seg) e i = absurd (suc-ne-zero (length (referenced seg)) e)
-none-stays (removed ∷ seg) e zero = refl
-none-stays (removed ∷ seg) e (suc i) = none-stays seg e i
+none-referenced [] e i = refl
+none-referenced (nullPosition ∷ seg) e zero = refl
+none-referenced (blankPosition ∷ seg) e zero = refl
+none-referenced (nullPosition ∷ seg) e (suc i) = none-referenced seg e i
+none-referenced (blankPosition ∷ seg) e (suc i) = none-referenced seg e i
+none-referenced (held b zero ∷ seg) e zero = refl
+none-referenced (held b zero ∷ seg) e (suc i) = none-referenced seg e i
+none-referenced (held b (suc n) ∷ seg) e i = absurd (suc-ne-zero (length (referenced seg)) e)
+none-referenced (removed ∷ seg) e zero = refl
+none-referenced (removed ∷ seg) e (suc i) = none-referenced seg e i
 
 free-count : (n i : ℕ) → countOf (getD (replicate n nullPosition) i nullPosition) ≡ 0
 free-count zero i = refl
@@ -205,7 +206,7 @@ module _ (m : Measures) (a : Storage) (x : Exact a) (k : ℕ) (hk : k < length (
       ap (λ (q : Position). getD (clearCells (m .blockBytes) (a .cells) (unreferenced seg)) (cellOf q) []) (List·getD-map struck seg i nullPosition)
       ∙ ap (λ (y : ℕ). getD (clearCells (m .blockBytes) (a .cells) (unreferenced seg)) y []) (struck-cell (getD seg i nullPosition) p)
       ∙ clear-out m (unreferenced seg) (a .cells) c
-      (omega (arith, stays-named seg i p, uses-split c seg, named-one c (a .records) k, x c, bit-most (getD (a .cells) c []))))
+      (omega (arith, referenced-named seg i p, uses-split c seg, named-one c (a .records) k, x c, bit-most (getD (a .cells) c []))))
       (λ c u n. clear-out m (unreferenced seg) (a .cells) c (omega (arith, u, uses-split c seg)))
       exact
     where
@@ -251,8 +252,8 @@ module _ (m : Measures) (a : Storage) (x : Exact a) (k : ℕ) (hk : k < length (
   unfolding freeRecord freeSegment seg
   free-keeps e =
       keeps-by a x k hk (replicate (m .segmentBlocks) nullPosition) (clearCells (m .blockBytes) (a .cells) (cellsOf seg))
-      (λ i. free-count (m .segmentBlocks) i ∙ sym (none-stays seg e i))
-      (λ i p. absurd (not-suc-le-zero (subst (λ (n : ℕ). 0 < n) (none-stays seg e i) p)))
+      (λ i. free-count (m .segmentBlocks) i ∙ sym (none-referenced seg e i))
+      (λ i p. absurd (not-suc-le-zero (subst (λ (n : ℕ). 0 < n) (none-referenced seg e i) p)))
       (λ c u n. clear-out m (cellsOf seg) (a .cells) c u)
       free-exact
 
@@ -365,10 +366,10 @@ module _ (m : Measures) (a : Storage) (x : Exact a) (k : ℕ) (hk : k < length (
       by-test (Keeps a) (eqb r 0)
       (λ e. record { counts = λ j i. refl; blocks = λ j i p. refl; exact = x; recordCount = refl })
       (λ e. by-test (Keeps a) (eqb r s)
-      (λ q. free-keeps (omega (arith, staying-count seg, eqb-true r s q)))
+      (λ q. free-keeps (omega (arith, referenced-count seg, eqb-true r s q)))
       (λ q. by-test (Keeps a) (ltb (100 * r) (m .rebuildPercent * s))
       (λ t. strike-keeps)
-      (λ t. compact-any (s - r) (omega (arith, staying-count seg)) (findRun a (s - r)) (find-ok a (s - r)))))
+      (λ t. compact-any (s - r) (omega (arith, referenced-count seg)) (findRun a (s - r)) (find-ok a (s - r)))))
 
 keeps-trans : (a b c : Storage) → Keeps a b → Keeps b c → Keeps a c
 keeps-trans a b c f g = record {

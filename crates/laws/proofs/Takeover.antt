@@ -7,7 +7,7 @@ use native.Mathlib.Nat.{suc-ne-zero}
 use native.Mathlib.Omega.{arith}
 use lib.ListN.{length, getD, length-map, List·getD-map}
 use lib.Dec.{eqb}
-use Rattle.lists.specs.Lists.{every, count}
+use Rattle.lists.specs.Lists.{every, count, lastOf}
 use Rattle.lists.specs.Rows.{joined}
 use Rattle.lists.specs.Each.{Each}
 use Rattle.lists.proofs.Tests.{all-true, clause}
@@ -71,11 +71,11 @@ module _ (gone : List Pointer) where
   take-end (direct k i) f = refl
   take-end (indirect n) f = refl
 
-  take-leads : (a : Storage) (next : List Pointer) → every (resolves a next) gone ≡ true → (p : Pointer) → resolves a gone p ≡ true → resolves a next (takeOver gone p) ≡ true
-  take-leads a next h nullPointer l = refl
-  take-leads a next h blankPointer l = refl
-  take-leads a next h (direct k i) l = l
-  take-leads a next h (indirect n) l = lead-at a next gone h n
+  taken-resolves : (a : Storage) (next : List Pointer) → every (resolves a next) gone ≡ true → (p : Pointer) → resolves a gone p ≡ true → resolves a next (takeOver gone p) ≡ true
+  taken-resolves a next h nullPointer l = refl
+  taken-resolves a next h blankPointer l = refl
+  taken-resolves a next h (direct k i) l = l
+  taken-resolves a next h (indirect n) l = lead-at a next gone h n
 
   take-null : (a : Storage) (p : Pointer) → resolves a gone p ≡ true → isNull (takeOver gone p) ≡ isNull p
   take-null a nullPointer l = refl
@@ -112,21 +112,9 @@ module _ (gone : List Pointer) where
 -- ---- versions
 
 module _ (v : Version) (newer : List Version) where
-  -- with no older neighbour, and with one
-  pub close-none : closeUp [] v newer ≡ newer
-  unfolding closeUp withNewestPointers
-  close-none = refl
-
-  pub close-last : (us : List Version) (u : Version)
-      → closeUp (us ++ (u ∷ [])) v newer ≡ us ++ (withPointers u (map (takeOver (v .pointers)) (u .pointers)) ∷ newer)
-  unfolding closeUp
-  close-last us u =
-      ap (λ (ps : List Pointer). withNewestPointers (us ++ (u ∷ [])) (map (takeOver (v .pointers)) ps) ++ newer) (newest-last us u)
-      ∙ with-last us u (map (takeOver (v .pointers)) (u .pointers)) newer
-
   -- the ends are the same
   pub close-ends : (u : Version) (older : List Version) (n : ℕ) → endOf (closeUp (u ∷ older) v newer) n ≡ endOf (u ∷ (older ++ (v ∷ newer))) n
-  unfolding endOf closeUp withNewestPointers newestPointers
+  unfolding endOf closeUp withNewestPointers lastOf newestPointers
   close-ends u [] n =
       ap (λ (p : Pointer). endVia p (λ b. endOf newer b)) (take-at (v .pointers) (u .pointers) n)
       ∙ take-end (v .pointers) (getD (u .pointers) n nullPointer) (λ b. endOf newer b)
@@ -142,7 +130,7 @@ module _ (v : Version) (newer : List Version) where
       → count (leadsTo k i) (pointersOf (closeUp older v newer))
       ≡ count (leadsTo k i) (pointersOf older) + count (leadsTo k i) (map (taken (v .pointers)) (newestPointers older)) + count (leadsTo k i) (pointersOf newer)
   unfolding closeUp
-  close-count k i [] = unfold withNewestPointers newestPointers count joined in omega arith
+  close-count k i [] = unfold withNewestPointers lastOf newestPointers count joined in omega arith
   close-count k i (u ∷ older) =
       omega (
         arith,
@@ -154,14 +142,14 @@ module _ (v : Version) (newer : List Version) where
   module _ (s : Shape) (a : Storage) where
     next-null : (u : Version) (older : List Version) → areTraceable (s .measures .blockBytes) (s .capacities .blocks) a (u ∷ (older ++ (v ∷ newer))) ≡ true → (n : ℕ)
         → isNull (getD (nextPointers (closeUp (u ∷ older) v newer)) n nullPointer) ≡ isNull (getD (u .pointers) n nullPointer)
-    unfolding closeUp withNewestPointers newestPointers nextPointers areTraceable
+    unfolding closeUp withNewestPointers lastOf newestPointers nextPointers areTraceable
     next-null u [] h n =
         ap isNull (take-at (v .pointers) (u .pointers) n) ∙ take-null (v .pointers) a (getD (u .pointers) n nullPointer) (lead-at a (v .pointers) (u .pointers) (clause _ 1 h) n)
     next-null u (w ∷ older) h n = refl
 
     close-some : (u : Version) (older : List Version) → areTraceable (s .measures .blockBytes) (s .capacities .blocks) a (u ∷ (older ++ (v ∷ newer))) ≡ true
         → areTraceable (s .measures .blockBytes) (s .capacities .blocks) a (closeUp (u ∷ older) v newer) ≡ true
-    unfolding closeUp withNewestPointers newestPointers nextPointers areTraceable hasLength
+    unfolding closeUp withNewestPointers lastOf newestPointers nextPointers areTraceable hasLength
     close-some u [] h =
         all-true _ (
           all-true _ (
@@ -169,7 +157,7 @@ module _ (v : Version) (newer : List Version) where
             (ap (λ (n : ℕ). eqb n (partsFor (s .measures .blockBytes) (u .length))) (length-map (u .pointers) (takeOver (v .pointers))) ∙ clause _ 1 (clause _ 0 h), tt),
           ),
           (
-            every-map a (takeOver (v .pointers)) (v .pointers) (nextPointers newer) (take-leads (v .pointers) a (nextPointers newer) (clause _ 1 (clause _ 3 h))) (u .pointers) (clause _ 1 h),
+            every-map a (takeOver (v .pointers)) (v .pointers) (nextPointers newer) (taken-resolves (v .pointers) a (nextPointers newer) (clause _ 1 (clause _ 3 h))) (u .pointers) (clause _ 1 h),
             (
               ends-same (s .measures) a u (withPointers u (map (takeOver (v .pointers)) (u .pointers))) (v ∷ newer) newer refl
                   (length-map (u .pointers) (takeOver (v .pointers))) (close-traced (s .measures .blockBytes) a u []) (clause _ 2 h),

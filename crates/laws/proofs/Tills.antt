@@ -7,6 +7,7 @@ use native.Mathlib.Nat.{add-zero, mul-le-mul-right, suc-mul}
 use native.Mathlib.Omega.{arith}
 use lib.ListN.{length, getD, take, drop, length-map, List·getD-map}
 use lib.Dec.{eqb, ltb, lit<}
+use Rattle.lists.proofs.Last.{last-at}
 use Rattle.lists.proofs.Tests.{by-test}
 use lib.Seq.{getD-take, getD-drop}
 use borrow.Author.Tests.{eqb-false, eq-eqb, ne-eqb, leb-true}
@@ -59,14 +60,12 @@ oldest-at (v ∷ vs) = refl
 
 pub newest-at : (v : Version) (vs : List Version) → newestNumber (v ∷ vs) ≡ getD (map (λ (w : Version). w .number) (v ∷ vs)) (length vs) 0
 unfolding newestNumber
-newest-at v [] = refl
-newest-at v (w ∷ vs) = newest-at w vs
+newest-at v vs = last-at (λ (w : Version). w .number) 0 0 v vs
 
 -- the newest day
 pub newest-day-at : (v : Version) (vs : List Version) → newestDay (v ∷ vs) ≡ getD (map (λ (w : Version). w .day) (v ∷ vs)) (length vs) 0
 unfolding newestDay
-newest-day-at v [] = refl
-newest-day-at v (w ∷ vs) = newest-day-at w vs
+newest-day-at v vs = last-at (λ (w : Version). w .day) 0 0 v vs
 
 -- ---- a till of a sound store
 

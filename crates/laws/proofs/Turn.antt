@@ -9,7 +9,7 @@ use native.Mathlib.Omega.{arith}
 use lib.ListN.{length, getD, drop, length-map, List·getD-map, List·getD-eq-default}
 use lib.Dec.{eqb, ltb}
 use borrow.Author.Tests.{ltb-true, ltb-false}
-use Rattle.lists.specs.Lists.{every, keep, count, firstFrom, sameNumbers, allZero, isSome}
+use Rattle.lists.specs.Lists.{every, keep, count, firstFrom, sameNumbers, allZero, isSome, lastOf}
 use Rattle.lists.specs.Each.{Each}
 use Rattle.model.specs.Measures.{Measures, Shape, partsFor}
 use Rattle.model.specs.State.{Block, Pointer, nullPointer, blankPointer, direct, indirect, Storage, Version, withPointers}
@@ -123,11 +123,11 @@ module _ (era : Era) (m : Measures) (p : Storage) (x : Exact p) (bs : List Block
           ∙ ap allZero (List·getD-eq-default (p .cells) [] (ltb-false c (length (p .cells)) e)) ∙ (unfold allZero every in refl)))
 
   -- what leads from the newest version leads from it when it is the previous one
-  turned-leads : (new : List Pointer) → NewOk era m p bs new → (q : Pointer) → resolves p [] q ≡ true → resolves p new (turned q) ≡ true
+  turned-resolves : (new : List Pointer) → NewOk era m p bs new → (q : Pointer) → resolves p [] q ≡ true → resolves p new (turned q) ≡ true
   unfolding turned target positionAt
-  turned-leads new ok nullPointer h = refl
-  turned-leads new ok blankPointer h = refl
-  turned-leads new ok (direct k i) h = go (target era p bs (direct k i)) (target-ok (direct k i))
+  turned-resolves new ok nullPointer h = refl
+  turned-resolves new ok blankPointer h = refl
+  turned-resolves new ok (direct k i) h = go (target era p bs (direct k i)) (target-ok (direct k i))
     where
       go : (o : Option Pointer) → TurnOk (blockAt (m .blockBytes) p (direct k i)) o → resolves p new (foundOr (direct k i) o) ≡ true
       go none t = h
@@ -135,7 +135,7 @@ module _ (era : Era) (m : Measures) (p : Storage) (x : Exact p) (bs : List Block
       go (some blankPointer) t = refl
       go (some (direct k′ i′)) t = absurd t
       go (some (indirect j)) t = unfold blockAt cellAt in (ap not (ok .nulls j (t .0) ∙ ap allZero (sym (t .1)) ∙ held-full k i h))
-  turned-leads new ok (indirect n) h = absurd (false≢true h)
+  turned-resolves new ok (indirect n) h = absurd (false≢true h)
 
   -- a turned pointer of the newest version ends at the same block
   turned-block : (new : List Pointer) → NewOk era m p bs new → (f : ℕ → Pointer) → ((j : ℕ) → f j ≡ getD new j nullPointer) → (q : Pointer) → resolves p [] q ≡ true
@@ -222,7 +222,7 @@ module _ (era : Era) (s : Shape) (p : Storage) (x : Exact p) (bs : List Block) (
 
   pub traced-same : (v : Version) (vs : List Version) → areTraceable (s .measures .blockBytes) (s .capacities .blocks) p (v ∷ vs) ≡ true → (n : ℕ)
       → blockAt (s .measures .blockBytes) p (endOf (extended (v ∷ vs)) n) ≡ blockAt (s .measures .blockBytes) p (endOf (v ∷ vs) n)
-  unfolding extended withNewestPointers newestPointers endOf areTraceable nextPointers
+  unfolding extended withNewestPointers lastOf newestPointers endOf areTraceable nextPointers
   traced-same v [] h n =
       let q : Pointer = getD (v .pointers) n nullPointer in
       let l : resolves p [] q ≡ true = lead-at p [] (v .pointers) (clause _ 1 h) n in
@@ -234,19 +234,19 @@ module _ (era : Era) (s : Shape) (p : Storage) (x : Exact p) (bs : List Block) (
 
   next-null : (v : Version) (vs : List Version) (n : ℕ)
       → isNull (getD (nextPointers (extended (v ∷ vs))) n nullPointer) ≡ isNull (getD (v .pointers) n nullPointer)
-  unfolding extended withNewestPointers newestPointers nextPointers
+  unfolding extended withNewestPointers lastOf newestPointers nextPointers
   next-null v [] n = ap isNull (turn-at era (s .measures) p x bs (v .pointers) n) ∙ turned-null era (s .measures) p x bs (getD (v .pointers) n nullPointer)
   next-null v (w ∷ vs) n = refl
 
   module _ (len : hasLength (s .measures .blockBytes) (s .capacities .blocks) newV ≡ true) (lead : every (resolves p []) (newV .pointers) ≡ true) (end : endsZero (s .measures .blockBytes) p newV [] ≡ true) where
     pub extended-traceable : (vs : List Version) → areTraceable (s .measures .blockBytes) (s .capacities .blocks) p vs ≡ true → areTraceable (s .measures .blockBytes) (s .capacities .blocks) p (extended vs) ≡ true
-    unfolding extended withNewestPointers newestPointers areTraceable nextPointers hasLength turn turned tracedBlock
+    unfolding extended withNewestPointers lastOf newestPointers areTraceable nextPointers hasLength turn turned tracedBlock
     extended-traceable [] h = all-true _ (len, (lead, (end, (refl, tt))))
     extended-traceable (v ∷ []) h =
         all-true _ (
           all-true _ (clause _ 0 (clause _ 0 h), (ap (λ (n : ℕ). eqb n (partsFor (s .measures .blockBytes) (v .length))) (turn-length era p bs (v .pointers)) ∙ clause _ 1 (clause _ 0 h), tt)),
           (
-            every-map p (turned era (s .measures) p x bs) [] (newV .pointers) (turned-leads era (s .measures) p x bs (newV .pointers) ok) (v .pointers) (clause _ 1 h),
+            every-map p (turned era (s .measures) p x bs) [] (newV .pointers) (turned-resolves era (s .measures) p x bs (newV .pointers) ok) (v .pointers) (clause _ 1 h),
             (
               ends-same (s .measures) p v (withPointers v (turn era p bs (v .pointers))) [] (newV ∷ []) refl
                   (turn-length era p bs (v .pointers)) (traced-same v [] h) (clause _ 2 h),

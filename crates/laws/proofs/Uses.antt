@@ -1,6 +1,6 @@
 -- How often a cell is named, as a number: the invariants on cells become equations that `omega` adds up.
 use mathlib.Core.Path.{_≡_, refl, sym, ap, _∙_, subst}
-use mathlib.Core.Bool.{Bool, true, false, cond}
+use mathlib.Core.Bool.{Bool, true, false, cond, not}
 use mathlib.Core.List.{List, [], _∷_, _++_, map}
 use Prim.Native.Nat.{ℕ, zero, suc, _+_, _-_, _≤_, _<_}
 use native.Mathlib.Nat.{add-assoc, zero-add, suc-add, add-suc, add-zero, not-suc-le-zero, le-of-suc-le-suc, suc-ne-zero}
@@ -34,7 +34,7 @@ named-set c (s ∷ segs) (suc k) seg h =
 
 zero-bit : (m : Measures) → filledBit (zeroBlock (m .blockBytes)) ≡ 0
 unfolding filledBit zeroBlock
-zero-bit m = ap (λ (b : Bool). cond b 0 1) (zeros-zero (m .blockBytes))
+zero-bit m = ap (λ (b : Bool). cond (not b) 1 0) (zeros-zero (m .blockBytes))
 
 pub nothing-bit : filledBit [] ≡ 0
 unfolding filledBit allZero every
@@ -120,11 +120,11 @@ moved-cells (held b zero ∷ seg) at = moved-cells seg at
 moved-cells (held b (suc n) ∷ seg) at = ap {B = List ℕ} (λ r. at ∷ r) (moved-cells seg (suc at))
 moved-cells (removed ∷ seg) at = moved-cells seg at
 
-pub staying-count : (seg : Segment) → count isUnreferenced seg + length (referenced seg) ≡ count isHeld seg
+pub referenced-count : (seg : Segment) → count isUnreferenced seg + length (referenced seg) ≡ count isHeld seg
 unfolding referenced cellsOf keep count
-staying-count [] = refl
-staying-count (nullPosition ∷ seg) = omega (arith, staying-count seg)
-staying-count (blankPosition ∷ seg) = omega (arith, staying-count seg)
-staying-count (held b zero ∷ seg) = omega (arith, staying-count seg)
-staying-count (held b (suc n) ∷ seg) = omega (arith, staying-count seg)
-staying-count (removed ∷ seg) = omega (arith, staying-count seg)
+referenced-count [] = refl
+referenced-count (nullPosition ∷ seg) = omega (arith, referenced-count seg)
+referenced-count (blankPosition ∷ seg) = omega (arith, referenced-count seg)
+referenced-count (held b zero ∷ seg) = omega (arith, referenced-count seg)
+referenced-count (held b (suc n) ∷ seg) = omega (arith, referenced-count seg)
+referenced-count (removed ∷ seg) = omega (arith, referenced-count seg)

@@ -1,6 +1,6 @@
 -- Soundness, which is a test, in the equations that the proofs use, and back.
 use mathlib.Core.Path.{_≡_, refl, sym, ap, _∙_, subst}
-use mathlib.Core.Bool.{Bool, true, false, cond, not, false≢true, Bool·beq}
+use mathlib.Core.Bool.{Bool, true, false, false≢true, Bool·beq}
 use mathlib.Core.List.{List, [], _∷_}
 use Prim.Native.Nat.{ℕ, zero, suc, _+_, _-_, _≤_, _<_, zero-le, suc-le-suc}
 use native.Mathlib.Nat.{zero-add, add-zero, suc-add, add-suc, not-suc-le-zero, le-of-suc-le-suc, zero-lt-suc}
@@ -8,10 +8,10 @@ use native.Mathlib.Omega.{arith}
 use lib.ListN.{length, getD, List·getD-eq-default}
 use lib.Dec.{eqb, ltb}
 use borrow.Author.Tests.{eqb-true, lt-ltb, ltb-true, ltb-false}
-use Rattle.lists.specs.Lists.{every, isIn, distinct, allZero, uses}
+use Rattle.lists.specs.Lists.{every, isIn, distinct, uses}
 use Rattle.model.specs.State.{Block, Storage}
 use Rattle.model.specs.Records.{namedCells}
-use Rattle.model.specs.Sound.{hasCells, areFilled}
+use Rattle.model.specs.Sound.{hasCells, isFilled, areFilled}
 use Rattle.laws.proofs.Uses.{nothing-bit}
 use Rattle.laws.specs.Storage.{filledBit, Exact}
 use Rattle.laws.proofs.Sweep.{bit-most}
@@ -21,24 +21,24 @@ use Rattle.lists.proofs.Uses.{all-below, below-all, beq-by, distinct-most, exac
 -- ---- membership as a number
 
 filled-at : (named : List ℕ) (i : ℕ) (cells : List Block) → areFilled named i cells ≡ true → (j : ℕ) → j < length cells
-    → Bool·beq (isIn (i + j) named) (not (allZero (getD cells j []))) ≡ true
+    → Bool·beq (isIn (i + j) named) (isFilled (getD cells j [])) ≡ true
 unfolding areFilled
 filled-at named i [] h j b = absurd (not-suc-le-zero b)
-filled-at named i (x ∷ cells) h zero b = ap (λ (n : ℕ). Bool·beq (isIn n named) (not (allZero x))) (add-zero i) ∙ clause _ 0 h
+filled-at named i (x ∷ cells) h zero b = ap (λ (n : ℕ). Bool·beq (isIn n named) (isFilled x)) (add-zero i) ∙ clause _ 0 h
 filled-at named i (x ∷ cells) h (suc j) b =
-    ap (λ (n : ℕ). Bool·beq (isIn n named) (not (allZero (getD cells j [])))) (add-suc i j ∙ sym (suc-add i j))
+    ap (λ (n : ℕ). Bool·beq (isIn n named) (isFilled (getD cells j []))) (add-suc i j ∙ sym (suc-add i j))
     ∙ filled-at named (suc i) cells (clause _ 1 h) j (le-of-suc-le-suc b)
 
 at-filled : (named : List ℕ) (i : ℕ) (cells : List Block)
-    → ((j : ℕ) → j < length cells → Bool·beq (isIn (i + j) named) (not (allZero (getD cells j []))) ≡ true) → areFilled named i cells ≡ true
+    → ((j : ℕ) → j < length cells → Bool·beq (isIn (i + j) named) (isFilled (getD cells j [])) ≡ true) → areFilled named i cells ≡ true
 unfolding areFilled
 at-filled named i [] h = refl
 at-filled named i (x ∷ cells) h =
     all-true _ (
-      ap (λ (n : ℕ). Bool·beq (isIn n named) (not (allZero x))) (sym (add-zero i)) ∙ h 0 (zero-lt-suc (length cells)),
+      ap (λ (n : ℕ). Bool·beq (isIn n named) (isFilled x)) (sym (add-zero i)) ∙ h 0 (zero-lt-suc (length cells)),
       (
         at-filled named (suc i) cells (λ j b.
-            ap (λ (n : ℕ). Bool·beq (isIn n named) (not (allZero (getD cells j [])))) (suc-add i j ∙ sym (add-suc i j)) ∙ h (suc j) (suc-le-suc b)),
+            ap (λ (n : ℕ). Bool·beq (isIn n named) (isFilled (getD cells j []))) (suc-add i j ∙ sym (add-suc i j)) ∙ h (suc j) (suc-le-suc b)),
         tt,
       ),
     )
@@ -52,10 +52,10 @@ sound-exact storage h g c = go (ltb c (length (storage .cells))) refl
     named : List ℕ
     named = namedCells (storage .records)
 
-    go : (t : Bool) → ltb c (length (storage .cells)) ≡ t → uses c named ≡ cond (allZero (getD (storage .cells) c [])) 0 1
+    go : (t : Bool) → ltb c (length (storage .cells)) ≡ t → uses c named ≡ filledBit (getD (storage .cells) c [])
     go true e =
-        exact-at (uses c named) (isIn c named) (allZero (getD (storage .cells) c [])) (in-uses c named) (not-in c named) (distinct-most c named (clause _ 1 h))
-        (ap (λ (n : ℕ). Bool·beq (isIn n named) (not (allZero (getD (storage .cells) c [])))) (sym (zero-add c))
+        exact-at (uses c named) (isIn c named) (isFilled (getD (storage .cells) c [])) (in-uses c named) (not-in c named) (distinct-most c named (clause _ 1 h))
+        (ap (λ (n : ℕ). Bool·beq (isIn n named) (isFilled (getD (storage .cells) c []))) (sym (zero-add c))
         ∙ filled-at named 0 (storage .cells) g c (ltb-true c (length (storage .cells)) e))
     go false e =
         (let z : uses c named ≡ 0 = none (ltb 0 (uses c named)) refl in z)
@@ -70,8 +70,8 @@ unfolding hasCells filledBit
 exact-sound storage x = (
   all-true _ (all-below n named inside, (most-distinct named (λ c. omega (arith, x c, bit-most (getD (storage .cells) c []))), tt)),
   at-filled named 0 (storage .cells) (λ j b.
-      ap (λ (k : ℕ). Bool·beq (isIn k named) (not (allZero (getD (storage .cells) j [])))) (zero-add j)
-      ∙ beq-by (uses j named) (isIn j named) (allZero (getD (storage .cells) j [])) (uses-in j named) (uses-not-in j named) (x j)),
+      ap (λ (k : ℕ). Bool·beq (isIn k named) (isFilled (getD (storage .cells) j []))) (zero-add j)
+      ∙ beq-by (uses j named) (isIn j named) (isFilled (getD (storage .cells) j [])) (uses-in j named) (uses-not-in j named) (x j)),
 )
   where
     n : ℕ

@@ -5,15 +5,15 @@ use mathlib.Core.List.{List, []}
 use Prim.Native.Nat.{ℕ, _≤_}
 use lib.ListN.{length, getD}
 use Rattle.lists.specs.Each.{Each}
-use Rattle.lists.specs.Lists.{count, uses, allZero}
+use Rattle.lists.specs.Lists.{count, uses}
 use Rattle.model.specs.Measures.{Measures}
 use Rattle.model.specs.State.{Block, Pointer, nullPosition, Segment, Storage}
 use Rattle.model.specs.Records.{countOf, namedCells}
-use Rattle.model.specs.Sound.{isFreeOrHolds, leadsTo}
+use Rattle.model.specs.Sound.{isFreeOrHolds, leadsTo, isFilled}
 
--- 0 for a block of zeros, or past the end, and 1 for any other
+-- 1 for a block that is filled, and 0 for one of zeros, or past the end
 unfoldable pub filledBit : Block → ℕ
-filledBit b = cond (allZero b) 0 1
+filledBit b = cond (isFilled b) 1 0
 
 -- Each cell is named once if it is not zero, and not at all if it is zero or past the end.
 abbrev pub Exact : Storage → Type 0

@@ -4,7 +4,7 @@ use mathlib.Core.List.{List}
 use mathlib.Core.Option.{some}
 use Prim.Native.Nat.{ℕ, _+_, _*_, _≤_}
 use lib.ListN.{length, getD}
-use Rattle.model.specs.Measures.{Shape, tillWords, recordsAt}
+use Rattle.model.specs.Measures.{Shape, tillWords}
 use Rattle.model.specs.Table.{shapeOf, stateIn}
 use Rattle.model.specs.Sound.{Store, storeOf}
 use Rattle.laws.specs.Ranges.{Measured}
@@ -12,10 +12,6 @@ use Rattle.laws.specs.Ranges.{Measured}
 -- a till's words begin here
 abbrev pub tillAt : Shape → ℕ → ℕ
 tillAt s t = 8 + t * tillWords (s .capacities .versions) (s .capacities .blocks)
-
--- the records' words begin here
-abbrev pub recordsFrom : Shape → ℕ
-recordsFrom s = recordsAt (s .capacities .tills) (s .capacities .versions) (s .capacities .blocks)
 
 abbrev pub storeRead : List ℕ → List ℕ → Store
 storeRead pool table = record { shape = shapeOf table; state = stateIn (shapeOf table) pool table }

@@ -3,11 +3,11 @@ use mathlib.Core.Path.{_≡_, refl, sym, ap, ap₂, _∙_}
 use mathlib.Core.Bool.{Bool, true, false, not, cond, _&&_, false≢true}
 use mathlib.Core.List.{List, [], _∷_, _++_, map}
 use Prim.Native.Nat.{ℕ, zero, suc, _+_, _*_, _/_, _≤_, _<_}
-use native.Mathlib.Nat.{zero-mul, suc-mul, mul-le-mul}
+use native.Mathlib.Nat.{zero-mul, suc-mul, mul-le-mul, le-div-iff-mul-le}
 use native.Mathlib.Omega.{arith}
 use lib.ListN.{length, getD, set, replicate, length-replicate, length-set}
 use lib.Dec.{eqb, leb, lit<}
-use borrow.Author.Tests.{lt-leb, le-leb, leb-true, eqb-true, eq-eqb, ne-eqb}
+use borrow.Author.Tests.{lt-leb, le-leb, leb-true, leb-false, eqb-true, eq-eqb, ne-eqb}
 use Rattle.lists.specs.Lists.{allOf, isIn}
 use Rattle.lists.specs.Rows.{joined, rows, fill}
 use Rattle.lists.proofs.Each.{each-in}
@@ -41,6 +41,18 @@ above low high n h = rw (le-leb low n h) (go (leb n high))
     go true = refl
     go false = refl
 
+-- blocks per image by a product, as the code has it
+pub by-product : (bytes n : ℕ) → 0 < bytes → 1 ≤ n → leb (n * bytes) 65536 ≡ isWithin 1 (65536 / bytes) n
+by-product bytes n b h = go (leb n (65536 / bytes)) refl (leb (n * bytes) 65536) refl ∙ above 1 (65536 / bytes) n h
+  where
+    go : (t : Bool) → leb n (65536 / bytes) ≡ t → (s : Bool) → leb (n * bytes) 65536 ≡ s → leb (n * bytes) 65536 ≡ leb n (65536 / bytes)
+    go true e s f = le-leb (n * bytes) 65536 (le-div-iff-mul-le b .0 (leb-true n (65536 / bytes) e)) ∙ sym e
+    go false e false f = f ∙ sym e
+    go false e true f =
+        let p : n ≤ 65536 / bytes = le-div-iff-mul-le b .1 (leb-true (n * bytes) 65536 f) in
+        let q : 65536 / bytes < n = leb-false n (65536 / bytes) e in
+        absurd (omega (arith, p, q))
+
 pub size-of : (n x : ℕ) (xs : List ℕ) → n ≡ x → true ≡ isIn n (x ∷ xs)
 unfolding isIn
 size-of n x xs e = rw (eq-eqb n x e)
@@ -65,10 +77,6 @@ module _ (m : Measures) where
   unfolding areMeasures
   by-percent a b = sym (all-last (isIn (m .blockBytes) (64 ∷ 128 ∷ 256 ∷ 512 ∷ []) ∷ isIn (m .segmentBlocks) (4 ∷ 8 ∷ 16 ∷ []) ∷ []) _ (a, (b, tt)))
 
-  pub some-bytes : areMeasures m ≡ true → 0 < m .blockBytes
-  unfolding areMeasures
-  some-bytes h = each-in (λ n. 0 < n) (m .blockBytes) (64 ∷ 128 ∷ 256 ∷ 512 ∷ []) (clause _ 0 h) (lit< tt, (lit< tt, (lit< tt, (lit< tt, tt))))
-
 module _ (s : Shape) where
   abbrev pub tests : List Bool
   tests =
@@ -88,10 +96,6 @@ module _ (s : Shape) where
       → isWithin 1 32768 (s .capacities .cells) ≡ inRange s
   unfolding inRange allOf
   by-cells a b c d m = rw (a, b, c, d, m) (sym (cond-self (isWithin 1 32768 (s .capacities .cells))))
-
-  -- by the most blocks of an image, as code has it
-  pub by-most : (most : ℕ) (b : Bool) → most ≡ 65536 / s .measures .blockBytes → isWithin 1 most (s .capacities .blocks) ≡ b → getD tests 2 true ≡ b
-  by-most most b e h = rw (sym e) h
 
 pub capacities-read : (table : List ℕ) (m : Measures) → m ≡ shapeOf table .measures
     → record {

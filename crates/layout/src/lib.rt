@@ -4,12 +4,13 @@ ghost use mathlib.Core.Path.{_≡_};
 ghost use mathlib.Core.List.{[], _∷_};
 ghost use Prim.Native.Nat.{ℕ, _+_, _*_, _/_, _≤_, _<_};
 ghost use lib.Dec.{eqb};
-ghost use lib.ListN.{length, set};
+ghost use lib.ListN.{length, getD, set};
 ghost use Rattle.lists.specs.Lists.{isIn};
-ghost use Rattle.model.specs.Measures.{isWithin, areMeasures, inRange, poolBytes, tableWords};
+ghost use Rattle.model.specs.Measures.{isWithin, areMeasures, inRange, tillWords, recordsAt, poolBytes, tableWords};
 ghost use Rattle.model.specs.Table.{measureWord, shapeOf, stateToWords, stateToBytes};
 ghost use Rattle.model.specs.Calls.{tableLengthOf, layoutOf, emptyState};
 ghost use Rattle.laws.specs.Ranges.{Ranges};
+ghost use Rattle.laws.specs.Stores.{HeaderRanges};
 ghost use Rattle.numbers.specs.Measures.{measuresOf};
 ghost use Rattle.layout.specs.Layout.{shape, lengthAnswer, layoutAnswer};
 use numbers::Measures;
@@ -55,6 +56,22 @@ pub fn capacities_in(table: &[u32]) -> Capacities
         cells: table[4],
         measures: measures_in(table),
     }
+}
+
+// How many words a till has.
+pub fn till_words(table: &[u32]) -> usize
+    requires { ⌜ HeaderRanges (now table) ⌝ }
+    ensures { λ r. ⌜ r ≡ tillWords (getD (now (table .entry)) 1 0) (getD (now (table .entry)) 2 0) ⌝ }
+{
+    4 + table[1] as usize * (3 + table[2] as usize)
+}
+
+// Where the records' words begin.
+pub fn records_at(table: &[u32]) -> usize
+    requires { ⌜ HeaderRanges (now table) ⌝ }
+    ensures { λ r. ⌜ r ≡ recordsAt (shapeOf (now (table .entry)) .capacities) ⌝ }
+{
+    HEADER_WORDS + table[0] as usize * till_words(table)
 }
 
 fn within(low: u32, high: u32, n: u32) -> bool
@@ -105,12 +122,15 @@ fn are_measures(m: Measures) -> bool
     m.percent <= 100
 }
 
-// The most blocks of so many bytes that an image has.
-fn most_blocks(bytes: usize) -> u32
-    requires { ⌜ 0 < bytes ⌝ }
-    ensures { λ r. ⌜ r ≡ 65536 / bytes ⌝ }
+// Whether an image may have so many blocks of so many bytes: at most 65,536 bytes, which takes no division.
+fn blocks_within(bytes: usize, blocks: u32) -> bool
+    requires { ⌜ (0 < bytes) × (bytes ≤ 512) ⌝ }
+    ensures { λ r. ⌜ r ≡ isWithin 1 (65536 / bytes) blocks ⌝ }
 {
-    (65536 / bytes) as u32
+    if blocks < 1 {
+        return false;
+    }
+    blocks as usize * bytes <= 65536
 }
 
 // Whether all are in range, of measures that are.
@@ -125,7 +145,7 @@ fn room_in_range(c: Capacities) -> bool
     if !within(1, 64, c.versions) {
         return false;
     }
-    if !within(1, most_blocks(m.bytes), c.blocks) {
+    if !blocks_within(m.bytes, c.blocks) {
         return false;
     }
     if !within(1, 4096, c.records) {

@@ -11,9 +11,10 @@ use lib.ListN.{length, getD, set, replicate, length-set, length-replicate}
 use lib.Seq.{getD-set-same, getD-set-other}
 use Rattle.lists.specs.Lists.{every, isIn, distinct}
 use Rattle.lists.specs.Rows.{joined}
-use Rattle.lists.specs.Marks.{fits, marked, collect}
+use Rattle.lists.specs.Marks.{fits, marked}
 use Rattle.lists.proofs.Checkers.{clash}
 use Rattle.lists.proofs.Counted.{counted-is}
+use Rattle.lists.proofs.Marks.{collect}
 use Rattle.lists.proofs.Tests.{cond-true}
 
 -- ---- collect

@@ -19,10 +19,6 @@ unfolding every
 every-append f [] ys = refl
 every-append f (x ∷ xs) ys = rw (every-append f xs ys) (cond-nested (f x) (every f xs) (every f ys))
 
-pub zero-append : (xs ys : List ℕ) → allZero (xs ++ ys) ≡ cond (allZero xs) (allZero ys) false
-unfolding allZero
-zero-append xs ys = every-append (λ x. eqb x 0) xs ys
-
 pub same-append : (xs ys us vs : List ℕ) → length xs ≡ length us → sameNumbers (xs ++ ys) (us ++ vs) ≡ cond (sameNumbers xs us) (sameNumbers ys vs) false
 unfolding sameNumbers
 same-append [] ys [] vs e = refl

@@ -25,10 +25,6 @@ is-not f = record { holds = λ e. absurd (clash refl e); seen = λ p. absurd (f 
 pub itself : (r : Bool) → Decides r (r ≡ true)
 itself r = record { holds = λ e. e; seen = λ e. e }
 
--- of the same answer
-pub decides-as : {r b : Bool} {P : Type 0} → r ≡ b → Decides b P → Decides r P
-decides-as e t = record { holds = λ h. t .holds (sym e ∙ h); seen = λ p. e ∙ t .seen p }
-
 -- of the same fact
 pub same-as : {r : Bool} {P Q : Type 0} → (P → Q) → (Q → P) → Decides r P → Decides r Q
 same-as f g t = record { holds = λ e. f (t .holds e); seen = λ q. t .seen (g q) }
@@ -52,12 +48,6 @@ pub proves : {r : Bool} {P : Type 0} → Decides r P → not r ≡ false → P
 proves {r} t e = t .holds (not-false r e)
 
 -- ---- not
-
-pub decides-not : {r : Bool} {P : Type 0} → Decides r P → Decides (not r) (P → ⊥)
-decides-not {r} t = record { holds = refutes t; seen = λ f. ap-not (unseen t f) }
-  where
-    ap-not : r ≡ false → not r ≡ true
-    ap-not e = rw e
 
 -- ---- cond
 
@@ -93,6 +83,3 @@ decides-eqb a b = record { holds = eqb-true a b; seen = eq-eqb a b }
 
 pub decides-ltb : (a b : ℕ) → Decides (ltb a b) (a < b)
 decides-ltb a b = record { holds = ltb-true a b; seen = lt-ltb a b }
-
-pub decides-leb : (a b : ℕ) → Decides (leb a b) (a ≤ b)
-decides-leb a b = record { holds = leb-true a b; seen = le-leb a b }

@@ -7,6 +7,7 @@ pub mod Sets
 pub mod Counted
 pub mod Counts
 pub mod Keep
+pub mod Last
 pub mod Uses
 pub mod First
 pub mod Rows
@@ -16,7 +17,6 @@ pub mod Slices
 pub mod Copies
 pub mod Parts
 pub mod Places
-pub mod Uptos
 pub mod Masks
 pub mod Walks
 pub mod Marks
@@ -29,6 +29,7 @@ pub mod Puts
 pub mod Written
 pub mod Pieces
 pub mod Maps
+pub mod Over
 pub mod Apart
 pub mod Search
 pub mod Bits

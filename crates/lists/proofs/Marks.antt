@@ -10,10 +10,14 @@ use lib.Dec.{ltb}
 use borrow.Author.Tests.{lt-ltb, le-ltb}
 use Rattle.lists.specs.Lists.{counted}
 use Rattle.lists.specs.Rows.{joined}
-use Rattle.lists.specs.Marks.{fits, marked, collect, MarkResult}
+use Rattle.lists.specs.Marks.{fits, marked, MarkResult}
 use Rattle.lists.proofs.Checkers.{clash}
 
 -- ---- collect
+
+-- what `g` gives at `i`, `i + 1` and so on, `n` times, one after the other
+abbrev pub collect {ℓ} : {A : Type ℓ} → (ℕ → List A) → ℕ → ℕ → List A
+collect g i n = joined (counted g i n)
 
 module _ {ℓ} {A : Type ℓ} (g : ℕ → List A) (i n : ℕ) where
   pub collect-next : i < n → collect g i (n - i) ≡ g i ++ collect g (i + 1) (n - (i + 1))

@@ -229,6 +229,3 @@ module _ {ℓ} {A : Type ℓ} (f : A → Bool) where
       let r : firstFrom f (suc i) xs ≡ some (suc i + t) = first-from xs (suc i) h (ap (λ (n : ℕ). n / 2) e ∙ mask-half f x xs) in
       let n : suc i + t ≡ i + suc t = omega arith in
       rw (b, r, n)
-
-  pub first-mask : (xs : List A) (i : ℕ) {t : ℕ} → First (maskOf f xs) t → firstFrom f i xs ≡ some (i + t)
-  first-mask xs i h = first-from xs i h refl

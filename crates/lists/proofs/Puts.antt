@@ -3,7 +3,7 @@ use mathlib.Core.Path.{_≡_, ap, refl, subst, sym, _∙_}
 use mathlib.Core.Bool.{Bool, true, false, cond}
 use mathlib.Core.List.{List, [], _++_, _∷_, append-assoc, map}
 use mathlib.Core.Option.{none, some}
-use Prim.Native.Nat.{_*_, _+_, _<_, _≤_, suc, zero, ℕ}
+use Prim.Native.Nat.{_*_, _+_, _-_, _<_, _≤_, suc, zero, ℕ}
 use native.Mathlib.Nat.{le-of-suc-le-suc, not-suc-le-zero, suc-mul, zero-mul}
 use native.Mathlib.Numerals.{add-one}
 use native.Mathlib.Omega.{arith}
@@ -64,6 +64,14 @@ module _ {A : Type 0} (f : A → Bool) (d : A) (xs : List A) (k : ℕ) where
   pub first-end : length xs ≤ k → asOption (length xs) k ≡ firstFrom f k (drop k xs)
   unfolding firstFrom
   first-end h = rw (le-ltb k (length xs) h, drop-end xs k h)
+
+-- what each place has like the next one, the first has like the last
+pub same-over : {A : Type 0} (g : ℕ → A) (k r : ℕ) → k ≤ r → ((j : ℕ) → k ≤ j → j < r → g j ≡ g (j + 1)) → g k ≡ g r
+same-over {A} g k r l h = let w : k + (r - k) ≡ r = omega arith in rw w at (go (r - k) (omega arith))
+  where
+    go : (d : ℕ) → k + d ≤ r → g k ≡ g (k + d)
+    go zero q = let z : k + 0 ≡ k = omega arith in rw z
+    go (suc d) q = let z : k + suc d ≡ k + d + 1 = omega arith in rw z (go d (omega arith) ∙ h (k + d) (omega arith) (omega arith))
 
 -- ---- a search's answer
 

@@ -25,10 +25,6 @@ same-eq (x ∷ xs) [] h = absurd (false≢true h)
 same-eq (x ∷ xs) (y ∷ ys) h =
     let (a, b) = cond-true (eqb x y) (sameNumbers xs ys) h in ap₂ _∷_ (eqb-true x y a) (same-eq xs ys b)
 
-pub same-tail : (x y : ℕ) (xs ys : List ℕ) → sameNumbers (x ∷ xs) (y ∷ ys) ≡ true → sameNumbers xs ys ≡ true
-unfolding sameNumbers
-same-tail x y xs ys h = cond-true (eqb x y) (sameNumbers xs ys) h .1
-
 -- ---- allZero
 
 pub zeros-are : (xs : List ℕ) → allZero xs ≡ true → xs ≡ replicate (length xs) 0

@@ -132,10 +132,6 @@ take-filled (suc k) zero [] h = absurd (omega arith)
 take-filled (suc k) (suc w) [] h = ap (λ (l : List ℕ). 0 ∷ l) (take-filled k w [] (omega arith))
 take-filled (suc k) w (y ∷ ys) h = ap (λ (l : List ℕ). y ∷ l) (take-filled k w ys (omega arith))
 
--- k numbers from a on, where zeros follow the list
-pub cut-filled : (xs : List ℕ) (a k z : ℕ) → a + k ≤ length xs + z → take k (drop a (xs ++ replicate z 0)) ≡ fill k (drop a xs)
-cut-filled xs a k z h = rw (drop-filled 0 a z xs) (take-filled k (z - (a - length xs)) (drop a xs) (omega (arith, length-drop a xs)))
-
 -- the part from a on of at most k numbers, its ends cut to the list's length
 module _ (xs : List ℕ) (a k s e : ℕ) (hs : s ≡ min (length xs) a) (he : e ≡ min (length xs) (a + k)) where
   pub cut-small : length (take (e - s) (drop s xs)) ≤ k

@@ -1,6 +1,6 @@
 -- How often a number stands in a list: membership and distinctness as equations that `omega` adds up.
 use mathlib.Core.Path.{_≡_, refl, sym, ap, ap₂, _∙_, subst}
-use mathlib.Core.Bool.{Bool, true, false, cond, not, false≢true, Bool·beq}
+use mathlib.Core.Bool.{Bool, true, false, cond, false≢true, Bool·beq}
 use mathlib.Core.List.{List, [], _∷_, _++_}
 use Prim.Native.Nat.{ℕ, zero, suc, _+_, _≤_, _<_, zero-le}
 use native.Mathlib.Nat.{zero-add, add-zero, suc-add, add-suc, add-assoc, not-suc-le-zero, le-of-suc-le-suc, suc-ne-zero}
@@ -107,15 +107,15 @@ unfolding every uses count
 all-below n [] h = refl
 all-below n (x ∷ xs) h = rw (lt-ltb x n (h x (omega (arith, uses-here x xs)))) (all-below n xs (λ c u. h c (omega (arith, u))))
 
-pub exact-at : (u : ℕ) (a z : Bool) → (a ≡ true → 0 < u) → (a ≡ false → u ≡ 0) → u ≤ 1 → Bool·beq a (not z) ≡ true → u ≡ cond z 0 1
-exact-at u true true p q m e = absurd (false≢true e)
-exact-at u true false p q m e = omega (arith, p refl, m)
-exact-at u false true p q m e = q refl
-exact-at u false false p q m e = absurd (false≢true e)
+pub exact-at : (u : ℕ) (a b : Bool) → (a ≡ true → 0 < u) → (a ≡ false → u ≡ 0) → u ≤ 1 → Bool·beq a b ≡ true → u ≡ cond b 1 0
+exact-at u true true p q m e = omega (arith, p refl, m)
+exact-at u true false p q m e = absurd (false≢true e)
+exact-at u false true p q m e = absurd (false≢true e)
+exact-at u false false p q m e = q refl
 
-pub beq-by : (u : ℕ) (a z : Bool) → (0 < u → a ≡ true) → (u ≡ 0 → a ≡ false) → u ≡ cond z 0 1 → Bool·beq a (not z) ≡ true
-beq-by u a true p q e = rw (q e) refl
-beq-by u a false p q e = rw (p (omega (arith, e))) refl
+pub beq-by : (u : ℕ) (a b : Bool) → (0 < u → a ≡ true) → (u ≡ 0 → a ≡ false) → u ≡ cond b 1 0 → Bool·beq a b ≡ true
+beq-by u a true p q e = rw (p (omega (arith, e))) refl
+beq-by u a false p q e = rw (q e) refl
 
 -- ---- consecutive numbers
 

@@ -19,12 +19,6 @@ module _ {ℓ κ} {A : Type ℓ} {S : Type κ} (out : ℕ → S → A → A) (ne
   length-walk m a [] = refl
   length-walk m a (x ∷ xs) = ap suc (length-walk (m / 2) (next (m % 2) a) xs)
 
-  -- along a mask that begins with b
-  pub walk-mask : (b : Bool) (m : ℕ) (a : S) (x : A) (xs : List A)
-      → walk out next (cond b 1 0 + 2 * m) a (x ∷ xs) ≡ out (cond b 1 0) a x ∷ walk out next m (next (cond b 1 0) a) xs
-  unfolding walk
-  walk-mask b m a x xs = rw (odd b m, half b m)
-
   -- where the old elements do not matter
   pub walk-any : ((b : ℕ) (a : S) (x y : A) → out b a x ≡ out b a y) → (m : ℕ) (a : S) (xs ys : List A) → length xs ≡ length ys
       → walk out next m a xs ≡ walk out next m a ys

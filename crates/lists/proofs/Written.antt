@@ -18,9 +18,6 @@ pub part-more : (t d : List ℕ) (at i : ℕ) → at + i < length t → i < leng
     → set (take i (drop at t) ++ drop i d) i (getD t (at + i) 0) ≡ take (i + 1) (drop at t) ++ drop (i + 1) d
 part-more t d at i h h′ = rw (← getD-drop at t i 0) (copy-more (drop at t) d i (omega (arith, length-drop at t)) h′)
 
-pub part-all : (t d : List ℕ) (at i n : ℕ) → i ≡ n → length d ≡ n → take i (drop at t) ++ drop i d ≡ take n (drop at t)
-part-all t d at i n e l = rw (e, drop-end d n (omega arith)) (append-nil _)
-
 -- the whole, whose end from a on was lent, and s copied to the front of that
 pub copied-part : (a : ℕ) (xs s ys : List ℕ) → a + length s ≤ length xs → ys ≡ s ++ drop (length s) (midOf a (length xs - a) xs)
     → putMid a (length xs - a) xs ys ≡ take a xs ++ (s ++ drop (a + length s) xs)

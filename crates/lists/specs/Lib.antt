@@ -3,8 +3,6 @@ pub mod Lists
 pub mod Rows
 pub mod Each
 pub mod Masks
-pub mod Over
-pub mod Upto
 pub mod Written
 pub mod Walk
 pub mod Marks

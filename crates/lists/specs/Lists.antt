@@ -32,6 +32,11 @@ module _ {ℓ} {A : Type ℓ} where
   isSome none = false
   isSome (some x) = true
 
+  -- a field of the last element; `d` if there is none
+  unfoldable pub lastOf {ℓ₁} : {B : Type ℓ₁} → (A → B) → B → List A → B
+  lastOf f d [] = d
+  lastOf f d (x ∷ xs) = lastOf f (f x) xs
+
   -- the place of the first that passes the test, where the list's first place is numbered `i`
   unfoldable pub firstFrom : (A → Bool) → ℕ → List A → Option ℕ
   firstFrom f i [] = none

@@ -30,9 +30,6 @@ nextSame b a = a
 abbrev pub nextAdd : ℕ → ℕ → ℕ
 nextAdd b a = a + b
 
-abbrev pub nextOne : ℕ → ℕ → ℕ
-nextOne b a = a + 1
-
 -- where a bit is set, one more
 abbrev pub raised : ℕ → List ℕ → List ℕ
 raised m xs = walk outMore nextSame m 0 xs
@@ -48,7 +45,3 @@ bits m xs = walk outBit nextSame m 0 xs
 -- where a bit is set, the next number
 abbrev pub numbered : ℕ → ℕ → List ℕ → List ℕ
 numbered m a xs = walk outPick nextAdd m a xs
-
--- where a bit is set, the place's number
-abbrev pub placed : ℕ → ℕ → List ℕ → List ℕ
-placed m a xs = walk outPick nextOne m a xs

@@ -7,7 +7,7 @@ use mathlib.Core.List.{List, [], _∷_, _++_, map}
 use mathlib.Core.Option.{Option, none, some}
 use lib.ListN.{length, getD, set, take, drop, replicate}
 use lib.Dec.{eqb, ltb, leb}
-use Rattle.lists.specs.Lists.{keep, count, total}
+use Rattle.lists.specs.Lists.{keep, count, total, lastOf}
 use Rattle.model.specs.Measures.{Shape, inRange, tableWords, poolBytes}
 use Rattle.model.specs.State.{Block, Pointer, nullPointer, blankPointer, direct, indirect, Storage, Version, withPointers, Rights, staff, Till, State, Outcome, refused, done}
 use Rattle.model.specs.Image.{zeroBlock, Era, withBlanks, imageBlocks, imageSegments}
@@ -101,9 +101,7 @@ outcomeNumber (done a) = a .answer
 
 -- the pointers of the till's previous held version (its newest), and the held versions with others in their place
 unfoldable pub newestPointers : List Version → List Pointer
-newestPointers [] = []
-newestPointers (v ∷ []) = v .pointers
-newestPointers (v ∷ w ∷ vs) = newestPointers (w ∷ vs)
+newestPointers vs = lastOf (λ (v : Version). v .pointers) [] vs
 
 unfoldable pub withNewestPointers : List Version → List Pointer → List Version
 withNewestPointers [] ps = []
@@ -112,9 +110,7 @@ withNewestPointers (v ∷ w ∷ vs) ps = v ∷ withNewestPointers (w ∷ vs) ps
 
 -- §13: the day of the till's newest held version, 0 if none is held
 unfoldable pub newestDay : List Version → ℕ
-newestDay [] = 0
-newestDay (v ∷ []) = v .day
-newestDay (v ∷ w ∷ vs) = newestDay (w ∷ vs)
+newestDay vs = lastOf (λ (v : Version). v .day) 0 vs
 
 -- the day of a new version: the one that is brought; "backups without one … take that day"
 unfoldable pub dayFor : Option ℕ → List Version → ℕ
@@ -299,9 +295,7 @@ oldestNumber [] = 0
 oldestNumber (v ∷ vs) = v .number
 
 unfoldable pub newestNumber : List Version → ℕ
-newestNumber [] = 0
-newestNumber (v ∷ []) = v .number
-newestNumber (v ∷ w ∷ vs) = newestNumber (w ∷ vs)
+newestNumber vs = lastOf (λ (v : Version). v .number) 0 vs
 
 unfoldable pub listingRefusal : ℕ → ListingAnswer
 listingRefusal n = record { refusal = n; oldest = 0; newest = 0; last = 0 }

@@ -73,14 +73,12 @@ tillWords v b = 4 + v * slotWords b
 abbrev pub recordWords : ℕ → ℕ
 recordWords n = 3 + 2 * n
 
--- where the records begin, behind `t` tills
-abbrev pub recordsAt : ℕ → ℕ → ℕ → ℕ
-recordsAt t v b = headerWords + t * tillWords v b
+-- where the records begin, behind the tills
+abbrev pub recordsAt : Capacities → ℕ
+recordsAt c = headerWords + c .tills * tillWords (c .versions) (c .blocks)
 
 unfoldable pub tableWords : Shape → ℕ
-tableWords s =
-    recordsAt (s .capacities .tills) (s .capacities .versions) (s .capacities .blocks)
-    + s .capacities .records * recordWords (s .measures .segmentBlocks)
+tableWords s = recordsAt (s .capacities) + s .capacities .records * recordWords (s .measures .segmentBlocks)
 
 unfoldable pub poolBytes : Shape → ℕ
 poolBytes s = s .capacities .cells * s .measures .blockBytes

@@ -41,8 +41,8 @@ newPositions era c [] = []
 newPositions era c (b ∷ bs) = cond (isBare era b) (barePosition b) (held c 1) ∷ newPositions era (cond (isBare era b) c (suc c)) bs
 
 -- the blocks that go into cells
-unfoldable pub stored : Era → List Block → List Block
-stored era bs = keep (λ b. not (isBare era b)) bs
+unfoldable pub storedBlocks : Era → List Block → List Block
+storedBlocks era bs = keep (λ b. not (isBare era b)) bs
 
 -- record `k` is equal to the segment, and serves it
 unfoldable pub share : Era → Storage → List Block → ℕ → Placed
@@ -54,7 +54,7 @@ share era storage seg k = record {
 -- the segment takes record `k`, and its blocks, null and blank ones apart, go in order into the run's first cells
 unfoldable pub write : Era → Storage → List Block → ℕ → Run → Placed
 write era storage seg k run = record {
-  storage = record { records = set (storage .records) k (newPositions era (run .start) seg); cells = sets (storage .cells) (run .start) (stored era seg) };
+  storage = record { records = set (storage .records) k (newPositions era (run .start) seg); cells = sets (storage .cells) (run .start) (storedBlocks era seg) };
   pointers = pointersTo era k 0 seg;
 }
 
@@ -65,7 +65,7 @@ writeRun era storage seg k (some run) = done (write era storage seg k run)
 -- 14 before 16
 unfoldable pub writeRecord : Era → Storage → List Block → Option ℕ → Outcome Placed
 writeRecord era storage seg none = refused 14
-writeRecord era storage seg (some k) = writeRun era storage seg k (findRun storage (length (stored era seg)))
+writeRecord era storage seg (some k) = writeRun era storage seg k (findRun storage (length (storedBlocks era seg)))
 
 -- the record found serves; else the lowest free record is taken
 unfoldable pub shareOrWrite : Era → Storage → List Block → Option ℕ → Outcome Placed

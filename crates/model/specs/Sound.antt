@@ -122,10 +122,14 @@ unfoldable pub allCounted : List Pointer → ℕ → List Segment → Bool
 allCounted ps k [] = true
 allCounted ps k (seg ∷ segs) = allOf (areCounted ps k 0 seg ∷ allCounted ps (suc k) segs ∷ [])
 
+-- a block that is not all zero
+abbrev pub isFilled : Block → Bool
+isFilled b = not (allZero b)
+
 -- a cell named by no position is free and all zero; an occupied one is not all zero
 unfoldable pub areFilled : List ℕ → ℕ → List Block → Bool
 areFilled named c [] = true
-areFilled named c (b ∷ bs) = allOf (Bool·beq (isIn c named) (not (allZero b)) ∷ areFilled named (suc c) bs ∷ [])
+areFilled named c (b ∷ bs) = allOf (Bool·beq (isIn c named) (isFilled b) ∷ areFilled named (suc c) bs ∷ [])
 
 unfoldable pub isSound : Shape → State → Bool
 isSound s st =

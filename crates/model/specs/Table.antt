@@ -165,7 +165,7 @@ abbrev pub tillsPart : Capacities → List ℕ → List ℕ
 tillsPart c table = take (c .tills * tillWords (c .versions) (c .blocks)) (drop headerWords table)
 
 abbrev pub recordsPart : Capacities → List ℕ → List ℕ
-recordsPart c table = drop (recordsAt (c .tills) (c .versions) (c .blocks)) table
+recordsPart c table = drop (recordsAt c) table
 
 unfoldable pub stateIn : Shape → List ℕ → List ℕ → State
 stateIn s pool table = record {

@@ -9,7 +9,7 @@ use Rattle.lists.proofs.Puts.{first-found}
 use Rattle.lists.proofs.Sets.{set-any}
 use Rattle.lists.proofs.Tests.{by-test}
 use Rattle.model.specs.Image.{isBare, withBlanks}
-use Rattle.model.specs.Place.{Placed, newPositions, oneMore, placeSegment, share, stored, write}
+use Rattle.model.specs.Place.{Placed, newPositions, oneMore, placeSegment, share, storedBlocks, write}
 use Rattle.model.specs.Records.{countOf, isFree, isHeld}
 use Rattle.model.specs.State.{Block, Position, Segment, Storage, done, held, nullPosition, blankPosition, removed}
 use Rattle.laws.proofs.Bare.{by-bare-position}
@@ -22,7 +22,7 @@ pub placed-exact : (s : Storage) → Exact s → (seg : List Block) (p : Placed)
 placed-exact s x seg p e =
     subst (IfDone (λ (q : Placed). Exact (q .storage))) e
     (segment-cases withBlanks (λ q. Exact (q .storage)) s seg (λ z. x) (λ ne k f. share-exact withBlanks s x seg k)
-    (λ ne k f run r. let (h, fr) = first-found [] isFree (s .records) k f in write-exact withBlanks s x seg k h fr run (run-found s (length (stored withBlanks seg)) run r)))
+    (λ ne k f run r. let (h, fr) = first-found [] isFree (s .records) k f in write-exact withBlanks s x seg k h fr run (run-found s (length (storedBlocks withBlanks seg)) run r)))
 
 -- ---- counts
 

@@ -1,4 +1,4 @@
--- All cells marked free, then those that are named withoutCells.
+-- All cells are marked free, then those that are named are taken.
 use mathlib.Core.Path.{_∙_, _≡_, ap}
 use mathlib.Core.Bool.{Bool, true}
 use mathlib.Core.List.{List}

@@ -65,7 +65,7 @@ taken-at (x ∷ cs) fs c = taken-at cs (set fs x false) c ∙ rw (set-false fs x
     go false true = refl
     go false false = refl
 
--- all cells are free, then those named are withoutCells
+-- all cells are free, then those named are taken
 pub free-start : (s : Storage) → withoutCells (namedCells (s .records)) (replicate (length (s .cells)) true) ≡ freeCells s
 free-start s =
     let n : ℕ = length (s .cells) in
@@ -81,7 +81,7 @@ free-start s =
     go true = refl
     go false = refl
 
--- a new record's cells are withoutCells
+-- a new record's cells are taken
 pub free-new : (s : Storage) (k : ℕ) (new : Segment) (cells : List Block) → k < length (s .records) → cellsOf (getD (s .records) k []) ≡ [] → length cells ≡ length (s .cells)
     → withoutCells (cellsOf new) (freeCells s) ≡ freeCells (record { records = set (s .records) k new; cells = cells })
 free-new s k new cells h e n =

@@ -1,5 +1,5 @@
--- Laws of the cells that are withoutCells.
-use mathlib.Core.Path.{_∙_, _≡_, refl}
+-- Laws of the cells that are taken.
+use mathlib.Core.Path.{_∙_, _≡_, ap, refl, sym}
 use mathlib.Core.Bool.{Bool, false}
 use mathlib.Core.List.{List, [], _++_, _∷_}
 use Prim.Native.Nat.{_+_, _<_, _≤_, ℕ}
@@ -8,6 +8,8 @@ use Rattle.lists.specs.Rows.{joined}
 use Rattle.lists.proofs.Slices.{drop-end, drop-next}
 use Rattle.model.specs.Records.{cellsOf, namedCells}
 use Rattle.model.specs.State.{Segment}
+use Rattle.model.specs.Table.{recordToWords}
+use Rattle.storage.proofs.Free.{row-names-none}
 use Rattle.place_free.specs.Free.{withoutCells}
 
 pub taken-append : (xs ys : List ℕ) (fs : List Bool) → withoutCells (xs ++ ys) fs ≡ withoutCells ys (withoutCells xs fs)
@@ -19,6 +21,11 @@ pub length-taken : (cs : List ℕ) (fs : List Bool) → length (withoutCells cs 
 unfolding withoutCells
 length-taken [] fs = refl
 length-taken (c ∷ cs) fs = length-taken cs (set fs c false) ∙ length-set fs c false
+
+-- a record that holds no position takes none
+pub taken-none : (seg : Segment) (row : List ℕ) → row ≡ recordToWords seg → getD row 0 0 ≡ 0 → (fs : List Bool) → fs ≡ withoutCells (cellsOf seg) fs
+unfolding withoutCells
+taken-none seg row s z fs = ap (λ (cs : List ℕ). withoutCells cs fs) (sym (row-names-none seg row s z))
 
 -- record by record
 pub named-step : (segs : List Segment) (k : ℕ) (fs : List Bool) → k < length segs

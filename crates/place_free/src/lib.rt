@@ -67,7 +67,7 @@ pub fn used_records(records: &[u32], n: usize) -> usize
     used
 }
 
-// A cell is withoutCells, where the bit is set.
+// A cell is taken, where the bit is set.
 fn take_if(bit: u32, cell: Cell, free: &mut [bool])
     requires { ⌜ (bit < 2) × (cell .0 < length (now free)) ⌝ }
     ensures { λ _. ⌜ now (free .exit) ≡ withoutCells (cellIf bit (cell .0)) (now (free .entry)) ⌝ }
@@ -80,12 +80,15 @@ fn take_if(bit: u32, cell: Cell, free: &mut [bool])
     free[at] = false;
 }
 
-// The cells that a record names are withoutCells.
+// The cells that a record names are taken. One that holds no position names none.
 pub fn take_row(row: &[u32], free: &mut [bool], n: usize)
     requires { ⌜ (n ≤ 16) × (length (now row) ≡ recordWords n) × ((i : ℕ) → i < n → getD (now row) (3 + i) 0 < length (now free)) ⌝ }
     ensures { λ _. ⌜ ((seg : Segment) → length seg ≡ n → now (row .entry) ≡ recordToWords seg → now (free .exit) ≡ withoutCells (cellsOf seg) (now (free .entry))) ⌝ }
 {
     let mut m = row[0];
+    if m == 0 {
+        return;
+    }
     let mut i: usize = 0;
     while i < n {
         let cell = row[3 + i];
@@ -95,7 +98,7 @@ pub fn take_row(row: &[u32], free: &mut [bool], n: usize)
     }
 }
 
-// The cells that the records name are withoutCells.
+// The cells that the records name are taken.
 pub fn take_all(records: &[u32], free: &mut [bool], n: usize)
     requires { ⌜ (n ≤ 16) × EncodesRecords n (now records) (recordsIn n (now records)) × (length (now records) ≤ 4096 * recordWords n) ⌝ }
     requires { ⌜ ((k i : ℕ) → cellOf (positionIn (recordsIn n (now records)) k i) < length (now free)) ⌝ }

@@ -12,7 +12,7 @@ use Rattle.lists.specs.Masks.{maskOf}
 use Rattle.lists.proofs.Places.{row-in}
 use Rattle.lists.proofs.Rows.{fill-all, fill-take}
 use Rattle.model.specs.Image.{blockFrom, blocksFrom, withBlanks}
-use Rattle.model.specs.Place.{stored}
+use Rattle.model.specs.Place.{storedBlocks}
 use Rattle.model.specs.State.{Block}
 use Rattle.model.specs.Table.{cellsIn}
 use Rattle.laws.proofs.Image.{blocks-next}
@@ -38,7 +38,7 @@ unfolding blockFrom
 block-whole bytes image at h =
     sym (fill-all bytes (take bytes (drop at image)) (length-take-le bytes (drop at image) (omega (arith, length-drop at image)))) ∙ fill-take bytes (drop at image)
 
--- ---- storedMask of any kind
+-- ---- masks of any kind
 
 module _ (f : Block → Bool) (bytes : ℕ) (image : List ℕ) where
   -- one block more, at the front
@@ -54,7 +54,7 @@ module _ (f : Block → Bool) (bytes : ℕ) (image : List ℕ) where
   unfolding blocksFrom maskOf
   mask-end at n = let z : n - n ≡ 0 = omega arith in rw z
 
--- ---- the storedMask of those that are stored
+-- ---- the mask of those that are stored
 
 -- of n blocks i are done
 module _ (bytes : ℕ) (image : List ℕ) (n m at i : ℕ) (h : i < n) (e : m ≡ storedMask (blocksFrom bytes image at (n - i))) where
@@ -70,12 +70,12 @@ module _ (bytes : ℕ) (image : List ℕ) (n m at i : ℕ) (h : i < n) (e : m �
 pub record Copied (bytes : ℕ) (image pool₀ : List ℕ) (n : ℕ) (all : List Block) (pool : List ℕ) (m cell at i : ℕ) : Type 0 where
   pub within : i ≤ n
   pub mask : m ≡ storedMask (blocksFrom bytes image at (n - i))
-  pub room : cell + length (stored withBlanks (blocksFrom bytes image at (n - i))) ≤ length (cellsIn bytes pool₀)
+  pub room : cell + length (storedBlocks withBlanks (blocksFrom bytes image at (n - i))) ≤ length (cellsIn bytes pool₀)
   pub same : length pool ≡ length pool₀
-  pub left : sets (cellsIn bytes pool) cell (stored withBlanks (blocksFrom bytes image at (n - i))) ≡ all
+  pub left : sets (cellsIn bytes pool) cell (storedBlocks withBlanks (blocksFrom bytes image at (n - i))) ≡ all
 
-pub copied-start : (bytes : ℕ) (image pool : List ℕ) (n m cell at : ℕ) → m ≡ storedMask (blocksFrom bytes image at n) → cell + length (stored withBlanks (blocksFrom bytes image at n)) ≤ length (cellsIn bytes pool)
-    → Copied bytes image pool n (sets (cellsIn bytes pool) cell (stored withBlanks (blocksFrom bytes image at n))) pool m cell at 0
+pub copied-start : (bytes : ℕ) (image pool : List ℕ) (n m cell at : ℕ) → m ≡ storedMask (blocksFrom bytes image at n) → cell + length (storedBlocks withBlanks (blocksFrom bytes image at n)) ≤ length (cellsIn bytes pool)
+    → Copied bytes image pool n (sets (cellsIn bytes pool) cell (storedBlocks withBlanks (blocksFrom bytes image at n))) pool m cell at 0
 copied-start bytes image pool n m cell at e r =
     let z : n - 0 ≡ n = omega arith in
     record { within = omega arith; mask = rw z e; room = rw z r; same = refl; left = rw z }
@@ -88,8 +88,8 @@ module _ {bytes : ℕ} {image pool₀ : List ℕ} {n : ℕ} {all : List Block} {
   copied-bit = bit-first bytes image n m at i h (p .mask)
 
   -- the stored blocks that are left
-  copied-count : length (stored withBlanks (blocksFrom bytes image at (n - i))) ≡ m % 2 + length (stored withBlanks (blocksFrom bytes image (at + bytes) (n - (i + 1))))
-  copied-count = ap (λ (l : List Block). length (stored withBlanks l)) (blocks-next bytes image at n i h) ∙ kept-count b _ ∙ rw copied-bit
+  copied-count : length (storedBlocks withBlanks (blocksFrom bytes image at (n - i))) ≡ m % 2 + length (storedBlocks withBlanks (blocksFrom bytes image (at + bytes) (n - (i + 1))))
+  copied-count = ap (λ (l : List Block). length (storedBlocks withBlanks l)) (blocks-next bytes image at n i h) ∙ kept-count b _ ∙ rw copied-bit
 
   pub copied-room : 0 < bytes → m % 2 ≡ 1 → cell * bytes + bytes ≤ length pool
   copied-room z e = omega (arith, p .same, row-in (length pool₀) bytes z cell (omega (arith, p .room, copied-count, cells-count bytes pool₀)))
@@ -101,11 +101,11 @@ module _ {bytes : ℕ} {image pool₀ : List ℕ} {n : ℕ} {all : List Block} {
     mask = bits-rest bytes image n m at i h (p .mask);
     room = omega (arith, p .room, copied-count);
     same = l ∙ p .same;
-    left = rw (e, copied-bit) (sym (kept-next (cellsIn bytes pool) cell b _) ∙ ap (λ (l : List Block). sets (cellsIn bytes pool) cell (stored withBlanks l)) (sym (blocks-next bytes image at n i h)) ∙ p .left);
+    left = rw (e, copied-bit) (sym (kept-next (cellsIn bytes pool) cell b _) ∙ ap (λ (l : List Block). sets (cellsIn bytes pool) cell (storedBlocks withBlanks l)) (sym (blocks-next bytes image at n i h)) ∙ p .left);
   }
 
 pub copied-end : {bytes : ℕ} {image pool₀ : List ℕ} {n : ℕ} {all : List Block} {pool : List ℕ} {m cell at i : ℕ} → Copied bytes image pool₀ n all pool m cell at i → n ≤ i → cellsIn bytes pool ≡ all
-unfolding stored keep blocksFrom
+unfolding storedBlocks keep blocksFrom
 copied-end {n = n} {i = i} p h =
     let z : n - i ≡ 0 = omega arith in
     rw z at (p .left)

@@ -108,6 +108,10 @@ not-held : (e t : Bool) → cond e false t ≡ true → e ≡ false
 not-held true t h = absurd (false≢true h)
 not-held false t h = refl
 
+held-same : (e t : Bool) → cond e false t ≡ true → t ≡ true
+held-same true t h = absurd (false≢true h)
+held-same false t h = h
+
 module _ (s : Storage) (b : Block) (h c : ℕ) (z : 0 < length b) where
   pub holds-held : (p : Position) → h ≡ cond (isHeld p) 1 0 → c ≡ cellOf p → isBlankPosition p ≡ isErased b → h ≡ 1 → holds withBlanks s p b ≡ sameNumbers (cellAt s c) b
   holds-held nullPosition e q k o = absurd (omega arith)
@@ -151,7 +155,7 @@ unfolding blockFrom
 first-of zero image at z h = absurd (omega arith)
 first-of (suc b) image at z h = rw (drop-next image at 0 h) (unfold fill in refl)
 
--- a block whose storedBit is set is neither null nor blank
+-- a block whose bit is set is neither null nor blank
 stored-is : (b : Block) → storedBit b ≡ 1 → (allZero b ≡ false) × (isBlank withBlanks b ≡ false)
 stored-is b k = bare-full b (go (isBare withBlanks b) k)
   where
@@ -186,7 +190,7 @@ module _ (storage : Storage) where
   unfolding equals
   equal-head b bs p ps e = cond-true (holds withBlanks storage p b) (equals withBlanks storage bs ps) e
 
-  equal-whole : (bs : List Block) (ps : Segment) → equals withBlanks storage bs ps ≡ true → maskOf isRemoved ps ≡ 0
+  pub equal-whole : (bs : List Block) (ps : Segment) → equals withBlanks storage bs ps ≡ true → maskOf isRemoved ps ≡ 0
   unfolding equals maskOf
   equal-whole [] [] e = refl
   equal-whole [] (p ∷ ps) e = absurd (false≢true e)
@@ -196,7 +200,7 @@ module _ (storage : Storage) where
   equal-whole (b ∷ bs) (held c n ∷ ps) e = let r = equal-whole bs ps (equal-head b bs (held c n) ps e .1) in omega arith
   equal-whole (b ∷ bs) (removed ∷ ps) e = absurd (false≢true (equal-head b bs removed ps e .0))
 
-  equal-more : (bs : List Block) (ps : Segment) → equals withBlanks storage bs ps ≡ true → storedMask bs ≤ maskOf isHeld ps
+  pub equal-more : (bs : List Block) (ps : Segment) → equals withBlanks storage bs ps ≡ true → storedMask bs ≤ maskOf isHeld ps
   unfolding equals maskOf
   equal-more [] [] e = zero-le
   equal-more [] (p ∷ ps) e = absurd (false≢true e)
@@ -214,7 +218,23 @@ module _ (storage : Storage) where
       omega (arith, mark-bit b)
   equal-more (b ∷ bs) (removed ∷ ps) e = absurd (false≢true (equal-head b bs removed ps e .0))
 
-  equal-blank : (bs : List Block) (ps : Segment) → Each (λ (b : Block). 0 < length b) bs → equals withBlanks storage bs ps ≡ true → maskOf isBlankPosition ps ≡ blankMask bs
+  -- no more than those, where each cell that is named has a byte other than zero
+  pub equal-less : (bs : List Block) (ps : Segment) → ((i : ℕ) → isHeld (getD ps i nullPosition) ≡ true → allZero (cellAt storage (cellOf (getD ps i nullPosition))) ≡ false)
+      → equals withBlanks storage bs ps ≡ true → maskOf isHeld ps ≤ storedMask bs
+  unfolding equals maskOf
+  equal-less [] [] f e = zero-le
+  equal-less [] (p ∷ ps) f e = absurd (false≢true e)
+  equal-less (b ∷ bs) [] f e = absurd (false≢true e)
+  equal-less (b ∷ bs) (nullPosition ∷ ps) f e = let r = equal-less bs ps (λ i. f (suc i)) (equal-head b bs nullPosition ps e .1) in omega arith
+  equal-less (b ∷ bs) (blankPosition ∷ ps) f e = let r = equal-less bs ps (λ i. f (suc i)) (equal-head b bs blankPosition ps e .1) in omega arith
+  equal-less (b ∷ bs) (held c n ∷ ps) f e =
+      let z = equal-head b bs (held c n) ps e in
+      let r = equal-less bs ps (λ i. f (suc i)) (z .1) in
+      let filled : allZero b ≡ false = sym (ap allZero (same-eq (cellAt storage c) b (held-same (isBlank withBlanks b) _ (z .0)))) ∙ f 0 refl in
+      rw (bare-not b (not-held (isBlank withBlanks b) _ (z .0)), filled) (omega arith)
+  equal-less (b ∷ bs) (removed ∷ ps) f e = absurd (false≢true (equal-head b bs removed ps e .0))
+
+  pub equal-blank : (bs : List Block) (ps : Segment) → Each (λ (b : Block). 0 < length b) bs → equals withBlanks storage bs ps ≡ true → maskOf isBlankPosition ps ≡ blankMask bs
   unfolding equals maskOf
   equal-blank [] [] w e = refl
   equal-blank [] (p ∷ ps) w e = absurd (false≢true e)
@@ -228,23 +248,6 @@ module _ (storage : Storage) where
       go blankPosition h = sym (erased-is b (w .0) ∙ h)
       go (held c n) h = sym (erased-is b (w .0) ∙ not-held (isBlank withBlanks b) (sameNumbers (cellAt storage c) b) h)
       go removed h = absurd (false≢true h)
-
-  module _ (bs : List Block) (seg : Segment) (row : List ℕ) (s : row ≡ recordToWords seg) where
-    unequal : (equals withBlanks storage bs seg ≡ true → ⊥) → false ≡ equals withBlanks storage bs seg
-    unequal n = go (equals withBlanks storage bs seg) refl
-      where
-        go : (t : Bool) → equals withBlanks storage bs seg ≡ t → false ≡ t
-        go true e = absurd (n e)
-        go false e = refl
-
-    pub lost : (getD row 1 0 ≡ 0 → ⊥) → false ≡ equals withBlanks storage bs seg
-    lost n = unequal (λ e. n (ap (λ (l : List ℕ). getD l 1 0) s ∙ removed-word seg ∙ equal-whole bs seg e))
-
-    pub other-blank : Each (λ (b : Block). 0 < length b) bs → (m : ℕ) → m ≡ blankMask bs → (getD row 2 0 ≡ m → ⊥) → false ≡ equals withBlanks storage bs seg
-    other-blank w m q n = unequal (λ e. n (ap (λ (l : List ℕ). getD l 2 0) s ∙ blank-word seg ∙ equal-blank bs seg w e ∙ sym q))
-
-    pub lacking : (m : ℕ) → m ≡ storedMask bs → getD row 0 0 < m → false ≡ equals withBlanks storage bs seg
-    lacking m q l = unequal (λ e. omega (arith, equal-more bs seg e, ap (λ (l : List ℕ). getD l 0 0) s, held-word seg))
 
   -- ---- a free record equals no segment that has a stored block
 

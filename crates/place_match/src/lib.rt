@@ -5,24 +5,26 @@ ghost use mathlib.Core.Bool.{true, false, cond};
 ghost use Prim.Native.Nat.{ℕ, _+_, _*_, _%_, _≤_, _<_};
 ghost use lib.ListN.{length, getD};
 ghost use lib.Seq.{sets};
+ghost use Rattle.lists.specs.Decides.{Decides};
 ghost use Rattle.lists.specs.Lists.{allZero, firstFrom};
 ghost use Rattle.model.specs.Measures.{recordWords};
 ghost use Rattle.model.specs.State.{Position, Segment, Storage};
 ghost use Rattle.model.specs.Image.{blockFrom, blocksFrom, isBlank, withBlanks};
 ghost use Rattle.model.specs.Records.{isHeld, isRemoved, isBlankPosition, cellOf, holds, equals};
-ghost use Rattle.model.specs.Place.{stored};
+ghost use Rattle.model.specs.Place.{storedBlocks};
 ghost use Rattle.model.specs.Table.{recordToWords, recordsIn, cellsIn, storageIn};
 ghost use Rattle.numbers.specs.Measures.{measuresOf};
 ghost use Rattle.storage.specs.Stored.{Stored};
 ghost use Rattle.lists.specs.Search.{asOption};
 ghost use Rattle.place_words.specs.Marks.{storedBit, storedMask, isErased, blankBit, blankMask, blockIf};
 ghost use Rattle.place_free.specs.Free.{RestFree};
+ghost use Rattle.place_match.specs.Fit.{MasksFit, RowFits};
 use numbers::Block;
 use numbers::Cell;
 use numbers::Measures;
 use numbers::RecordNumber;
 
-// Whether a position that is not removed, and is blank just where the image's block at a byte is, holds that block. The bit is the block's storedBit.
+// Whether a position that is not removed, and is blank just where the image's block at a byte is, holds that block. The bit is 0 for a block that is null or blank, else 1.
 fn position_holds(
     image: &[u8],
     at: usize,
@@ -93,35 +95,66 @@ fn positions_equal(
     true
 }
 
-// The same for any record. One that has lost a position equals none, nor one whose blank positions are others than the segment's; one whose held mask is
-// less than the segment's lacks a block; and the first byte settles most others: none of these is compared.
+// The same. The first byte settles most records.
 fn record_equals(
     image: &[u8],
     from: usize,
     mask: u32,
-    blank: u32,
     pool: &[u8],
     row: &[u32],
     bytes: usize,
     n: usize,
 ) -> bool
-    requires { ⌜ (from ≤ 65536) × (mask ≡ storedMask (blocksFrom bytes (now image) from n)) × (length (now row) ≡ recordWords n) × ((i : ℕ) → i < n → getD (now row) (3 + i) 0 * bytes + bytes ≤ length (now pool)) × (64 ≤ bytes) × (bytes ≤ 512) × (bytes % 64 ≡ 0) × (0 < n) × (n ≤ 16) × (blank ≡ blankMask (blocksFrom bytes (now image) from n)) ⌝ }
+    requires { ⌜ (from ≤ 65536) × (mask ≡ storedMask (blocksFrom bytes (now image) from n)) × (length (now row) ≡ recordWords n) × (getD (now row) 1 0 ≡ 0) × ((i : ℕ) → i < n → getD (now row) (3 + i) 0 * bytes + bytes ≤ length (now pool)) × (64 ≤ bytes) × (bytes ≤ 512) × (bytes % 64 ≡ 0) × (n ≤ 16) × (getD (now row) 2 0 ≡ blankMask (blocksFrom bytes (now image) from n)) × (0 < n) ⌝ }
     ensures { λ r. ⌜ ((s : Storage) (seg : Segment) → s .cells ≡ cellsIn bytes (now (pool .entry)) → length seg ≡ n → now (row .entry) ≡ recordToWords seg → r ≡ equals withBlanks s (blocksFrom bytes (now (image .entry)) from n) seg) ⌝ }
 {
-    if row[1] != 0 {
-        return false;
-    }
-    if row[2] != blank {
-        return false;
-    }
-    if row[0] < mask {
-        return false;
-    }
     let cell = row[3];
     if first_differs(image, from, mask, pool, Cell(cell), bytes) {
         return false;
     }
     positions_equal(image, from, mask, pool, row, bytes, n)
+}
+
+// Whether a record with these masks can equal a segment whose masks are given.
+fn masks_fit(held: u32, removed: u32, blanks: u32, mask: u32, blank: u32) -> bool
+    ensures { λ r. ⌜ Decides r (MasksFit mask blank held removed blanks) ⌝ }
+{
+    if held != mask {
+        return false;
+    }
+    if removed != 0 {
+        return false;
+    }
+    if blanks != blank {
+        return false;
+    }
+    true
+}
+
+// From record k on, which begins at a word, the next before `stop` whose masks fit, or `stop`. The masks settle most records, and a loop over nothing else
+// is fast.
+fn next_fitting(
+    records: &[u32],
+    from: usize,
+    k: usize,
+    stop: usize,
+    mask: u32,
+    blank: u32,
+    width: usize,
+) -> usize
+    requires { ⌜ (k ≤ stop) × (from ≡ k * width) × (stop * width ≤ length (now records)) × (3 ≤ width) ⌝ }
+    ensures { λ r. ⌜ (k ≤ r) × (r ≤ stop) × ((j : ℕ) → j < r → k ≤ j → RowFits mask blank (now (records .entry)) (j * width) → ⊥) × (r < stop → RowFits mask blank (now (records .entry)) (r * width)) ⌝ }
+{
+    let mut at = from;
+    let mut j = k;
+    while j < stop {
+        if masks_fit(records[at], records[at + 1], records[at + 2], mask, blank) {
+            return j;
+        }
+        at = at + width;
+        j = j + 1;
+    }
+    j
 }
 
 // The lowest record that equals the segment, whose masks are given, the first not 0, or how many records there are. The records from `used` on are free, and
@@ -142,24 +175,23 @@ pub fn match_record(
     let width = numbers::row_words(m.blocks);
     let count = numbers::rows(records.len(), m.blocks);
     let stop = blocks::least(used, count);
-    let mut at: usize = 0;
-    let mut k: usize = 0;
+    let mut k = next_fitting(records, 0, 0, stop, mask, blank, width);
     while k < stop {
+        let record = RecordNumber(k as u32);
+        let at = record.word(m.blocks);
         let end = at + width;
         if record_equals(
             image,
             from,
             mask,
-            blank,
             pool,
             &records[at..end],
             m.bytes,
             m.blocks,
         ) {
-            return RecordNumber(k as u32);
+            return record;
         }
-        at = end;
-        k = k + 1;
+        k = next_fitting(records, end, k + 1, stop, mask, blank, width);
     }
     RecordNumber(count as u32)
 }
@@ -259,8 +291,8 @@ pub fn copy_blocks(
     bytes: usize,
     n: usize,
 )
-    requires { ⌜ (from ≤ 65536) × (mask ≡ storedMask (blocksFrom bytes (now image) from n)) × (first .0 + length (stored withBlanks (blocksFrom bytes (now image) from n)) ≤ length (cellsIn bytes (now pool))) × (length (cellsIn bytes (now pool)) ≤ 32768) × (0 < bytes) × (bytes ≤ 512) × (n ≤ 16) ⌝ }
-    ensures { λ _. ⌜ cellsIn bytes (now (pool .exit)) ≡ sets (cellsIn bytes (now (pool .entry))) (first .0) (stored withBlanks (blocksFrom bytes (now (image .entry)) from n)) ⌝ }
+    requires { ⌜ (from ≤ 65536) × (mask ≡ storedMask (blocksFrom bytes (now image) from n)) × (first .0 + length (storedBlocks withBlanks (blocksFrom bytes (now image) from n)) ≤ length (cellsIn bytes (now pool))) × (length (cellsIn bytes (now pool)) ≤ 32768) × (0 < bytes) × (bytes ≤ 512) × (n ≤ 16) ⌝ }
+    ensures { λ _. ⌜ cellsIn bytes (now (pool .exit)) ≡ sets (cellsIn bytes (now (pool .entry))) (first .0) (storedBlocks withBlanks (blocksFrom bytes (now (image .entry)) from n)) ⌝ }
 {
     let mut m = mask;
     let mut cell = first.0;

@@ -10,7 +10,7 @@ use lib.Count.{ones, ones-step}
 use Rattle.lists.specs.Lists.{every, firstFrom, keep}
 use Rattle.lists.specs.Masks.{maskOf}
 use Rattle.model.specs.Image.{isBare, withBlanks}
-use Rattle.model.specs.Place.{barePointer, placeSegment, pointersTo, share, shareOrWrite, stored, write, writeRecord, writeRun}
+use Rattle.model.specs.Place.{barePointer, placeSegment, pointersTo, share, shareOrWrite, storedBlocks, write, writeRecord, writeRun}
 use Rattle.model.specs.Records.{equals, isFree}
 use Rattle.model.specs.Runs.{Run, findRun, freeCells, scan}
 use Rattle.model.specs.State.{Block, Storage, direct, done, refused}
@@ -37,20 +37,20 @@ bare-no (b ∷ seg) h = go (isBare withBlanks b) refl (λ n. bare-no seg n)
     go true e r = r (λ z. h (let y : storedBit b ≡ 0 = ap {B = ℕ} (λ (t : Bool). cond (not t) 1 0) e in omega arith))
     go false e r = refl
 
-pub ones-marks : (seg : List Block) → ones (storedMask seg) ≡ length (stored withBlanks seg)
+pub ones-marks : (seg : List Block) → ones (storedMask seg) ≡ length (storedBlocks withBlanks seg)
 unfolding maskOf ones
-ones-marks [] = unfold stored keep in refl
+ones-marks [] = unfold storedBlocks keep in refl
 ones-marks (b ∷ seg) =
     ones-step (storedBit b + 2 * storedMask seg)
     ∙ ap₂ (λ (x y : ℕ). x + y) (marks-mod b seg) (ap ones (marks-div b seg) ∙ ones-marks seg)
     ∙ sym (kept-count b seg)
 
-pub some-blocks : (seg : List Block) → (storedMask seg ≡ 0 → ⊥) → 0 < length (stored withBlanks seg)
+pub some-blocks : (seg : List Block) → (storedMask seg ≡ 0 → ⊥) → 0 < length (storedBlocks withBlanks seg)
 unfolding maskOf
 some-blocks [] n = absurd (n refl)
 some-blocks (b ∷ seg) n = go (isBare withBlanks b) refl (λ m. some-blocks seg m)
   where
-    go : (t : Bool) → isBare withBlanks b ≡ t → ((storedMask seg ≡ 0 → ⊥) → 0 < length (stored withBlanks seg)) → 0 < length (stored withBlanks (b ∷ seg))
+    go : (t : Bool) → isBare withBlanks b ≡ t → ((storedMask seg ≡ 0 → ⊥) → 0 < length (storedBlocks withBlanks seg)) → 0 < length (storedBlocks withBlanks (b ∷ seg))
     go true e r = let y : storedBit b ≡ 0 = ap {B = ℕ} (λ (t : Bool). cond (not t) 1 0) e in omega (arith, r (λ z. n (omega arith)), kept-count b seg)
     go false e r = let y : storedBit b ≡ 1 = ap {B = ℕ} (λ (t : Bool). cond (not t) 1 0) e in omega (arith, kept-count b seg)
 
@@ -82,11 +82,11 @@ module _ (s : Storage) (seg : List Block) where
       unfolding placeSegment shareOrWrite writeRecord
       place-full e = rw (bare-no seg n, no, e)
 
-      pub place-tight : (k : ℕ) → firstFrom isFree 0 (s .records) ≡ some k → scan (length (stored withBlanks seg)) (freeCells s) 0 0 none ≡ none → placeSegment withBlanks s seg ≡ refused 16
+      pub place-tight : (k : ℕ) → firstFrom isFree 0 (s .records) ≡ some k → scan (length (storedBlocks withBlanks seg)) (freeCells s) 0 0 none ≡ none → placeSegment withBlanks s seg ≡ refused 16
       unfolding placeSegment shareOrWrite writeRecord writeRun findRun
       place-tight k e f = rw (bare-no seg n, no, e, f)
 
-      pub place-write : (k : ℕ) (run : Run) → firstFrom isFree 0 (s .records) ≡ some k → scan (length (stored withBlanks seg)) (freeCells s) 0 0 none ≡ some run
+      pub place-write : (k : ℕ) (run : Run) → firstFrom isFree 0 (s .records) ≡ some k → scan (length (storedBlocks withBlanks seg)) (freeCells s) 0 0 none ≡ some run
           → placeSegment withBlanks s seg ≡ done (write withBlanks s seg k run)
       unfolding placeSegment shareOrWrite writeRecord writeRun findRun
       place-write k run e f = rw (bare-no seg n, no, e, f)

@@ -11,7 +11,7 @@ use Rattle.lists.specs.Lists.{firstFrom}
 use Rattle.lists.proofs.Puts.{first-found}
 use Rattle.model.specs.Image.{blocksFrom, isBare, withBlanks}
 use Rattle.model.specs.Measures.{Measures, recordWords}
-use Rattle.model.specs.Place.{barePosition, newPositions, oneMore, placeSegment, pointersTo, share, stored, write}
+use Rattle.model.specs.Place.{barePosition, newPositions, oneMore, placeSegment, pointersTo, share, storedBlocks, write}
 use Rattle.model.specs.Records.{cellOf, cellsOf, equals, isFree}
 use Rattle.model.specs.Runs.{Run, findRun, scan}
 use Rattle.model.specs.State.{Block, Segment, Storage, held, nullPosition}
@@ -21,7 +21,7 @@ use Rattle.laws.proofs.RoundTrip.{length-record}
 use Rattle.laws.proofs.Runs.{Free, RunOk}
 use Rattle.laws.proofs.Segments.{run-found}
 use Rattle.storage.specs.Stored.{EncodesCells, EncodesRecords, Stored}
-use Rattle.storage.proofs.Inside.{cells-told, few-cells, few-records, some-cell, stored-cells}
+use Rattle.storage.proofs.Inside.{encodes-cells, few-cells, few-records, some-cell, stored-cells}
 use Rattle.storage.proofs.Read.{count-at, part-put, stored-records}
 use Rattle.place_free.specs.Free.{withoutCells}
 use Rattle.place_free.proofs.Free.{free-new, free-same, length-free, named-same}
@@ -43,12 +43,12 @@ new-length c [] = refl
 new-length c (b ∷ seg) = ap suc (new-length (cond (isBare withBlanks b) c (suc c)) seg)
 
 -- a new position's cell is one of the run's, or 0
-new-inside : (n c : ℕ) (seg : List Block) → 0 < n → c + length (stored withBlanks seg) ≤ n → (i : ℕ) → cellOf (getD (newPositions withBlanks c seg) i nullPosition) < n
+new-inside : (n c : ℕ) (seg : List Block) → 0 < n → c + length (storedBlocks withBlanks seg) ≤ n → (i : ℕ) → cellOf (getD (newPositions withBlanks c seg) i nullPosition) < n
 unfolding newPositions
 new-inside n c [] z l i = z
 new-inside n c (b ∷ seg) z l i = go (isBare withBlanks b) refl (λ d q j. new-inside n d seg z q j) i
   where
-    go : (t : Bool) → isBare withBlanks b ≡ t → ((d : ℕ) → d + length (stored withBlanks seg) ≤ n → (j : ℕ) → cellOf (getD (newPositions withBlanks d seg) j nullPosition) < n)
+    go : (t : Bool) → isBare withBlanks b ≡ t → ((d : ℕ) → d + length (storedBlocks withBlanks seg) ≤ n → (j : ℕ) → cellOf (getD (newPositions withBlanks d seg) j nullPosition) < n)
         → (i : ℕ) → cellOf (getD (cond t (barePosition b) (held c 1) ∷ newPositions withBlanks (cond t c (suc c)) seg) i nullPosition) < n
     go true e r zero = rw (bare-cell b) z
     go true e r (suc i) = r c (let y : storedBit b ≡ 0 = ap {B = ℕ} (λ (t : Bool). cond (not t) 1 0) e in omega (arith, kept-count b seg)) i
@@ -129,16 +129,16 @@ module _ {m : Measures} {from : ℕ} {pool ws : List ℕ} {free : List Bool} {wo
         found : firstFrom isFree 0 segs ≡ some k
         found = sym e ∙ as-some (length segs) k h
 
-        pub did-tight : scan (length (stored withBlanks seg)) free 0 0 none ≡ none → SegmentResult m s (placeSegment withBlanks s seg) 16 0 pool ws pool ws free words
+        pub did-tight : scan (length (storedBlocks withBlanks seg)) free 0 0 none ≡ none → SegmentResult m s (placeSegment withBlanks s seg) 16 0 pool ws pool ws free words
         unfolding storageIn
         did-tight f = rw (place-tight s seg not-null no k found (rw (r .cells) at f)) (refl, omega arith, refl, refl)
 
         -- ---- a free record, and a run
 
-        module _ (run : Run) (f : scan (length (stored withBlanks seg)) free 0 0 none ≡ some run) where
-          ok : RunOk (Free s) (length (stored withBlanks seg)) run
+        module _ (run : Run) (f : scan (length (storedBlocks withBlanks seg)) free 0 0 none ≡ some run) where
+          ok : RunOk (Free s) (length (storedBlocks withBlanks seg)) run
           unfolding findRun
-          ok = run-found s (length (stored withBlanks seg)) run (rw (r .cells) at f)
+          ok = run-found s (length (storedBlocks withBlanks seg)) run (rw (r .cells) at f)
 
           unused : isFree (getD segs k []) ≡ true
           unused = first-found [] isFree segs k found .1
@@ -149,7 +149,7 @@ module _ {m : Measures} {from : ℕ} {pool ws : List ℕ} {free : List Bool} {wo
           pub new-sized : length new ≡ n
           new-sized = new-length (run .start) seg ∙ seg-length image
 
-          pub write-room : run .start + length (stored withBlanks seg) ≤ length (cellsIn (m .blockBytes) pool)
+          pub write-room : run .start + length (storedBlocks withBlanks seg) ≤ length (cellsIn (m .blockBytes) pool)
           unfolding storageIn
           write-room = room m s (st .exact) (st .encodes .cells .blocks) seg run ok (some-blocks seg not-null)
 
@@ -161,17 +161,17 @@ module _ {m : Measures} {from : ℕ} {pool ws : List ℕ} {free : List Bool} {wo
               (ap length er ∙ length-record n new new-sized, rw nf (cells-below n _ new new-sized (new-inside _ (run .start) seg (some-cell st) write-room) row er))
 
           pub did-write : (at width : ℕ) → at ≡ k * recordWords n → width ≡ recordWords n → (pool′ row words′ : List ℕ) (free′ : List Bool) → length pool′ ≡ length pool
-              → cellsIn (m .blockBytes) pool′ ≡ sets (cellsIn (m .blockBytes) pool) (run .start) (stored withBlanks seg) → row ≡ recordToWords new → free′ ≡ withoutCells (cellsOf new) free
+              → cellsIn (m .blockBytes) pool′ ≡ sets (cellsIn (m .blockBytes) pool) (run .start) (storedBlocks withBlanks seg) → row ≡ recordToWords new → free′ ≡ withoutCells (cellsOf new) free
               → words′ ≡ map pointerWord (pointersTo withBlanks k 0 seg)
               → SegmentResult m s (placeSegment withBlanks s seg) 0 k pool ws pool′ (take at ws ++ (row ++ drop (at + width - at) (drop at ws))) free′ words′
           unfolding write storageIn
           did-write at width ea ew pool′ row words′ free′ np ec er ef ep =
-              let c : EncodesCells (m .blockBytes) pool′ (cellsIn (m .blockBytes) pool′) = cells-told (m .blockBytes) _ pool′ (omega (arith, st .measured .someBytes)) (np ∙ stored-cells st) in
+              let c : EncodesCells (m .blockBytes) pool′ (cellsIn (m .blockBytes) pool′) = encodes-cells (m .blockBytes) _ pool′ (omega (arith, st .measured .someBytes)) (np ∙ stored-cells st) in
               rw (place-write s seg not-null no k run found (rw (r .cells) at f), er) (
                 refl,
                 record {
                   encodes = record { cells = rw ec at c; records = part-put n ws segs encodes k h at width ea ew new new-sized };
-                  cells = ef ∙ rw (r .cells) (free-new s k new (sets (cellsIn (m .blockBytes) pool) (run .start) (stored withBlanks seg)) h (free-none (getD segs k []) unused) (length-sets (cellsIn (m .blockBytes) pool) (run .start) (stored withBlanks seg)));
+                  cells = ef ∙ rw (r .cells) (free-new s k new (sets (cellsIn (m .blockBytes) pool) (run .start) (storedBlocks withBlanks seg)) h (free-none (getD segs k []) unused) (length-sets (cellsIn (m .blockBytes) pool) (run .start) (storedBlocks withBlanks seg)));
                   pointers = ep;
                   undo = undo-write m s (st .exact) (st .encodes .cells .blocks) seg run ok k h (count-at n ws segs encodes k h) unused;
                 },

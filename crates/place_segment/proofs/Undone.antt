@@ -15,7 +15,7 @@ use Rattle.lists.proofs.Each.{each-at}
 use Rattle.lists.proofs.Tests.{cond-true}
 use Rattle.model.specs.Image.{isBare, isBlank, withBlanks, zeroBlock}
 use Rattle.model.specs.Measures.{Measures}
-use Rattle.model.specs.Place.{barePosition, newPositions, oneMore, share, stored, write}
+use Rattle.model.specs.Place.{barePosition, newPositions, oneMore, share, storedBlocks, write}
 use Rattle.model.specs.Records.{cellsOf, countOf, equals, freeSegment, isFree, isHeld}
 use Rattle.model.specs.Runs.{Run}
 use Rattle.model.specs.State.{Block, Position, Segment, Storage, held, nullPosition, blankPosition, removed}
@@ -96,29 +96,29 @@ unfolding cellsOf
 bare-cells b ps = by-bare-position b (λ (p : Position). cellsOf (p ∷ ps) ≡ cellsOf ps) refl refl
 
 -- a cell that the new positions do not name stays
-pub sets-other : (cells : List Block) (c : ℕ) (seg : List Block) (x : ℕ) → isIn x (cellsOf (newPositions withBlanks c seg)) ≡ false → getD (sets cells c (stored withBlanks seg)) x [] ≡ getD cells x []
-unfolding newPositions cellsOf stored keep
+pub sets-other : (cells : List Block) (c : ℕ) (seg : List Block) (x : ℕ) → isIn x (cellsOf (newPositions withBlanks c seg)) ≡ false → getD (sets cells c (storedBlocks withBlanks seg)) x [] ≡ getD cells x []
+unfolding newPositions cellsOf storedBlocks keep
 sets-other cells c [] x h = refl
 sets-other cells c (b ∷ seg) x h = go (isBare withBlanks b) (λ l d q. sets-other l d seg x q) h
   where
-    go : (t : Bool) → ((l : List Block) (d : ℕ) → isIn x (cellsOf (newPositions withBlanks d seg)) ≡ false → getD (sets l d (stored withBlanks seg)) x [] ≡ getD l x [])
+    go : (t : Bool) → ((l : List Block) (d : ℕ) → isIn x (cellsOf (newPositions withBlanks d seg)) ≡ false → getD (sets l d (storedBlocks withBlanks seg)) x [] ≡ getD l x [])
         → isIn x (cellsOf (cond t (barePosition b) (held c 1) ∷ newPositions withBlanks (cond t c (suc c)) seg)) ≡ false
-        → getD (sets cells c (cond (not t) (b ∷ stored withBlanks seg) (stored withBlanks seg))) x [] ≡ getD cells x []
+        → getD (sets cells c (cond (not t) (b ∷ storedBlocks withBlanks seg) (storedBlocks withBlanks seg))) x [] ≡ getD cells x []
     go true r h = r cells c (rw (bare-cells b (newPositions withBlanks c seg)) at h)
     go false r h = step (eqb x c) refl (unfold isIn in h)
       where
-        step : (t : Bool) → eqb x c ≡ t → cond (eqb x c) true (isIn x (cellsOf (newPositions withBlanks (suc c) seg))) ≡ false → getD (sets (set cells c b) (suc c) (stored withBlanks seg)) x [] ≡ getD cells x []
+        step : (t : Bool) → eqb x c ≡ t → cond (eqb x c) true (isIn x (cellsOf (newPositions withBlanks (suc c) seg))) ≡ false → getD (sets (set cells c b) (suc c) (storedBlocks withBlanks seg)) x [] ≡ getD cells x []
         step true e q = absurd (false≢true (sym (rw e at q)))
         step false e q = r (set cells c b) (suc c) (rw e at q) ∙ getD-set-other cells c x b [] (eqb-false x c e)
 
 -- a cell that they name is one of the run's
-new-within : (c : ℕ) (seg : List Block) (x : ℕ) → isIn x (cellsOf (newPositions withBlanks c seg)) ≡ true → (c ≤ x) × (x < c + length (stored withBlanks seg))
+new-within : (c : ℕ) (seg : List Block) (x : ℕ) → isIn x (cellsOf (newPositions withBlanks c seg)) ≡ true → (c ≤ x) × (x < c + length (storedBlocks withBlanks seg))
 unfolding newPositions cellsOf isIn
 new-within c [] x h = absurd (false≢true h)
 new-within c (b ∷ seg) x h = go (isBare withBlanks b) refl (λ d q. new-within d seg x q) h
   where
-    go : (t : Bool) → isBare withBlanks b ≡ t → ((d : ℕ) → isIn x (cellsOf (newPositions withBlanks d seg)) ≡ true → (d ≤ x) × (x < d + length (stored withBlanks seg)))
-        → isIn x (cellsOf (cond t (barePosition b) (held c 1) ∷ newPositions withBlanks (cond t c (suc c)) seg)) ≡ true → (c ≤ x) × (x < c + length (stored withBlanks (b ∷ seg)))
+    go : (t : Bool) → isBare withBlanks b ≡ t → ((d : ℕ) → isIn x (cellsOf (newPositions withBlanks d seg)) ≡ true → (d ≤ x) × (x < d + length (storedBlocks withBlanks seg)))
+        → isIn x (cellsOf (cond t (barePosition b) (held c 1) ∷ newPositions withBlanks (cond t c (suc c)) seg)) ≡ true → (c ≤ x) × (x < c + length (storedBlocks withBlanks (b ∷ seg)))
     go true e r h =
         let z : storedBit b ≡ 0 = ap {B = ℕ} (λ (t : Bool). cond (not t) 1 0) e in
         let q = r c (rw (bare-cells b (newPositions withBlanks c seg)) at h) in (q .0, omega (arith, q .1, kept-count b seg))
@@ -127,7 +127,7 @@ new-within c (b ∷ seg) x h = go (isBare withBlanks b) refl (λ d q. new-within
         z : storedBit b ≡ 1
         z = ap {B = ℕ} (λ (t : Bool). cond (not t) 1 0) e
 
-        step : (t : Bool) → eqb x c ≡ t → cond (eqb x c) true (isIn x (cellsOf (newPositions withBlanks (suc c) seg))) ≡ true → (c ≤ x) × (x < c + length (stored withBlanks (b ∷ seg)))
+        step : (t : Bool) → eqb x c ≡ t → cond (eqb x c) true (isIn x (cellsOf (newPositions withBlanks (suc c) seg))) ≡ true → (c ≤ x) × (x < c + length (storedBlocks withBlanks (b ∷ seg)))
         step true q h = let y : x ≡ c = eqb-true x c q in (omega arith, omega (arith, z, kept-count b seg))
         step false q h = let w = r (suc c) (rw q at h) in (omega (arith, w .0), omega (arith, w .1, z, kept-count b seg))
 
@@ -158,24 +158,24 @@ new-zero c (x ∷ bs) = go (isBare withBlanks x) (λ d. new-zero d bs)
     go false r = r (suc c)
 
 module _ (m : Measures) (s : Storage) (x₀ : Exact s) (whole : Each (λ (b : Block). length b ≡ m .blockBytes) (s .cells)) (seg : List Block)
-    (run : Run) (ok : RunOk (Free s) (length (stored withBlanks seg)) run) where
+    (run : Run) (ok : RunOk (Free s) (length (storedBlocks withBlanks seg)) run) where
   abbrev bytes : ℕ
   bytes = m .blockBytes
 
-  pub room : 0 < length (stored withBlanks seg) → run .start + length (stored withBlanks seg) ≤ length (s .cells)
-  room z = let f = ok .free (length (stored withBlanks seg) - 1) (omega (arith, ok .enough)) in omega (arith, f .inside)
+  pub room : 0 < length (storedBlocks withBlanks seg) → run .start + length (storedBlocks withBlanks seg) ≤ length (s .cells)
+  room z = let f = ok .free (length (storedBlocks withBlanks seg) - 1) (omega (arith, ok .enough)) in omega (arith, f .inside)
 
-  cleared : (clearCells bytes) (sets (s .cells) (run .start) (stored withBlanks seg)) (cellsOf (newPositions withBlanks (run .start) seg)) ≡ s .cells
+  cleared : (clearCells bytes) (sets (s .cells) (run .start) (storedBlocks withBlanks seg)) (cellsOf (newPositions withBlanks (run .start) seg)) ≡ s .cells
   cleared =
       let new : List ℕ = cellsOf (newPositions withBlanks (run .start) seg) in
-      let n : length (clearCells bytes (sets (s .cells) (run .start) (stored withBlanks seg)) new) ≡ length (s .cells) = length-clear bytes (sets (s .cells) (run .start) (stored withBlanks seg)) new ∙ length-sets (s .cells) (run .start) (stored withBlanks seg) in
-      ext-getD [] (clearCells bytes (sets (s .cells) (run .start) (stored withBlanks seg)) new) (s .cells) n
+      let n : length (clearCells bytes (sets (s .cells) (run .start) (storedBlocks withBlanks seg)) new) ≡ length (s .cells) = length-clear bytes (sets (s .cells) (run .start) (storedBlocks withBlanks seg)) new ∙ length-sets (s .cells) (run .start) (storedBlocks withBlanks seg) in
+      ext-getD [] (clearCells bytes (sets (s .cells) (run .start) (storedBlocks withBlanks seg)) new) (s .cells) n
       (λ x h.
       let hx : x < length (s .cells) = omega (arith, n) in
-      clear-at bytes (sets (s .cells) (run .start) (stored withBlanks seg)) new x (omega (arith, length-sets (s .cells) (run .start) (stored withBlanks seg))) ∙ go x hx (isIn x new) refl)
+      clear-at bytes (sets (s .cells) (run .start) (storedBlocks withBlanks seg)) new x (omega (arith, length-sets (s .cells) (run .start) (storedBlocks withBlanks seg))) ∙ go x hx (isIn x new) refl)
     where
       go : (x : ℕ) → x < length (s .cells) → (t : Bool) → isIn x (cellsOf (newPositions withBlanks (run .start) seg)) ≡ t
-          → cond t (zeroBlock bytes) (getD (sets (s .cells) (run .start) (stored withBlanks seg)) x []) ≡ getD (s .cells) x []
+          → cond t (zeroBlock bytes) (getD (sets (s .cells) (run .start) (storedBlocks withBlanks seg)) x []) ≡ getD (s .cells) x []
       go x hx true e =
           let w = new-within (run .start) seg x e in
           let f = ok .free (x - run .start) (omega (arith, w .0, w .1, ok .enough)) in

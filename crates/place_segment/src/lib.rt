@@ -7,7 +7,7 @@ ghost use Rattle.lists.specs.Lists.{firstFrom};
 ghost use Rattle.model.specs.Image.{blocksFrom, withBlanks};
 ghost use Rattle.model.specs.Records.{isFree};
 ghost use Rattle.model.specs.Runs.{scan};
-ghost use Rattle.model.specs.Place.{stored};
+ghost use Rattle.model.specs.Place.{storedBlocks};
 ghost use Rattle.model.specs.Table.{recordsIn};
 ghost use Rattle.numbers.specs.Measures.{measuresOf};
 ghost use Rattle.place_free.specs.Free.{RestFree};
@@ -41,7 +41,7 @@ fn write_record(
 ) -> Placing
     requires { ⌜ SegmentPre (measuresOf m) from (now pool) (now records) (now free) (now words) × Masked (measuresOf m) (now image) from (masks .stored) (masks .blank) × Unmatched (measuresOf m) (now image) from (now pool) (now records) ⌝ }
     requires { ⌜ (k .0 < length (recordsIn (m .blocks) (now records))) × (asOption (length (recordsIn (m .blocks) (now records))) (k .0) ≡ firstFrom isFree 0 (recordsIn (m .blocks) (now records))) ⌝ }
-    requires { ⌜ (0 < run .size) × (asRun run ≡ scan (length (stored withBlanks (blocksFrom (m .bytes) (now image) from (m .blocks)))) (now free) 0 0 none) ⌝ }
+    requires { ⌜ (0 < run .size) × (asRun run ≡ scan (length (storedBlocks withBlanks (blocksFrom (m .bytes) (now image) from (m .blocks)))) (now free) 0 0 none) ⌝ }
     ensures { λ r. ⌜ SegmentResultAt (measuresOf m) (now (image .entry)) from (r .refusal) (r .record .0) (now (pool .entry)) (now (records .entry)) (now (pool .exit)) (now (records .exit)) (now (free .exit)) (now (words .exit)) ⌝ }
 {
     let start = k.word(m.blocks);

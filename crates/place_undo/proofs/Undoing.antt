@@ -22,7 +22,7 @@ use Rattle.laws.proofs.RoundTrip.{free-row}
 use Rattle.laws.proofs.Sweep.{free-exact}
 use Rattle.laws.specs.Storage.{Exact}
 use Rattle.storage.specs.Stored.{EncodesCells, EncodesRecords, Stored, Encodes}
-use Rattle.storage.proofs.Inside.{cell-put, cells-told, stored-cells}
+use Rattle.storage.proofs.Inside.{cell-put, encodes-cells, stored-cells}
 use Rattle.storage.proofs.Read.{count-at, part-length, part-put, records-of, row-part, storage-read, stored-again, stored-records}
 use Rattle.place_words.specs.Words.{cellIf}
 use Rattle.storage.proofs.Row.{count-words}
@@ -134,7 +134,7 @@ module _ (m : Measures) (pool ws : List ℕ) (st : Stored m pool ws) (k : ℕ) (
       → Encodes m pool′ (take at ws ++ (row ++ drop (at + width - at) (drop at ws))) (undoRecord m s k)
   unfolding undoRecord undoIn freeRecord storageIn
   undo-freed pool′ row z l ep er =
-      let c : EncodesCells (m .blockBytes) pool′ (cellsIn (m .blockBytes) pool′) = cells-told (m .blockBytes) _ pool′ (omega (arith, st .measured .someBytes)) (l ∙ stored-cells st) in
+      let c : EncodesCells (m .blockBytes) pool′ (cellsIn (m .blockBytes) pool′) = encodes-cells (m .blockBytes) _ pool′ (omega (arith, st .measured .someBytes)) (l ∙ stored-cells st) in
       rw (sym counts-low ∙ sym z, er ∙ ap (λ (w : ℕ). replicate w 0) (part-length n ws (recordsIn n ws) r k h at width ea ew) ∙ sym (free-row n), less-cells rec, ← ep)
       (record { cells = c; records = part-put n ws (recordsIn n ws) r k h at width ea ew (freeSegment n) (unfold freeSegment in length-replicate n nullPosition) })
 

@@ -12,7 +12,7 @@ use lib.Pow.{pow-mono}
 use Rattle.lists.specs.Lists.{keep}
 use Rattle.lists.proofs.Masks.{bit-le-one, mask-half, mask-lt, mask-odd}
 use Rattle.model.specs.Image.{isBare, withBlanks}
-use Rattle.model.specs.Place.{stored}
+use Rattle.model.specs.Place.{storedBlocks}
 use Rattle.model.specs.State.{Block}
 use Rattle.place_words.specs.Marks.{blankBit, blankMask, isErased, blockIf, storedBit, storedMask}
 
@@ -43,18 +43,18 @@ blanks-small bs h = let p : 2 ^ length bs ≤ 2 ^ 16 = pow-mono h in omega (arit
 -- ---- the blocks that are stored
 
 pub kept-next : (cs : List Block) (c : ℕ) (b : Block) (bs : List Block)
-    → sets cs c (stored withBlanks (b ∷ bs)) ≡ sets (sets cs c (blockIf (storedBit b) b)) (c + storedBit b) (stored withBlanks bs)
-unfolding stored keep
+    → sets cs c (storedBlocks withBlanks (b ∷ bs)) ≡ sets (sets cs c (blockIf (storedBit b) b)) (c + storedBit b) (storedBlocks withBlanks bs)
+unfolding storedBlocks keep
 kept-next cs c b bs = go (isBare withBlanks b)
   where
-    go : (t : Bool) → sets cs c (cond (not t) (b ∷ stored withBlanks bs) (stored withBlanks bs)) ≡ sets (sets cs c (blockIf (cond (not t) 1 0) b)) (c + cond (not t) 1 0) (stored withBlanks bs)
+    go : (t : Bool) → sets cs c (cond (not t) (b ∷ storedBlocks withBlanks bs) (storedBlocks withBlanks bs)) ≡ sets (sets cs c (blockIf (cond (not t) 1 0) b)) (c + cond (not t) 1 0) (storedBlocks withBlanks bs)
     go true = let e : c + 0 ≡ c = omega arith in rw e
     go false = rw (add-one c)
 
-pub kept-count : (b : Block) (bs : List Block) → length (stored withBlanks (b ∷ bs)) ≡ storedBit b + length (stored withBlanks bs)
-unfolding stored keep
+pub kept-count : (b : Block) (bs : List Block) → length (storedBlocks withBlanks (b ∷ bs)) ≡ storedBit b + length (storedBlocks withBlanks bs)
+unfolding storedBlocks keep
 kept-count b bs = go (isBare withBlanks b)
   where
-    go : (t : Bool) → length (cond (not t) (b ∷ stored withBlanks bs) (stored withBlanks bs)) ≡ cond (not t) 1 0 + length (stored withBlanks bs)
+    go : (t : Bool) → length (cond (not t) (b ∷ storedBlocks withBlanks bs) (storedBlocks withBlanks bs)) ≡ cond (not t) 1 0 + length (storedBlocks withBlanks bs)
     go true = sym (zero-add _)
-    go false = let e : suc (length (stored withBlanks bs)) ≡ 1 + length (stored withBlanks bs) = omega arith in e
+    go false = let e : suc (length (storedBlocks withBlanks bs)) ≡ 1 + length (storedBlocks withBlanks bs) = omega arith in e

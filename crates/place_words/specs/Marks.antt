@@ -11,7 +11,7 @@ use Rattle.model.specs.State.{Block}
 abbrev pub storedBit : Block → ℕ
 storedBit b = cond (not (isBare withBlanks b)) 1 0
 
--- bit i is the storedBit of block i
+-- bit i is `storedBit` of block i
 abbrev pub storedMask : List Block → ℕ
 storedMask bs = maskOf (λ b. not (isBare withBlanks b)) bs
 
@@ -23,7 +23,7 @@ isErased b = let r = isBlank withBlanks b in cond (allZero b) false r
 abbrev pub blankBit : Block → ℕ
 blankBit b = cond (isErased b) 1 0
 
--- bit i is the blank storedBit of block i
+-- bit i is `blankBit` of block i
 abbrev pub blankMask : List Block → ℕ
 blankMask bs = maskOf isErased bs
 

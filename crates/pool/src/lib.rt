@@ -1,6 +1,6 @@
 // Blocks moved and cleared within the pool, with the marks of the occupied cells kept up to date.
 ghost use mathlib.Core.Path.{_≡_};
-ghost use Prim.Native.Nat.{ℕ, _+_, _*_, _≤_, _<_};
+ghost use Prim.Native.Nat.{ℕ, _+_, _*_, _^_, _≤_, _<_};
 ghost use lib.ListN.{length, getD};
 ghost use lib.Count.{ones};
 ghost use Rattle.pool.specs.Pool.{copyTo, clearAt, takeAt, freeAt, markAt, along};
@@ -72,9 +72,9 @@ pub fn clear_marked(
 }
 
 // The cells that a mask marks are taken.
-pub fn take_marked(occupied: &mut [bool], mask: u32, cells: [u32; 16])
-    requires { ⌜ (mask < 65536) × ((k : ℕ) → getD cells k 0 < length (now occupied)) × (length (now occupied) ≤ 32768) ⌝ }
-    ensures { λ _. ⌜ now (occupied .exit) ≡ along markAt mask 0 cells (now (occupied .entry)) ⌝ }
+pub fn take_marked(occupied: &mut [bool], mask: u32, cells: &[u32])
+    requires { ⌜ (mask < 2 ^ length (now cells)) × (mask < 65536) × ((k : ℕ) → getD (now cells) k 0 < length (now occupied)) × (length (now occupied) ≤ 32768) ⌝ }
+    ensures { λ _. ⌜ now (occupied .exit) ≡ along markAt mask 0 (now (cells .entry)) (now (occupied .entry)) ⌝ }
 {
     let mut left = mask;
     while left != 0 {

@@ -93,7 +93,7 @@ module _ (r : Record) (f : Formed r) where
   pub size-is : ones (r .held) ≡ count isHeld (positions r)
   size-is = ap ones held-mask ∙ ones-mask isHeld (positions r)
 
--- ---- going
+-- ---- unreferenced
 
 pub unused-bit : (p : Position) → isUnreferenced (positionOf (cond (isHeld p) 1 0) 0 0 0 (countOf p)) ≡ isUnreferenced p
 unfolding positionOf
@@ -183,25 +183,25 @@ struck-of r f i h e =
 
 -- ---- all that go struck
 
-goes-held : (p : Position) → isUnreferenced p ≡ true → isHeld p ≡ true
-goes-held nullPosition e = absurd (false≢true e)
-goes-held blankPosition e = absurd (false≢true e)
-goes-held (held c n) e = refl
-goes-held removed e = absurd (false≢true e)
+unreferenced-held : (p : Position) → isUnreferenced p ≡ true → isHeld p ≡ true
+unreferenced-held nullPosition e = absurd (false≢true e)
+unreferenced-held blankPosition e = absurd (false≢true e)
+unreferenced-held (held c n) e = refl
+unreferenced-held removed e = absurd (false≢true e)
 
-goes-struck : (p : Position) → isUnreferenced p ≡ true → struck removed ≡ struck p
-goes-struck nullPosition e = absurd (false≢true e)
-goes-struck blankPosition e = absurd (false≢true e)
-goes-struck (held c zero) e = refl
-goes-struck (held c (suc n)) e = absurd (false≢true e)
-goes-struck removed e = absurd (false≢true e)
+unreferenced-struck : (p : Position) → isUnreferenced p ≡ true → struck removed ≡ struck p
+unreferenced-struck nullPosition e = absurd (false≢true e)
+unreferenced-struck blankPosition e = absurd (false≢true e)
+unreferenced-struck (held c zero) e = refl
+unreferenced-struck (held c (suc n)) e = absurd (false≢true e)
+unreferenced-struck removed e = absurd (false≢true e)
 
-stays-struck : (p : Position) → isUnreferenced p ≡ false → struck p ≡ p
-stays-struck nullPosition e = refl
-stays-struck blankPosition e = refl
-stays-struck (held c zero) e = absurd (false≢true (sym e))
-stays-struck (held c (suc n)) e = refl
-stays-struck removed e = refl
+others-struck : (p : Position) → isUnreferenced p ≡ false → struck p ≡ p
+others-struck nullPosition e = refl
+others-struck blankPosition e = refl
+others-struck (held c zero) e = absurd (false≢true (sym e))
+others-struck (held c (suc n)) e = refl
+others-struck removed e = refl
 
 -- a mask of none
 pub mask-none : (f : Position → Bool) (p : Position) (seg : Segment) → maskOf f (p ∷ seg) ≡ 0 → (f p ≡ false) × (maskOf f seg ≡ 0)
@@ -210,7 +210,7 @@ mask-none f p seg e = (bit-false (f p) (omega arith), omega arith)
 
 pub struck-none : (seg : Segment) → maskOf isUnreferenced seg ≡ 0 → map struck seg ≡ seg
 struck-none [] e = refl
-struck-none (p ∷ seg) e = ap₂ _∷_ (stays-struck p (mask-none isUnreferenced p seg e .0)) (struck-none seg (mask-none isUnreferenced p seg e .1))
+struck-none (p ∷ seg) e = ap₂ _∷_ (others-struck p (mask-none isUnreferenced p seg e .0)) (struck-none seg (mask-none isUnreferenced p seg e .1))
 
 pub record Striking (r₀ r : Record) (left : ℕ) : Type 0 where
   pub formed : Formed r
@@ -224,13 +224,13 @@ module _ (r₀ r : Record) (left p : ℕ) (s : Striking r₀ r left) (f : First 
   pub next-small : p < length (positions r)
   next-small = first-lt (length (positions r)) f (rw (s .mask) (mask-lt isUnreferenced (positions r)))
 
-  next-goes : isUnreferenced (getD (positions r) p nullPosition) ≡ true
-  next-goes =
+  next-unreferenced : isUnreferenced (getD (positions r) p nullPosition) ≡ true
+  next-unreferenced =
       bit-true (isUnreferenced (getD (positions r) p nullPosition))
       (sym (mask-bit isUnreferenced (positions r) p nullPosition next-small) ∙ ap (λ (m : ℕ). m / 2 ^ p % 2) (sym (s .mask)) ∙ first-bit f)
 
   pub next-held : isHeld (getD (positions r) p nullPosition) ≡ true
-  next-held = goes-held (getD (positions r) p nullPosition) next-goes
+  next-held = unreferenced-held (getD (positions r) p nullPosition) next-unreferenced
 
   pub next-struck : (r′ : Record) → r′ ≡ recordOf (set (positions r) p removed) → Striking r₀ r′ (left - 2 ^ p)
   next-struck r′ e =
@@ -239,8 +239,8 @@ module _ (r₀ r : Record) (left p : ℕ) (s : Striking r₀ r left) (f : First 
       let q : positions r′ ≡ set seg p removed = ap positions e ∙ positions-of (set seg p removed) few in
       record {
         formed = formed-of r′ (set seg p removed) e few;
-        mask = rw (q, s .mask) (sym (mask-off isUnreferenced seg p nullPosition removed next-small next-goes refl));
-        all = rw q (map-set-same struck seg p removed nullPosition (goes-struck (getD seg p nullPosition) next-goes) ∙ s .all);
+        mask = rw (q, s .mask) (sym (mask-off isUnreferenced seg p nullPosition removed next-small next-unreferenced refl));
+        all = rw q (map-set-same struck seg p removed nullPosition (unreferenced-struck (getD seg p nullPosition) next-unreferenced) ∙ s .all);
       }
 
 pub all-struck : (r₀ r : Record) (left : ℕ) → Striking r₀ r left → left ≡ 0 → r ≡ recordOf (map struck (positions r₀))
@@ -343,14 +343,14 @@ moved-of r r′ f n at h d b u c k =
     (k ∙ counts-fill r f ∙ ap (fill 16) (moved-counts at seg n))
 
 -- a record struck, then renumbered, is moved
-pub goes-none : (seg : Segment) → maskOf isUnreferenced (map struck seg) ≡ 0
+pub unreferenced-none : (seg : Segment) → maskOf isUnreferenced (map struck seg) ≡ 0
 unfolding maskOf
-goes-none [] = refl
-goes-none (nullPosition ∷ seg) = rw (goes-none seg)
-goes-none (blankPosition ∷ seg) = rw (goes-none seg)
-goes-none (held c zero ∷ seg) = rw (goes-none seg)
-goes-none (held c (suc n) ∷ seg) = rw (goes-none seg)
-goes-none (removed ∷ seg) = rw (goes-none seg)
+unreferenced-none [] = refl
+unreferenced-none (nullPosition ∷ seg) = rw (unreferenced-none seg)
+unreferenced-none (blankPosition ∷ seg) = rw (unreferenced-none seg)
+unreferenced-none (held c zero ∷ seg) = rw (unreferenced-none seg)
+unreferenced-none (held c (suc n) ∷ seg) = rw (unreferenced-none seg)
+unreferenced-none (removed ∷ seg) = rw (unreferenced-none seg)
 
 pub moved-struck : (at : ℕ) (seg : Segment) → moved at (map struck seg) ≡ moved at seg
 unfolding moved
@@ -376,7 +376,7 @@ struck-formed r m f e =
 
 pub struck-clean : (r m : Record) → Formed r → m ≡ recordOf (map struck (positions r)) → maskOf isUnreferenced (positions m) ≡ 0
 struck-clean r m f e =
-    ap (maskOf isUnreferenced) (ap positions e ∙ positions-of (map struck (positions r)) (omega (arith, length-map (positions r) struck, f .few))) ∙ goes-none (positions r)
+    ap (maskOf isUnreferenced) (ap positions e ∙ positions-of (map struck (positions r)) (omega (arith, length-map (positions r) struck, f .few))) ∙ unreferenced-none (positions r)
 
 pub moved-formed : (m n : Record) → Formed m → (at : ℕ) → n ≡ recordOf (moved at (positions m)) → Formed n × (length (positions n) ≡ length (positions m))
 moved-formed m n f at e =

@@ -14,11 +14,11 @@ use Rattle.lists.proofs.Masks.{ones-mask}
 use Rattle.lists.proofs.Slices.{drop-next, drop-end}
 use Rattle.lists.proofs.Walks.{mask-here, mask-after}
 use Rattle.model.specs.Measures.{recordWords}
-use Rattle.model.specs.Records.{isHeld, countOf}
-use Rattle.model.specs.State.{nullPosition, Segment}
+use Rattle.model.specs.Records.{isHeld, cellOf, countOf}
+use Rattle.model.specs.State.{Position, nullPosition, Segment}
 use Rattle.model.specs.Sweep.{isUnreferenced}
 use Rattle.model.specs.Table.{positionOf, recordToWords}
-use Rattle.laws.proofs.Uses.{staying-count}
+use Rattle.laws.proofs.Uses.{referenced-count}
 use Rattle.records.specs.Records.{recordIn, recordOf}
 use Rattle.records.specs.declared.Record.{Record}
 use Rattle.records.proofs.Records.{front, unused-bit}
@@ -68,7 +68,7 @@ pub none-held : (seg : Segment) → maskOf isHeld seg ≡ 0 → count isUnrefere
 none-held seg e =
     let z : ones 0 ≡ 0 = unfold ones in refl in
     let h : count isHeld seg ≡ 0 = sym (ones-mask isHeld seg) ∙ ap ones e ∙ z in
-    omega (arith, staying-count seg)
+    omega (arith, referenced-count seg)
 
 module _ (t : List ℕ) (at n : ℕ) (seg : Segment) (l : length seg ≡ n) (e : take (recordWords n) (drop at t) ≡ recordToWords seg) where
   row-is : record {
@@ -85,10 +85,18 @@ module _ (t : List ℕ) (at n : ℕ) (seg : Segment) (l : length seg ≡ n) (e :
   unfolding recordOf
   row-held = ap (λ (r : Record). r .held) row-is
 
+  -- words of the row that a field of the record has, with zeros behind them
+  row-part : (g : Position → ℕ) (from : ℕ) → n ≤ 16 → from + n ≤ length t → fill 16 (take n (drop from t)) ≡ fill 16 (map g seg)
+      → (k : ℕ) → k ≡ n → take k (drop from t) ≡ map g seg
+  row-part g from few room e′ k ek =
+      let part : List ℕ = take n (drop from t) in
+      let lp : length part ≡ n = length-take-le n (drop from t) (omega (arith, length-drop from t)) in
+      ap (λ (i : ℕ). take i (drop from t)) ek ∙ sym (front part n lp few) ∙ ap (take n) e′ ∙ front (map g seg) n (length-map seg g ∙ l) few
+
+  pub row-cells : n ≤ 16 → at + recordWords n ≤ length t → (k : ℕ) → k ≡ n → take k (drop (at + 3) t) ≡ map cellOf seg
+  unfolding recordOf
+  row-cells few room = row-part cellOf (at + 3) few (omega arith) (ap (λ (r : Record). r .cells) row-is)
+
   pub row-counts : n ≤ 16 → at + recordWords n ≤ length t → (k : ℕ) → k ≡ n → take k (drop (at + 3 + n) t) ≡ map countOf seg
   unfolding recordOf
-  row-counts few room k ek =
-      let part : List ℕ = take n (drop (at + 3 + n) t) in
-      let lp : length part ≡ n = length-take-le n (drop (at + 3 + n) t) (omega (arith, length-drop (at + 3 + n) t)) in
-      ap (λ (i : ℕ). take i (drop (at + 3 + n) t)) ek ∙ sym (front part n lp few)
-      ∙ ap (λ (r : Record). take n (r .counts)) row-is ∙ front (map countOf seg) n (length-map seg countOf ∙ l) few
+  row-counts few room = row-part countOf (at + 3 + n) few (omega arith) (ap (λ (r : Record). r .counts) row-is)

@@ -80,7 +80,7 @@ impl Record {
         self
     }
 
-    // The positions that go struck, where `going` is their mask.
+    // The positions that go are struck; `unreferenced` is their mask.
     pub fn strike_all(self, unreferenced: u32) -> Record
         requires { ⌜ Formed self ⌝ }
         requires { ⌜ unreferenced ≡ maskOf isUnreferenced (positions self) ⌝ }

@@ -11,14 +11,14 @@ use borrow.Author.Tests.{le-ltb, lt-ltb}
 use lib.Dec.{ltb, lit<}
 use Rattle.lists.specs.Rows.{parts, rows}
 use Rattle.lists.proofs.Slices.{tail-all, part-part}
-use Rattle.model.specs.Measures.{Measures, Shape, partsFor, tillWords, recordWords, tableWords}
+use Rattle.model.specs.Measures.{Measures, Shape, partsFor, tillWords, recordWords, tableWords, recordsAt}
 use Rattle.model.specs.State.{Storage, Version, Till, State}
 use Rattle.model.specs.Table.{shapeOf, stateIn, storageIn, versionIn, versionsIn, versionToWords, tillToWords, recordsPart, stateToWords, stateToBytes}
 use Rattle.model.specs.Sound.{isSound}
 use Rattle.model.specs.Trace.{imageOf, longestChain}
 use Rattle.model.specs.Calls.{RestoreAnswer, emptyTill, tillOf, restoreRefusal, restoreFrom, firstOf}
 use Rattle.laws.proofs.Measures.{parts-enough, sizes}
-use Rattle.laws.specs.Stores.{tillAt, recordsFrom, Sound}
+use Rattle.laws.specs.Stores.{tillAt, Sound}
 use Rattle.laws.proofs.Stores.{found, header, long}
 use Rattle.laws.proofs.Tills.{till, few, there, till-words, in-words}
 use Rattle.laws.specs.Ranges.{Measured}
@@ -83,9 +83,9 @@ module _ {pool table : List ℕ} (h : Sound pool table) where
   sound = found h .sound
 
   -- the records
-  pub records-lent : take (length table - recordsFrom (shapeOf table)) (drop (recordsFrom (shapeOf table)) table) ≡ wordsOf s st sound
+  pub records-lent : take (length table - recordsAt (shapeOf table .capacities)) (drop (recordsAt (shapeOf table .capacities)) table) ≡ wordsOf s st sound
   unfolding shapeOf
-  records-lent = tail-all table (recordsFrom (shapeOf table)) ∙ ap (drop (recordsFrom (shapeOf table))) (sym (found h .words))
+  records-lent = tail-all table (recordsAt (shapeOf table .capacities)) ∙ ap (drop (recordsAt (shapeOf table .capacities))) (sym (found h .words))
 
   module _ (t : ℕ) (in-table : t < getD table 0 0) (j : ℕ) (held : j < length (till h t in-table .versions)) where
     abbrev pub vs : List Version
@@ -125,7 +125,7 @@ module _ {pool table : List ℕ} (h : Sound pool table) where
 -- ---- as the code has them
 
 module _ {pool table : List ℕ} (h : Sound pool table) (t : ℕ) (in-table : t < getD table 0 0) (r : Head) (o : HeadOf pool table t r) (j : ℕ) (hj : j < r .held)
-    (base : ℕ) (eb : base ≡ recordsFrom (shapeOf table)) (m : Measures) (em : m ≡ shapeOf table .measures) where
+    (base : ℕ) (eb : base ≡ recordsAt (shapeOf table .capacities)) (m : Measures) (em : m ≡ shapeOf table .measures) where
   abbrev pub w : ℕ
   w = 3 + getD table 2 0
 

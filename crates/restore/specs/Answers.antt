@@ -7,13 +7,13 @@ use Rattle.model.specs.Measures.{Measures, partsFor}
 use Rattle.model.specs.Table.{versionsIn}
 use Rattle.model.specs.Calls.{RestoreAnswer}
 use Rattle.storage.specs.Stored.{Stored}
-use Rattle.restore_trace.specs.Versions.{pointersAt, Traceable, Direct}
+use Rattle.restore_trace.specs.Versions.{pointersAt, Traceable, DirectWithin}
 use Rattle.restore.specs.declared.Restored.{Restored}
 
 pub record Lent (m : Measures) (b h : ℕ) (pool words slots : List ℕ) : Type 0 where
   pub stored : Stored m pool words
   pub traceable : Traceable (m .blockBytes) b h slots
-  pub fit : Direct (m .segmentBlocks) (m .blockBytes) b h slots (length words)
+  pub fit : DirectWithin (m .segmentBlocks) (m .blockBytes) b h slots (length words)
   pub blocks : length (pointersAt (versionsIn (m .blockBytes) b h slots) 0) ≡ partsFor (m .blockBytes) (getD slots 1 0)
 
 abbrev pub restoreAnswer : Restored → List ℕ → RestoreAnswer

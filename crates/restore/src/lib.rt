@@ -68,7 +68,7 @@ fn restore_held(
     requires { ⌜ Sound (now pool) (now table) × (till < getD (now table) 0 0) × HeadOf (now pool) (now table) till head × (j < head .held) × (measuresOf m ≡ shapeOf (now table) .measures) ⌝ }
     ensures { λ r. ⌜ restoreAnswer r (now (output .exit)) ≡ restoreFrom (shapeOf (now (table .entry)) .measures .blockBytes) (stateIn (shapeOf (now (table .entry))) (now (pool .entry)) (now (table .entry)) .storage) (firstOf 0 [] (drop j (tillOf (stateIn (shapeOf (now (table .entry))) (now (pool .entry)) (now (table .entry))) till .versions))) (now (output .entry)) ⌝ }
 {
-    let records = tills::records_at(table);
+    let records = layout::records_at(table);
     let blocks = table[2] as usize;
     let width = 3 + blocks;
     let held = head.held as usize;

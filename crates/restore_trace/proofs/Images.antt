@@ -26,7 +26,7 @@ use Rattle.storage.proofs.Read.{row-inside, wide-of, count-at, cells-length, st
 use Rattle.lists.proofs.Places.{row-room}
 use Rattle.lists.proofs.Joins.{row-joined}
 use Rattle.sweep_laws.proofs.Named.{named-in}
-use Rattle.restore_trace.specs.Versions.{fillByte, noVersion, Traceable, Direct, pointersAt}
+use Rattle.restore_trace.specs.Versions.{fillByte, noVersion, Traceable, DirectWithin, pointersAt}
 use Rattle.restore_trace.proofs.Traces.{ends-fit, length-versions, version-row}
 
 -- ---- the cell of a position
@@ -143,7 +143,7 @@ module _ (m : Measures) (pool words : List ℕ) (s : Stored m pool words) where
 
   -- ---- the image
 
-  module _ (b h : ℕ) (slots : List ℕ) (ok : Traceable size b h slots) (dir : Direct n size b h slots (length words)) where
+  module _ (b h : ℕ) (slots : List ℕ) (ok : Traceable size b h slots) (dir : DirectWithin n size b h slots (length words)) where
     abbrev vs : List Version
     vs = versionsIn size b h slots
 

@@ -120,8 +120,8 @@ module _ (bytes b h : ℕ) (slots : List ℕ) (ok : Traceable bytes b h slots) w
     unfolding hops
     hop-via = rw (cut, pointer)
 
-    leads-on : IndirectBelow (length (pointersAt vs (suc v))) (wordToPointer w)
-    leads-on = subst (λ (p : Pointer). IndirectBelow (length (pointersAt vs (suc v))) p) pointer (ok .resolves v n)
+    indirect-below : IndirectBelow (length (pointersAt vs (suc v))) (wordToPointer w)
+    indirect-below = subst (λ (p : Pointer). IndirectBelow (length (pointersAt vs (suc v))) p) pointer (ok .resolves v n)
 
   first-at : (block : ℕ) → getD slots (3 + block) 0 ≡ getD slots (0 * (3 + b) + (3 + block)) 0
   first-at block = let z : 0 * (3 + b) + (3 + block) ≡ 3 + block = omega (arith, zero-mul (3 + b)) in rw z
@@ -129,7 +129,7 @@ module _ (bytes b h : ℕ) (slots : List ℕ) (ok : Traceable bytes b h slots) w
   pub trace-start : (block : ℕ) → block < length (pointersAt vs 0) → Tracing bytes b h slots (getD slots (3 + block) 0) 0 (getD slots (3 + block) 0)
   trace-start block l = record {
     inside = ok .some;
-    resolves = leads-on 0 block (getD slots (3 + block) 0) l (first-at block);
+    resolves = indirect-below 0 block (getD slots (3 + block) 0) l (first-at block);
     ends = refl;
     hop = zero-add (hopsVia (wordToPointer (getD slots (3 + block) 0)) (λ k. hops (drop 1 vs) k));
   }
@@ -155,7 +155,7 @@ module _ (bytes b h : ℕ) (slots : List ℕ) (ok : Traceable bytes b h slots) w
         let ho : hopsVia (wordToPointer w) (λ k. hops (drop (suc v) vs) k) ≡ suc (hops (drop (v + 1) vs) n) = rw (indirect-word w e, add-one v) in
         record {
           inside = next-inside e;
-          resolves = leads-on (v + 1) n w′ there refl;
+          resolves = indirect-below (v + 1) n w′ there refl;
           ends = sym (end-via (v + 1) n w′ there refl) ∙ sym en ∙ t .ends;
           hop = omega (arith, hop-via (v + 1) n w′ there refl, ho, t .hop);
         }

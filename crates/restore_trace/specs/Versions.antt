@@ -40,7 +40,7 @@ pub record Traceable (bytes b h : ℕ) (slots : List ℕ) : Type 0 where
   pub resolves : (i j : ℕ) → IndirectBelow (length (pointersAt (versionsIn bytes b h slots) (suc i))) (getD (pointersAt (versionsIn bytes b h slots) i) j nullPointer)
 
 -- each direct pointer names a position of the records' l words, of n positions each
-pub record Direct (n bytes b h : ℕ) (slots : List ℕ) (l : ℕ) : Type 0 where
+pub record DirectWithin (n bytes b h : ℕ) (slots : List ℕ) (l : ℕ) : Type 0 where
   pub fit : (i j : ℕ) → WithinRecords n l (getD (pointersAt (versionsIn bytes b h slots) i) j nullPointer)
 
 -- where the tracing of a block of the first version ends, and how many pointers it follows

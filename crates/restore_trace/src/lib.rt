@@ -11,7 +11,7 @@ ghost use Rattle.model.specs.Trace.{blockAt, imageOf, longestChain};
 ghost use Rattle.numbers.specs.Measures.{measuresOf};
 ghost use Rattle.storage.specs.Stored.{EncodesRecords, Stored};
 ghost use Rattle.storage.specs.Fits.{WithinRecords};
-ghost use Rattle.restore_trace.specs.Versions.{pointersAt, fillByte, Traceable, Direct, Traces};
+ghost use Rattle.restore_trace.specs.Versions.{pointersAt, fillByte, Traceable, DirectWithin, Traces};
 use numbers::Block;
 use numbers::Cell;
 use numbers::Measures;
@@ -102,7 +102,7 @@ pub fn restore_image(
     m: Measures,
 ) -> u32
     requires { ⌜ Stored (measuresOf m) (now pool) (now words) ⌝ }
-    requires { ⌜ Traceable (m .bytes) b h (now slots) × Direct (m .blocks) (m .bytes) b h (now slots) (length (now words)) ⌝ }
+    requires { ⌜ Traceable (m .bytes) b h (now slots) × DirectWithin (m .blocks) (m .bytes) b h (now slots) (length (now words)) ⌝ }
     requires { ⌜ (length (pointersAt (versionsIn (m .bytes) b h (now slots)) 0) ≡ partsFor (m .bytes) (getD (now slots) 1 0)) × (getD (now slots) 1 0 ≤ length (now out)) ⌝ }
     ensures bytes { λ r. ⌜ now (out .exit) ≡ imageOf (m .bytes) (storageIn (measuresOf m) (now (pool .entry)) (now (words .entry))) (versionsIn (m .bytes) b h (now (slots .entry))) ++ drop (getD (now (slots .entry)) 1 0) (now (out .entry)) ⌝ }
     ensures hops { λ r. ⌜ r ≡ longestChain (versionsIn (m .bytes) b h (now (slots .entry))) ⌝ }

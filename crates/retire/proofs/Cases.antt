@@ -7,11 +7,13 @@ use native.Mathlib.Omega.{arith}
 use lib.ListN.{length, getD, set, take, drop, replicate, length-take, length-drop, length-map, length-append, length-replicate, take-append-drop}
 use lib.Seq.{getD-take, getD-drop, take-take, drop-drop, take-at, length-take-le}
 use borrow.Author.Tests.{le-leb, lt-leb}
+use Rattle.lists.specs.Lists.{lastOf}
+use Rattle.lists.proofs.Last.{last-each}
 use Rattle.lists.specs.Rows.{rows}
 use Rattle.lists.specs.Each.{Each}
 use Rattle.lists.proofs.Each.{each-at, each-take}
 use Rattle.lists.proofs.Slices.{drop-end, drop-next, take-next, tail-all, part-part, part-get}
-use Rattle.model.specs.Measures.{Measures, Shape, Capacities, partsFor, tillWords, recordWords, tableWords}
+use Rattle.model.specs.Measures.{Measures, Shape, Capacities, partsFor, tillWords, recordWords, tableWords, recordsAt}
 use Rattle.model.specs.State.{Pointer, Version, Rights, Till, Storage, State, Outcome, refused, done}
 use Rattle.model.specs.Records.{countOf}
 use Rattle.model.specs.Sweep.{release, claim, sweep}
@@ -23,7 +25,7 @@ use Rattle.laws.proofs.Fits.{VersionFits, PointerFits}
 use Rattle.laws.proofs.Measures.{sizes, parts-enough}
 use Rattle.laws.proofs.Newest.{newest-last}
 use Rattle.laws.proofs.RoundTrip.{length-till, held-word, pointers-back}
-use Rattle.laws.specs.Stores.{tillAt, recordsFrom, Sound}
+use Rattle.laws.specs.Stores.{tillAt, Sound}
 use Rattle.laws.proofs.Stores.{till-is, till-put, records-put, header, found, fits, fit, long}
 use Rattle.laws.proofs.Tills.{there, till-words, few, in-words, slot-in}
 use Rattle.sound_laws.proofs.Records.{part-is, storage-is}
@@ -35,7 +37,8 @@ use Rattle.sound_laws.proofs.Slots as slots
 use Rattle.sound_laws.proofs.Pointers.{null-word, slot-row, version-words, version-pointers, version-fit, version-held}
 use Rattle.tills.specs.declared.Found.{Found}
 use Rattle.tills.specs.declared.Head.{Head}
-use Rattle.tills.specs.Answers.{tillSize, HeadOf, versionsHeld, LookedUp}
+use Rattle.tills.specs.Answers.{HeadOf, versionsHeld, LookedUp}
+use Rattle.tills.proofs.Cases.{tillSize}
 use Rattle.retire.specs.Answers.{versionAt, HoldsVersion, Copied, takenWord, takeOverWord, exchanged, stateWithout, EncodesState, TillPlace, retiredAt}
 use Rattle.retire.proofs.Words.{taken-pointers, taken-each, over-words}
 
@@ -52,7 +55,7 @@ by-measures a b n k e h = by-bytes (a .blockBytes) (b .blockBytes) n k (ap (λ (
 
 -- ---- how long a table is
 
-pub table-most : {pool table : List ℕ} → Sound pool table → (length table ≤ 1195080) × (recordsFrom (shapeOf table) ≤ length table)
+pub table-most : {pool table : List ℕ} → Sound pool table → (length table ≤ 1195080) × (recordsAt (shapeOf table .capacities) ≤ length table)
 unfolding shapeOf tableWords
 table-most {pool} {table} h =
     let (a, b) = sizes (getD table 0 0) (getD table 1 0) (getD table 2 0) (header h .tills) (header h .versions) (header h .blocks) in
@@ -177,10 +180,6 @@ module _ {pool table : List ℕ} {t at j : ℕ} (h : HoldsVersion pool table t a
     pub front-words : take k ws ≡ map pointerWord (versionAt pool table t j .pointers)
     front-words = ap (λ (i : ℕ). take i ws) ek ∙ o .words
 
-    pub front-pointers : map wordToPointer (take k ws) ≡ versionAt pool table t j .pointers
-    unfolding shapeOf tillOf emptyTill
-    front-pointers = ap (map wordToPointer) front-words ∙ version-pointers (shapeOf table) state (found (h .sound) .sound) t ht j (h .held)
-
     pub front-room : (k ≤ length ws) × (k ≤ b)
     unfolding shapeOf
     front-room = (omega (arith, ek, o .room), omega (arith, ek, ap (partsFor bytes) (o .bytes), version-fits .blocks, version-fits .most))
@@ -189,13 +188,13 @@ module _ {pool table : List ℕ} {t at j : ℕ} (h : HoldsVersion pool table t a
     front-long = length-take-le k ws (front-room .0)
 
   -- its pointers can be followed, and name held positions
-  pub gone-fit : (i : ℕ) → WithinRecords (shapeOf table .measures .segmentBlocks) (length (drop (recordsFrom (shapeOf table)) table)) (wordToPointer (getD (map pointerWord (versionAt pool table t j .pointers)) i 0))
+  pub gone-fit : (i : ℕ) → WithinRecords (shapeOf table .measures .segmentBlocks) (length (drop (recordsAt (shapeOf table .capacities)) table)) (wordToPointer (getD (map pointerWord (versionAt pool table t j .pointers)) i 0))
   unfolding shapeOf tillOf emptyTill
   gone-fit i =
       subst (λ (w : List ℕ). WithinRecords (shapeOf table .measures .segmentBlocks) (length (recordsPart caps w)) (wordToPointer (getD (map pointerWord (versionAt pool table t j .pointers)) i 0))) (found (h .sound) .words)
       (version-fit (shapeOf table) state (found (h .sound) .sound) t ht j (h .held) i)
 
-  pub gone-held : (i : ℕ) → NamesHeld (recordsIn (shapeOf table .measures .segmentBlocks) (drop (recordsFrom (shapeOf table)) table)) (wordToPointer (getD (map pointerWord (versionAt pool table t j .pointers)) i 0))
+  pub gone-held : (i : ℕ) → NamesHeld (recordsIn (shapeOf table .measures .segmentBlocks) (drop (recordsAt (shapeOf table .capacities)) table)) (wordToPointer (getD (map pointerWord (versionAt pool table t j .pointers)) i 0))
   unfolding shapeOf tillOf emptyTill stateIn storageIn
   gone-held i = version-held (shapeOf table) state (found (h .sound) .sound) t ht j (h .held) i
 
@@ -211,7 +210,7 @@ module _ {pool table : List ℕ} {t at j : ℕ} (h : HoldsVersion pool table t a
   holds-older z = record { sound = h .sound; inside = h .inside; begins = h .begins; held = omega (arith, h .held) }
 
   pub older-none : j ≡ 0 → (ws : List ℕ) → take 0 ws ≡ map pointerWord (newestPointers (take j (versionsHeld pool table t)))
-  unfolding newestPointers
+  unfolding lastOf newestPointers
   older-none z ws = rw z refl
 
   pub older-some : (z : j ≡ 0 → ⊥) (n : ℕ) (ws : List ℕ) → Copied pool table t (j - 1) n ws → (k : ℕ) → k ≡ partsFor (shapeOf table .measures .blockBytes) n
@@ -223,9 +222,7 @@ module _ {pool table : List ℕ} {t at j : ℕ} (h : HoldsVersion pool table t a
 
   pointers-each : (vs : List Version) → Each (VersionFits (shapeOf table)) vs → Each PointerFits (newestPointers vs)
   unfolding newestPointers
-  pointers-each [] e = tt
-  pointers-each (v ∷ []) e = e .0 .pointers
-  pointers-each (v ∷ w ∷ vs) e = pointers-each (w ∷ vs) (e .1)
+  pointers-each vs e = last-each (λ (v : Version). v .pointers) (VersionFits (shapeOf table)) (Each PointerFits) (λ v f. f .pointers) [] tt vs e
 
   pub older-fit : Each PointerFits (newestPointers (take j (versionsHeld pool table t)))
   unfolding shapeOf tillOf emptyTill
@@ -235,7 +232,7 @@ module _ {pool table : List ℕ} {t at j : ℕ} (h : HoldsVersion pool table t a
 
 -- ---- counts that rise and fall
 
-module _ {pool table : List ℕ} (h : Sound pool table) (r : ℕ) (e : r ≡ recordsFrom (shapeOf table)) where
+module _ {pool table : List ℕ} (h : Sound pool table) (r : ℕ) (e : r ≡ recordsAt (shapeOf table .capacities)) where
   pub records-in : (r ≤ length table) × (length table ≤ 1195080)
   records-in = let (a, b) = table-most h in (omega (arith, e, b), a)
 
@@ -252,8 +249,8 @@ module _ {pool table : List ℕ} (h : Sound pool table) (r : ℕ) (e : r ≡ rec
         bytes = q .cells .joins;
         words =
             ap (λ (k : ℕ). take k table ++ (w ++ drop (length table - k) (drop k table))) e
-            ∙ ap (λ (l : List ℕ). take (recordsFrom s) table ++ (l ++ drop (length table - recordsFrom s) (drop (recordsFrom s) table))) (q .records .words)
-            ∙ subst (λ (l : List ℕ). take (recordsFrom s) l ++ (rows recordToWords (to .records) ++ drop (length l - recordsFrom s) (drop (recordsFrom s) l)) ≡ stateToWords s (record { tills = st .tills; storage = record { records = to .records; cells = to .cells } }))
+            ∙ ap (λ (l : List ℕ). take (recordsAt (s .capacities)) table ++ (l ++ drop (length table - recordsAt (s .capacities)) (drop (recordsAt (s .capacities)) table))) (q .records .words)
+            ∙ subst (λ (l : List ℕ). take (recordsAt (s .capacities)) l ++ (rows recordToWords (to .records) ++ drop (length l - recordsAt (s .capacities)) (drop (recordsAt (s .capacities)) l)) ≡ stateToWords s (record { tills = st .tills; storage = record { records = to .records; cells = to .cells } }))
             (found h .words) (records-put s st (fits h .tillCount) (to .records) (to .cells));
       }
 
@@ -265,7 +262,7 @@ module _ {pool table : List ℕ} (h : Sound pool table) (r : ℕ) (e : r ≡ rec
 
   -- with the measures as the code read them
   module _ (m : Measures) (em : m ≡ shapeOf table .measures) where
-    pub there-read : (P : ℕ → List ℕ → Pointer → Type 0) (ps : List ℕ) → ((i : ℕ) → i < length ps → P (shapeOf table .measures .segmentBlocks) (drop (recordsFrom (shapeOf table)) table) (wordToPointer (getD ps i 0)))
+    pub there-read : (P : ℕ → List ℕ → Pointer → Type 0) (ps : List ℕ) → ((i : ℕ) → i < length ps → P (shapeOf table .measures .segmentBlocks) (drop (recordsAt (shapeOf table .capacities)) table) (wordToPointer (getD ps i 0)))
         → (i : ℕ) → i < length ps → P (m .segmentBlocks) (take (length table - r) (drop r table)) (wordToPointer (getD ps i 0))
     there-read P ps f i l = rw em (subst (λ (w : List ℕ). P (shapeOf table .measures .segmentBlocks) w (wordToPointer (getD ps i 0))) (sym (part-is h r e)) (f i l))
 
@@ -354,9 +351,8 @@ module _ {pool table : List ℕ} {t at j : ℕ} (h : HoldsVersion pool table t a
 
   newest-most : (us : List Version) → Each (VersionFits (shapeOf table)) us → length (newestPointers us) ≤ getD table 2 0
   unfolding newestPointers shapeOf
-  newest-most [] e = zero-le
-  newest-most (u ∷ []) e = e .0 .most
-  newest-most (u ∷ w ∷ us) e = newest-most (w ∷ us) (e .1)
+  newest-most us e =
+      last-each (λ (u : Version). u .pointers) (VersionFits (shapeOf table)) (λ (ps : List Pointer). length ps ≤ getD table 2 0) (λ u f. f .most) [] zero-le us e
 
   pub older-most : length olderPointers ≤ getD table 2 0
   unfolding shapeOf tillOf emptyTill
@@ -367,11 +363,11 @@ module _ {pool table : List ℕ} {t at j : ℕ} (h : HoldsVersion pool table t a
 
   -- what is taken over can be followed too
   pub taken-there : (gone older : List ℕ) → gone ≡ map pointerWord gonePointers → (i : ℕ)
-      → WithinRecords (shapeOf table .measures .segmentBlocks) (length (drop (recordsFrom (shapeOf table)) table)) (wordToPointer (getD (map (takenWord gone) older) i 0))
-      × NamesHeld (recordsIn (shapeOf table .measures .segmentBlocks) (drop (recordsFrom (shapeOf table)) table)) (wordToPointer (getD (map (takenWord gone) older) i 0))
+      → WithinRecords (shapeOf table .measures .segmentBlocks) (length (drop (recordsAt (shapeOf table .capacities)) table)) (wordToPointer (getD (map (takenWord gone) older) i 0))
+      × NamesHeld (recordsIn (shapeOf table .measures .segmentBlocks) (drop (recordsAt (shapeOf table .capacities)) table)) (wordToPointer (getD (map (takenWord gone) older) i 0))
   taken-there gone older e i =
-      let segs = recordsIn (shapeOf table .measures .segmentBlocks) (drop (recordsFrom (shapeOf table)) table) in
-      let l : ℕ = length (drop (recordsFrom (shapeOf table)) table) in
+      let segs = recordsIn (shapeOf table .measures .segmentBlocks) (drop (recordsAt (shapeOf table .capacities)) table) in
+      let l : ℕ = length (drop (recordsAt (shapeOf table .capacities)) table) in
       taken-each (λ (w : ℕ). WithinRecords (shapeOf table .measures .segmentBlocks) l (wordToPointer w) × NamesHeld segs (wordToPointer w)) gone older
       (rw null-word (unfold WithinRecords NamesHeld in (tt, tt))) (λ n. rw e (gone-fit h n, gone-held h n)) i
 

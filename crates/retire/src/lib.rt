@@ -3,11 +3,11 @@ ghost use mathlib.Core.Path.{_≡_};
 ghost use mathlib.Core.List.{List, _∷_, _++_, map};
 ghost use Prim.Native.Nat.{ℕ, _+_, _-_, _≤_, _<_};
 ghost use lib.ListN.{length, getD, set, take, drop};
-ghost use Rattle.model.specs.Measures.{Shape};
+ghost use Rattle.model.specs.Measures.{Shape, recordsAt};
 ghost use Rattle.model.specs.State.{Pointer, Version, State};
 ghost use Rattle.model.specs.Table.{pointerWord, wordToPointer, recordsIn, shapeOf, stateToWords};
 ghost use Rattle.model.specs.Calls.{tillOf, newestPointers, withNewestPointers, retireOf};
-ghost use Rattle.laws.specs.Stores.{recordsFrom, Sound};
+ghost use Rattle.laws.specs.Stores.{Sound};
 ghost use Rattle.numbers.specs.Measures.{measuresOf};
 ghost use Rattle.storage.specs.Fits.{WithinRecords, NamesHeld};
 ghost use Rattle.slots.specs.Slots.{HasSlot};
@@ -108,11 +108,11 @@ fn take_over(older: &mut [u32], gone: &[u32], taken: &mut [u32])
 // Pointers taken over claim their blocks, before the others let go of theirs.
 fn exchange(pool: &mut [u8], table: &mut [u32], taken: &[u32], gone: &[u32], m: Measures)
     requires { ⌜ Sound (now pool) (now table) × (measuresOf m ≡ shapeOf (now table) .measures) × (length (now taken) ≤ 1024) ⌝ }
-    requires { ⌜ ((i : ℕ) → i < length (now taken) → WithinRecords (shapeOf (now table) .measures .segmentBlocks) (length (drop (recordsFrom (shapeOf (now table))) (now table))) (wordToPointer (getD (now taken) i 0)) × NamesHeld (recordsIn (shapeOf (now table) .measures .segmentBlocks) (drop (recordsFrom (shapeOf (now table))) (now table))) (wordToPointer (getD (now taken) i 0))) ⌝ }
-    requires { ⌜ ((i : ℕ) → i < length (now gone) → WithinRecords (shapeOf (now table) .measures .segmentBlocks) (length (drop (recordsFrom (shapeOf (now table))) (now table))) (wordToPointer (getD (now gone) i 0))) ⌝ }
+    requires { ⌜ ((i : ℕ) → i < length (now taken) → WithinRecords (shapeOf (now table) .measures .segmentBlocks) (length (drop (recordsAt (shapeOf (now table) .capacities)) (now table))) (wordToPointer (getD (now taken) i 0)) × NamesHeld (recordsIn (shapeOf (now table) .measures .segmentBlocks) (drop (recordsAt (shapeOf (now table) .capacities)) (now table))) (wordToPointer (getD (now taken) i 0))) ⌝ }
+    requires { ⌜ ((i : ℕ) → i < length (now gone) → WithinRecords (shapeOf (now table) .measures .segmentBlocks) (length (drop (recordsAt (shapeOf (now table) .capacities)) (now table))) (wordToPointer (getD (now gone) i 0))) ⌝ }
     ensures { λ _. ⌜ EncodesState (shapeOf (now (table .entry))) (exchanged (now (pool .entry)) (now (table .entry)) (map wordToPointer (now (taken .entry))) (map wordToPointer (now (gone .entry)))) (now (pool .exit)) (now (table .exit)) ⌝ }
 {
-    let records = tills::records_at(table);
+    let records = layout::records_at(table);
     sweep::exchange(pool, &mut table[records..], taken, gone, m);
 }
 
@@ -141,7 +141,7 @@ fn retire_slot(
     ensures { λ _. ⌜ EncodesState (shapeOf (now (table .entry))) (stateWithout (now (pool .entry)) (now (table .entry)) till j) (now (pool .exit)) (now (table .exit)) ⌝ }
 {
     let blocks = table[2] as usize;
-    let size = tills::till_words(table);
+    let size = layout::till_words(table);
     take_over(older, gone, taken);
     exchange(pool, table, taken, gone, m);
     close_up(table, at, size, blocks, j, older);

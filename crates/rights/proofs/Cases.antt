@@ -85,29 +85,29 @@ module _ {pool table : List ℕ} (h : Sound pool table) (user t : ℕ) (right : 
 -- ---- the refusals of a change
 
 module _ (table : List ℕ) (user subject t : ℕ) where
-  abbrev told : ℕ
-  told = setRefusal table user subject t
+  abbrev set-refusal : ℕ
+  set-refusal = setRefusal table user subject t
 
-  pub told-3 : getD table 0 0 ≤ t → 3 ≡ told
-  told-3 n = rw (le-leb (getD table 0 0) t n)
+  pub refusal-3 : getD table 0 0 ≤ t → 3 ≡ set-refusal
+  refusal-3 n = rw (le-leb (getD table 0 0) t n)
 
   module _ (n : t < getD table 0 0) where
-    pub told-owner : subject ≡ 0 → 22 ≡ told
-    told-owner e = rw (lt-leb (getD table 0 0) t n, eq-eqb subject 0 e) (go (ltb staff user) (ltb staff subject))
+    pub refusal-owner : subject ≡ 0 → 22 ≡ set-refusal
+    refusal-owner e = rw (lt-leb (getD table 0 0) t n, eq-eqb subject 0 e) (go (ltb staff user) (ltb staff subject))
       where
         go : (a b : Bool) → _≡_ {A = ℕ} 22 (cond (a || (true || b)) 22 (cond (ltb 0 user) 23 0))
         go true b = refl
         go false b = refl
 
-    pub told-unknown : ¬ (subject ≡ 0) → staff < subject → 22 ≡ told
-    told-unknown z m = rw (lt-leb (getD table 0 0) t n, ne-eqb subject 0 z, lt-ltb staff subject m) (go (ltb staff user))
+    pub refusal-unknown : ¬ (subject ≡ 0) → staff < subject → 22 ≡ set-refusal
+    refusal-unknown z m = rw (lt-leb (getD table 0 0) t n, ne-eqb subject 0 z, lt-ltb staff subject m) (go (ltb staff user))
       where
         go : (a : Bool) → _≡_ {A = ℕ} 22 (cond (a || (false || true)) 22 (cond (ltb 0 user) 23 0))
         go true = refl
         go false = refl
 
-    pub told-user : ¬ (subject ≡ 0) → subject ≤ staff → notOwner user ≡ told
-    told-user z m = rw (lt-leb (getD table 0 0) t n, ne-eqb subject 0 z, le-ltb staff subject m) (go user)
+    pub refusal-user : ¬ (subject ≡ 0) → subject ≤ staff → notOwner user ≡ set-refusal
+    refusal-user z m = rw (lt-leb (getD table 0 0) t n, ne-eqb subject 0 z, le-ltb staff subject m) (go user)
       where
         go : (k : ℕ) → notOwner k ≡ cond (ltb staff k || false) 22 (cond (ltb 0 k) 23 0)
         go zero = refl

@@ -14,7 +14,7 @@ use Rattle.lists.specs.Lists.{count}
 use Rattle.lists.proofs.Counts.{count-append, count-most}
 use Rattle.lists.proofs.Slices.{drop-next, drop-end, take-next}
 use Rattle.model.specs.Runs.{better, scan, Run}
-use Rattle.runs.specs.Runs.{runOf, freeIf, left, found}
+use Rattle.runs.specs.Runs.{runOf, freeIf, left, foundAtEnd}
 use Rattle.runs.specs.declared.Search.{Search}
 
 -- ---- better
@@ -121,7 +121,7 @@ module _ (f : Bool → Bool) where
 pub went : (free : Bool) (need : ℕ) (os : List Bool) (from to : Search) (n : ℕ) (b : Bool) → to .at ≡ from .at + n
     → ((fs : List Bool) → left need fs to ≡ left need (replicate n b ++ fs) from)
     → map (freeIf free) (drop (from .at) os) ≡ replicate n b ++ map (freeIf free) (drop (from .at + n) os)
-    → found free need os to ≡ found free need os from
+    → foundAtEnd free need os to ≡ foundAtEnd free need os from
 went free need os from to n b e h p =
     ap (λ (m : ℕ). left need (map (freeIf free) (drop m os)) to) e
     ∙ h (map (freeIf free) (drop (from .at + n) os))

@@ -24,5 +24,5 @@ abbrev pub left : ℕ → List Bool → Search → Option model.Run
 left need fs s = model.scan need fs (s .at) (s .run) (asRun (s .best))
 
 -- what it will have found after all the marks that it has not passed
-abbrev pub found : Bool → ℕ → List Bool → Search → Option model.Run
-found free need marks s = left need (map (freeIf free) (drop (s .at) marks)) s
+abbrev pub foundAtEnd : Bool → ℕ → List Bool → Search → Option model.Run
+foundAtEnd free need marks s = left need (map (freeIf free) (drop (s .at) marks)) s

@@ -7,7 +7,7 @@ ghost use Prim.Native.Nat.{_+_, _-_, _≤_, _<_};
 ghost use lib.ListN.{length, take, drop, replicate};
 ghost use Rattle.lists.specs.Lists.{count};
 ghost use Rattle.model.specs.Runs.{better, scan};
-ghost use Rattle.runs.specs.Runs.{asRun, found, freeIf, left};
+ghost use Rattle.runs.specs.Runs.{asRun, foundAtEnd, freeIf, left};
 use numbers::Cell;
 
 // Consecutive cells from `start` on; a run of no cells stands for none.
@@ -116,7 +116,7 @@ impl Search {
 // The search goes on cell by cell to `end`.
 fn by_cell(marks: &[bool], free: bool, need: usize, from: Search, end: usize) -> Search
     requires { ⌜ (0 < need) × (length (now marks) ≤ 65536) × (from .run ≤ from .at) × (from .at ≤ end) × (end ≤ length (now marks)) ⌝ }
-    ensures { λ r. ⌜ (r .at ≡ end) × (r .run ≤ r .at) × (found free need (now (marks .entry)) r ≡ found free need (now (marks .entry)) from) ⌝ }
+    ensures { λ r. ⌜ (r .at ≡ end) × (r .run ≤ r .at) × (foundAtEnd free need (now (marks .entry)) r ≡ foundAtEnd free need (now (marks .entry)) from) ⌝ }
 {
     let mut search = from;
     while search.at < end {
@@ -129,7 +129,7 @@ fn by_cell(marks: &[bool], free: bool, need: usize, from: Search, end: usize) ->
 // The search goes on by 64 cells: at once where all are free or none is.
 fn by_piece(marks: &[bool], free: bool, need: usize, from: Search) -> Search
     requires { ⌜ (0 < need) × (length (now marks) ≤ 65536) × (from .run ≤ from .at) × (from .at + 64 ≤ length (now marks)) ⌝ }
-    ensures { λ r. ⌜ (r .at ≡ from .at + 64) × (r .run ≤ r .at) × (found free need (now (marks .entry)) r ≡ found free need (now (marks .entry)) from) ⌝ }
+    ensures { λ r. ⌜ (r .at ≡ from .at + 64) × (r .run ≤ r .at) × (foundAtEnd free need (now (marks .entry)) r ≡ foundAtEnd free need (now (marks .entry)) from) ⌝ }
 {
     let at = from.at;
     let count = count_free(marks, free, at, 64);

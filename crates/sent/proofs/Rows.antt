@@ -5,14 +5,14 @@ use mathlib.Core.List.{List, [], _∷_, _++_}
 use mathlib.Core.Option.{none}
 use Prim.Native.Nat.{ℕ}
 use lib.ListN.{take, drop, replicate}
-use Rattle.lists.specs.Lists.{counted, every, keep, count, total, isSome, firstFrom, allOf, sameNumbers, isIn, allZero, largest}
+use Rattle.lists.specs.Lists.{counted, every, keep, count, total, isSome, firstFrom, allOf, sameNumbers, isIn, allZero, largest, lastOf}
 use Rattle.lists.specs.Rows.{joined, parts, chunks, fill}
 use Rattle.model.specs.Measures.{partsFor}
 use Rattle.model.specs.State.{State}
 use Rattle.model.specs.Image.{beforeBlanks, withBlanks, zeroBlock, blankBlock, isBlank, isBare, blockFrom, blocksFrom, imageBlocks, segmentsFrom, imageSegments}
 use Rattle.model.specs.Records.{freeSegment, isFree, cellsOf, namedCells, cellAt, positionAt, equals}
 use Rattle.model.specs.Runs.{freeCells, better, scan, findRun}
-use Rattle.model.specs.Place.{barePointer, barePosition, pointersTo, newPositions, stored, share, write, writeRun, writeRecord, shareOrWrite, placeSegment, afterSome, placeNext, placeAll}
+use Rattle.model.specs.Place.{barePointer, barePosition, pointersTo, newPositions, storedBlocks, share, write, writeRun, writeRecord, shareOrWrite, placeSegment, afterSome, placeNext, placeAll}
 use Rattle.model.specs.Turn.{turnsTo, target, turn, turning}
 use Rattle.model.specs.Sweep.{changeAt, changeAll, release, claim, moved, clearCells, freeRecord, strikeOnly, compact, removeFrom, sweepRecord, sweepFrom, sweep}
 use Rattle.model.specs.Trace.{hopsVia, endVia, hops, endOf, blockAt, tracedBlock, tracedBlocks, imageOf, longestChain}
@@ -165,9 +165,9 @@ rows-hold : every holds rows ≡ true
 unfolding rows holds holdsFrom answers after firstByte prints atBase box blocks zeros letters ABCDEFGH AIJKLMNO ABIJKLMN IJKLMNOP QRSTUVWX
     counted every keep count total isSome firstFrom allOf sameNumbers isIn allZero largest joined parts chunks fill partsFor
     zeroBlock blankBlock isBlank isBare blockFrom blocksFrom imageBlocks segmentsFrom imageSegments freeSegment isFree cellsOf namedCells cellAt positionAt
-    equals freeCells better scan findRun barePointer barePosition pointersTo newPositions stored share write writeRun writeRecord shareOrWrite placeSegment afterSome
+    equals freeCells better scan findRun barePointer barePosition pointersTo newPositions storedBlocks share write writeRun writeRecord shareOrWrite placeSegment afterSome
     placeNext placeAll turnsTo target turn turning changeAt changeAll release claim moved clearCells freeRecord strikeOnly compact removeFrom sweepRecord sweepFrom
-    sweep hopsVia endVia hops endOf blockAt tracedBlock tracedBlocks imageOf longestChain emptyTill emptyState tillOf heldFrom heldBefore firstOf notHeld lookUp withTill newestPointers
+    sweep hopsVia endVia hops endOf blockAt tracedBlock tracedBlocks imageOf longestChain emptyTill emptyState tillOf heldFrom heldBefore firstOf notHeld lookUp withTill lastOf newestPointers
     withNewestPointers newestDay dayFor tillWith fileIn placeAndFile backup restoreRefusal restoreFrom restore
     segmentBytes canMatch contents zeroSegment firstWith had offerFits offer offerAnswer goOn takeSent goOnWith takeHad gather cutTo assembled sentFits made
     backupOn backupSent

@@ -1,21 +1,18 @@
 -- What §5 says of the messages for one image: `SentIsBackup`, and `OfferedIsBackup` of both messages in turn. crates/sent_laws has their proofs.
 use Prim.Native.Nat.{ℕ, zero, suc, _≤_}
 use mathlib.Core.Path.{_≡_}
-use mathlib.Core.Bool.{true, cond}
+use mathlib.Core.Bool.{cond}
 use mathlib.Core.List.{List, [], _∷_, _++_, map}
 use mathlib.Core.Option.{Option, none, some}
 use lib.ListN.{length, take, drop}
 use lib.Dec.{eqb}
-use Rattle.lists.specs.Lists.{isSome}
 use Rattle.lists.specs.Rows.{joined, rows}
 use Rattle.lists.specs.Each.{Each}
 use Rattle.sha1.specs.Sha1.{sha1}
-use Rattle.model.specs.Measures.{Measures}
-use Rattle.model.specs.State.{Storage}
 use Rattle.model.specs.Table.{shapeOf}
 use Rattle.model.specs.Sound.{Store, storeOf}
 use Rattle.model.specs.Calls.{BackupAnswer, backupOf}
-use Rattle.sent.specs.Sent.{Print, segmentsOf, contents, zeroSegment, had, offerOf, backupSentBy}
+use Rattle.sent.specs.Sent.{Print, segmentsOf, contents, zeroSegment, offerOf, backupSentBy}
 
 -- those of the segments that are sent
 unfoldable pub sentOf : List ℕ → List (List ℕ) → List (List ℕ)
@@ -44,13 +41,6 @@ segmentsSent bytes (suc i ∷ marks) segments = take bytes segments ∷ segments
 -- no two different ones share a fingerprint
 abbrev pub NoneShare : Print → List (List ℕ) → Type 0
 NoneShare print segs = Each (λ y. Each (λ x. print x ≡ print y → x ≡ y) segs) segs
-
--- every segment that is not sent is marked by the first message
-abbrev pub AllHad : Print → Measures → Storage → List (List ℕ) → List ℕ → Type 0
-AllHad print m storage [] marks = Unit {0}
-AllHad print m storage (x ∷ segs) [] = Unit {0}
-AllHad print m storage (x ∷ segs) (zero ∷ marks) = (isSome (had print m storage [] (print x)) ≡ true) × AllHad print m storage segs marks
-AllHad print m storage (x ∷ segs) (suc i ∷ marks) = AllHad print m storage segs marks
 
 -- a mark of 0 or 1 for each segment of the image
 abbrev pub MarksFor : List ℕ → List ℕ → List ℕ → Type 0

@@ -27,7 +27,7 @@ fn assemble_in(
     ensures { λ r. ⌜ Brings (assembled sha1 (shapeOf (now (table .entry)) .measures) (stateIn (shapeOf (now (table .entry))) (now (pool .entry)) (now (table .entry)) .storage) bytes (now (fingerprints .entry)) (now (marks .entry)) (now (segments .entry))) r (take bytes (now (out .exit))) ⌝ }
 {
     let m = layout::measures_in(table);
-    let from = tills::records_at(table);
+    let from = layout::records_at(table);
     sent_assemble::assemble(
         pool,
         &table[from..],

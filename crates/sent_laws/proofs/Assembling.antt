@@ -36,9 +36,9 @@ module _ (m : Measures) (storage : Storage) where
   grow sent g (refused n) = refused n
   grow sent g (done seg) = done (record { image = g .image ++ seg; sent = sent })
 
-  goes-on : (left : ℕ) (seg : List ℕ) (sent : List (List ℕ)) (g : Gathered) → goOn left seg sent g ≡ grow sent g (ended left (done seg))
+  go-on-grows : (left : ℕ) (seg : List ℕ) (sent : List (List ℕ)) (g : Gathered) → goOn left seg sent g ≡ grow sent g (ended left (done seg))
   unfolding goOn
-  goes-on left seg sent g = go (allZero (drop left seg))
+  go-on-grows left seg sent g = go (allZero (drop left seg))
     where
       go : (b : Bool) → cond b (done (record { image = g .image ++ seg; sent = sent })) (refused 19) ≡ grow sent g (cond b (done seg) (refused 19))
       go true = refl
@@ -50,7 +50,7 @@ module _ (m : Measures) (storage : Storage) where
     where
       go : (o : Option (List ℕ)) → goOnWith left o g ≡ grow (g .sent) g (ended left (orTwenty o))
       go none = unfold goOnWith in refl
-      go (some seg) = unfold goOnWith in goes-on left seg (g .sent) g
+      go (some seg) = unfold goOnWith in go-on-grows left seg (g .sent) g
 
   sent-grows : (left : ℕ) (f seg : List ℕ) (g : Gathered)
       → takeSent sha1 left f seg (done g) ≡ grow (g .sent ++ (seg ∷ [])) g (ended left (cond (sameNumbers (sha1 seg) f) (done seg) (refused 19)))
@@ -58,15 +58,15 @@ module _ (m : Measures) (storage : Storage) where
   sent-grows left f seg g = go (sameNumbers (sha1 seg) f)
     where
       go : (b : Bool) → cond b (goOn left seg (g .sent ++ (seg ∷ [])) g) (refused 19) ≡ grow (g .sent ++ (seg ∷ [])) g (ended left (cond b (done seg) (refused 19)))
-      go true = goes-on left seg (g .sent ++ (seg ∷ [])) g
+      go true = go-on-grows left seg (g .sent ++ (seg ∷ [])) g
       go false = refl
 
   -- a refusal stays
-  stays : (marks : List ℕ) (left n : ℕ) (fs ss : List ℕ) → gather sha1 m storage left (refused n) marks fs ss ≡ refused n
+  gather-refused : (marks : List ℕ) (left n : ℕ) (fs ss : List ℕ) → gather sha1 m storage left (refused n) marks fs ss ≡ refused n
   unfolding gather takeHad takeSent
-  stays [] left n fs ss = refl
-  stays (zero ∷ marks) left n fs ss = stays marks (left - width) n (drop 20 fs) ss
-  stays (suc i ∷ marks) left n fs ss = stays marks (left - width) n (drop 20 fs) (drop width ss)
+  gather-refused [] left n fs ss = refl
+  gather-refused (zero ∷ marks) left n fs ss = gather-refused marks (left - width) n (drop 20 fs) ss
+  gather-refused (suc i ∷ marks) left n fs ss = gather-refused marks (left - width) n (drop 20 fs) (drop width ss)
 
   -- and has a number
   pub source-number : (i s : ℕ) (ss f : List ℕ) → NotZero (source m storage i s ss f)
@@ -140,7 +140,7 @@ module _ (m : Measures) (storage : Storage) where
       at-refused r part b z all = subst (λ (o : Outcome Gathered). Brings (cutTo bytes o) r all) (sym step ∙ a .same) (go next b)
         where
           go : (o : Outcome (List ℕ)) → Brings o r part → Brings (cutTo bytes (rest (j + 1) (s + mark) (left - width) (grow (parts width (s + mark) ss) (soFar j s out) o))) r all
-          go (refused n) b = subst (λ (o : Outcome Gathered). Brings (cutTo bytes o) r all) (sym (stays (drop (j + 1) marks) (left - width) n (drop ((j + 1) * 20) fs) (drop ((s + mark) * width) ss))) (unfold cutTo in b)
+          go (refused n) b = subst (λ (o : Outcome Gathered). Brings (cutTo bytes o) r all) (sym (gather-refused (drop (j + 1) marks) (left - width) n (drop ((j + 1) * 20) fs) (drop ((s + mark) * width) ss))) (unfold cutTo in b)
           go (done seg) b = absurd (z (b .0))
 
       -- it is in its place

@@ -23,7 +23,8 @@ use Rattle.model.specs.Calls.{backupOf}
 use Rattle.laws.specs.Stores.{storeRead}
 use Rattle.laws.proofs.Stores.{read-or-none}
 use Rattle.sent.specs.Sent.{Print, segmentsOf, had, offerFits, OfferAnswer, offer, offerAnswer, offerIn, offerOf}
-use Rattle.sent.specs.Claims.{sentFor, knownIn, NoneShare, AllHad, MarksFor, lacking, OfferedIsBackup}
+use Rattle.sent.specs.Claims.{sentFor, knownIn, NoneShare, MarksFor, lacking, OfferedIsBackup}
+use Rattle.sent_laws.proofs.Gather.{AllHad}
 use Rattle.sent_laws.proofs.Theorems.{sent-if-had, sha1-wide}
 
 module _ (print : Print) (wide : (x : List ℕ) → length (print x) ≡ 20) (m : Measures) (storage : Storage) where

@@ -17,8 +17,15 @@ use Rattle.lists.proofs.Same.{same-refl, same-eq}
 use Rattle.model.specs.Measures.{Measures}
 use Rattle.model.specs.State.{Storage, Outcome, refused, done}
 use Rattle.sent.specs.Sent.{Print, segmentBytes, segmentsOf, contents, zeroSegment, firstWith, had, Gathered, goOn, takeSent, goOnWith, takeHad, gather, cutTo, assembled}
-use Rattle.sent.specs.Claims.{sentOf, NoneShare, AllHad}
+use Rattle.sent.specs.Claims.{sentOf, NoneShare}
 use Rattle.sent_laws.proofs.Segments.{segments-whole, segments-end, put-together, Ends}
+
+-- every segment that is not sent is marked by the first message
+abbrev pub AllHad : Print → Measures → Storage → List (List ℕ) → List ℕ → Type 0
+AllHad print m storage [] marks = Unit {0}
+AllHad print m storage (x ∷ segs) [] = Unit {0}
+AllHad print m storage (x ∷ segs) (zero ∷ marks) = (isSome (had print m storage [] (print x)) ≡ true) × AllHad print m storage segs marks
+AllHad print m storage (x ∷ segs) (suc i ∷ marks) = AllHad print m storage segs marks
 
 -- ---- lists
 
@@ -42,9 +49,6 @@ module _ (print : Print) (wide : (x : List ℕ) → length (print x) ≡ 20) (m 
   first-is seg (x ∷ xs) h =
       by-test (FoundIs seg) (sameNumbers (print x) (print seg)) (λ e. h .0 (same-eq (print x) (print seg) e)) (λ e. first-is seg xs (h .1))
 
-  abbrev Covered : List (List ℕ) → List ℕ → Type 0
-  Covered segs marks = AllHad print m storage segs marks
-
   -- put together, or 20 where not C
   abbrev IsWhole : Type 0 → List ℕ → Outcome Gathered → Type 0
   IsWhole C whole (refused n) = (n ≡ 20) × (¬ C)
@@ -54,11 +58,11 @@ module _ (print : Print) (wide : (x : List ℕ) → length (print x) ≡ 20) (m 
   good-if C D f whole (refused n) h = (h .0, λ d. h .1 (f d))
   good-if C D f whole (done g) h = h
 
-  stays-20 : (C : Type 0) → ¬ C → (whole : List ℕ) (marks : List ℕ) (left : ℕ) (fingerprints segments : List ℕ) → IsWhole C whole (gather print m storage left (refused 20) marks fingerprints segments)
+  refused-20 : (C : Type 0) → ¬ C → (whole : List ℕ) (marks : List ℕ) (left : ℕ) (fingerprints segments : List ℕ) → IsWhole C whole (gather print m storage left (refused 20) marks fingerprints segments)
   unfolding gather takeHad takeSent
-  stays-20 C h whole [] left fs ss = (refl, h)
-  stays-20 C h whole (zero ∷ marks) left fs ss = stays-20 C h whole marks (left - segmentBytes m) (drop 20 fs) ss
-  stays-20 C h whole (suc i ∷ marks) left fs ss = stays-20 C h whole marks (left - segmentBytes m) (drop 20 fs) (drop (segmentBytes m) ss)
+  refused-20 C h whole [] left fs ss = (refl, h)
+  refused-20 C h whole (zero ∷ marks) left fs ss = refused-20 C h whole marks (left - segmentBytes m) (drop 20 fs) ss
+  refused-20 C h whole (suc i ∷ marks) left fs ss = refused-20 C h whole marks (left - segmentBytes m) (drop 20 fs) (drop (segmentBytes m) ss)
 
   go-on : (left : ℕ) (seg : List ℕ) (sent : List (List ℕ)) (g : Gathered) → allZero (drop left seg) ≡ true
       → goOn left seg sent g ≡ done (record { image = g .image ++ seg; sent = sent })
@@ -115,10 +119,10 @@ module _ (print : Print) (wide : (x : List ℕ) → length (print x) ≡ 20) (m 
 
   had-step : (left : ℕ) (x : List ℕ) (g : Gathered) (marks : List ℕ) (segs : List (List ℕ))
       → HadNext left x g (takeHad print m storage left (print x) (done g))
-      → IsWhole (Covered segs marks) ((g .image ++ x) ++ joined segs) (rest (left - segmentBytes m) (done (grown g x (g .sent))) marks segs)
-      → IsWhole (Covered (x ∷ segs) (zero ∷ marks)) (g .image ++ (x ++ joined segs)) (rest left (done g) (zero ∷ marks) (x ∷ segs))
+      → IsWhole (AllHad print m storage segs marks) ((g .image ++ x) ++ joined segs) (rest (left - segmentBytes m) (done (grown g x (g .sent))) marks segs)
+      → IsWhole (AllHad print m storage (x ∷ segs) (zero ∷ marks)) (g .image ++ (x ++ joined segs)) (rest left (done g) (zero ∷ marks) (x ∷ segs))
   had-step left x g marks segs o r =
-      subst (IsWhole (Covered (x ∷ segs) (zero ∷ marks)) (g .image ++ (x ++ joined segs))) (sym next) (go o)
+      subst (IsWhole (AllHad print m storage (x ∷ segs) (zero ∷ marks)) (g .image ++ (x ++ joined segs))) (sym next) (go o)
     where
       next : rest left (done g) (zero ∷ marks) (x ∷ segs) ≡ rest (left - segmentBytes m) (takeHad print m storage left (print x) (done g)) marks segs
       next =
@@ -126,22 +130,22 @@ module _ (print : Print) (wide : (x : List ℕ) → length (print x) ≡ 20) (m 
           rw (take-at (print x) (rows print segs) 20 (wide x), drop-at (print x) (rows print segs) 20 (wide x))
 
       go : HadNext left x g (takeHad print m storage left (print x) (done g))
-          → IsWhole (Covered (x ∷ segs) (zero ∷ marks)) (g .image ++ (x ++ joined segs)) (rest (left - segmentBytes m) (takeHad print m storage left (print x) (done g)) marks segs)
+          → IsWhole (AllHad print m storage (x ∷ segs) (zero ∷ marks)) (g .image ++ (x ++ joined segs)) (rest (left - segmentBytes m) (takeHad print m storage left (print x) (done g)) marks segs)
       go (inl e) =
-          subst (λ (q : Outcome Gathered). IsWhole (Covered (x ∷ segs) (zero ∷ marks)) (g .image ++ (x ++ joined segs)) (rest (left - segmentBytes m) q marks segs)) (sym (e .0))
-          (stays-20 (Covered (x ∷ segs) (zero ∷ marks)) (λ c. e .1 (c .0)) (g .image ++ (x ++ joined segs)) marks (left - segmentBytes m) (rows print segs) (joined (sentOf marks segs)))
+          subst (λ (q : Outcome Gathered). IsWhole (AllHad print m storage (x ∷ segs) (zero ∷ marks)) (g .image ++ (x ++ joined segs)) (rest (left - segmentBytes m) q marks segs)) (sym (e .0))
+          (refused-20 (AllHad print m storage (x ∷ segs) (zero ∷ marks)) (λ c. e .1 (c .0)) (g .image ++ (x ++ joined segs)) marks (left - segmentBytes m) (rows print segs) (joined (sentOf marks segs)))
       go (inr e) =
-          subst (λ (q : Outcome Gathered). IsWhole (Covered (x ∷ segs) (zero ∷ marks)) (g .image ++ (x ++ joined segs)) (rest (left - segmentBytes m) q marks segs)) (sym e)
-          (subst (λ (l : List ℕ). IsWhole (Covered (x ∷ segs) (zero ∷ marks)) l (rest (left - segmentBytes m) (done (grown g x (g .sent))) marks segs)) (append-assoc (g .image) x (joined segs))
-          (good-if (Covered segs marks) (Covered (x ∷ segs) (zero ∷ marks)) (λ c. c .1) ((g .image ++ x) ++ joined segs)
+          subst (λ (q : Outcome Gathered). IsWhole (AllHad print m storage (x ∷ segs) (zero ∷ marks)) (g .image ++ (x ++ joined segs)) (rest (left - segmentBytes m) q marks segs)) (sym e)
+          (subst (λ (l : List ℕ). IsWhole (AllHad print m storage (x ∷ segs) (zero ∷ marks)) l (rest (left - segmentBytes m) (done (grown g x (g .sent))) marks segs)) (append-assoc (g .image) x (joined segs))
+          (good-if (AllHad print m storage segs marks) (AllHad print m storage (x ∷ segs) (zero ∷ marks)) (λ c. c .1) ((g .image ++ x) ++ joined segs)
           (rest (left - segmentBytes m) (done (grown g x (g .sent))) marks segs) r))
 
   sent-step : (left : ℕ) (x : List ℕ) (g : Gathered) (i : ℕ) (marks : List ℕ) (segs : List (List ℕ)) → length x ≡ segmentBytes m → allZero (drop left x) ≡ true
-      → IsWhole (Covered segs marks) ((g .image ++ x) ++ joined segs) (rest (left - segmentBytes m) (done (grown g x (g .sent ++ (x ∷ [])))) marks segs)
-      → IsWhole (Covered segs marks) (g .image ++ (x ++ joined segs)) (rest left (done g) (suc i ∷ marks) (x ∷ segs))
+      → IsWhole (AllHad print m storage segs marks) ((g .image ++ x) ++ joined segs) (rest (left - segmentBytes m) (done (grown g x (g .sent ++ (x ∷ [])))) marks segs)
+      → IsWhole (AllHad print m storage segs marks) (g .image ++ (x ++ joined segs)) (rest left (done g) (suc i ∷ marks) (x ∷ segs))
   sent-step left x g i marks segs w z r =
-      subst (IsWhole (Covered segs marks) (g .image ++ (x ++ joined segs))) (sym (next ∙ ap (λ (q : Outcome Gathered). rest (left - segmentBytes m) q marks segs) (sent-next left x g z)))
-      (subst (λ (l : List ℕ). IsWhole (Covered segs marks) l (rest (left - segmentBytes m) (done (grown g x (g .sent ++ (x ∷ [])))) marks segs)) (append-assoc (g .image) x (joined segs)) r)
+      subst (IsWhole (AllHad print m storage segs marks) (g .image ++ (x ++ joined segs))) (sym (next ∙ ap (λ (q : Outcome Gathered). rest (left - segmentBytes m) q marks segs) (sent-next left x g z)))
+      (subst (λ (l : List ℕ). IsWhole (AllHad print m storage segs marks) l (rest (left - segmentBytes m) (done (grown g x (g .sent ++ (x ∷ [])))) marks segs)) (append-assoc (g .image) x (joined segs)) r)
     where
       next : rest left (done g) (suc i ∷ marks) (x ∷ segs) ≡ rest (left - segmentBytes m) (takeSent print left (print x) x (done g)) marks segs
       next =
@@ -156,7 +160,7 @@ module _ (print : Print) (wide : (x : List ℕ) → length (print x) ≡ 20) (m 
   gather-ok : (segs : List (List ℕ)) (marks : List ℕ) → length marks ≡ length segs → Each (λ x. length x ≡ segmentBytes m) segs
       → (left : ℕ) → Ends (segmentBytes m) left segs → (g : Gathered)
       → Each (λ y. Each (Alike y) (zeroSegment m ∷ contents m storage)) segs → Each (λ y. Each (Alike y) (g .sent)) segs → NoneShare print segs
-      → IsWhole (Covered segs marks) (g .image ++ joined segs) (rest left (done g) marks segs)
+      → IsWhole (AllHad print m storage segs marks) (g .image ++ joined segs) (rest left (done g) marks segs)
   unfolding gather joined sentOf
   gather-ok [] [] e w left z g known old new = sym (append-nil (g .image))
   gather-ok [] (i ∷ marks) e w left z g known old new = absurd (omega (arith, e))
@@ -178,7 +182,7 @@ module _ (print : Print) (wide : (x : List ℕ) → length (print x) ≡ 20) (m 
   module _ (image marks : List ℕ) (p : 0 < segmentBytes m) (e : length marks ≡ length (segmentsOf m image))
       (u : NoneShare print (zeroSegment m ∷ (contents m storage ++ segmentsOf m image))) where
     pub assembled-ok : ((assembled print m storage (length image) (rows print (segmentsOf m image)) marks (joined (sentOf marks (segmentsOf m image))) ≡ refused 20)
-        × (¬ (Covered (segmentsOf m image) marks)))
+        × (¬ (AllHad print m storage (segmentsOf m image) marks)))
         ⊎ assembled print m storage (length image) (rows print (segmentsOf m image)) marks (joined (sentOf marks (segmentsOf m image))) ≡ done image
     unfolding assembled
     assembled-ok = go _ good
@@ -194,7 +198,7 @@ module _ (print : Print) (wide : (x : List ℕ) → length (print x) ≡ 20) (m 
             each-weaken (λ y. Each (Alike y) (known ++ segs)) (λ y. Each (Alike y) known × Each (Alike y) segs) (λ y h. each-split (Alike y) known segs h) segs
             (each-split (λ y. Each (Alike y) (known ++ segs)) known segs u .1)
 
-        good : IsWhole (Covered segs marks) (joined segs) (rest (length image) (done (record { image = []; sent = [] })) marks segs)
+        good : IsWhole (AllHad print m storage segs marks) (joined segs) (rest (length image) (done (record { image = []; sent = [] })) marks segs)
         good =
             unfold segmentsOf in
             gather-ok segs marks e (segments-whole (segmentBytes m) image) (length image) (segments-end (segmentBytes m) image) (record { image = []; sent = [] })
@@ -202,6 +206,6 @@ module _ (print : Print) (wide : (x : List ℕ) → length (print x) ≡ 20) (m 
             (each-weaken (λ y. Each (Alike y) known × Each (Alike y) segs) (λ y. Each (Alike y) []) (λ y h. tt) segs of-image)
             (each-weaken (λ y. Each (Alike y) known × Each (Alike y) segs) (λ y. Each (Alike y) segs) (λ y h. h .1) segs of-image)
 
-        go : (o : Outcome Gathered) → IsWhole (Covered segs marks) (joined segs) o → ((cutTo (length image) o ≡ refused 20) × (¬ (Covered segs marks))) ⊎ cutTo (length image) o ≡ done image
+        go : (o : Outcome Gathered) → IsWhole (AllHad print m storage segs marks) (joined segs) o → ((cutTo (length image) o ≡ refused 20) × (¬ (AllHad print m storage segs marks))) ⊎ cutTo (length image) o ≡ done image
         go (refused n) h = unfold cutTo in inl (ap refused (h .0), h .1)
         go (done g) h = unfold cutTo segmentsOf in inr (ap done (ap (take (length image)) h ∙ put-together (segmentBytes m) image p))

@@ -14,7 +14,7 @@ use Rattle.model.specs.State.{Block, Storage, State, Outcome, refused, done}
 use Rattle.model.specs.Image.{Era, isBare, imageBlocks, imageSegments}
 use Rattle.model.specs.Records.{isFree, equals}
 use Rattle.model.specs.Runs.{Run, findRun}
-use Rattle.model.specs.Place.{Placed, stored, writeRun, writeRecord, shareOrWrite, placeSegment, afterSome, placeNext, placeAll}
+use Rattle.model.specs.Place.{Placed, storedBlocks, writeRun, writeRecord, shareOrWrite, placeSegment, afterSome, placeNext, placeAll}
 use Rattle.model.specs.Calls.{newestDay, dayFor, tillOf, fileIn, placeAndFile, backup}
 
 abbrev pub Never19 : {A : Type 0} → Outcome A → Type 0
@@ -32,7 +32,7 @@ module _ (era : Era) where
 
       free : (o : Option ℕ) → Never19 (writeRecord era storage seg o)
       free none = unfold writeRecord in (λ e. absurd (omega (arith, e)))
-      free (some k) = unfold writeRecord in run k (findRun storage (length (stored era seg)))
+      free (some k) = unfold writeRecord in run k (findRun storage (length (storedBlocks era seg)))
 
       found : (o : Option ℕ) → Never19 (shareOrWrite era storage seg o)
       found none = unfold shareOrWrite in free (firstFrom isFree 0 (storage .records))

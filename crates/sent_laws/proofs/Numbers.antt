@@ -19,14 +19,14 @@ NotZero (refused n) = ¬ (n ≡ 0)
 NotZero (done a) = Unit {0}
 
 module _ (print : Print) (m : Measures) (storage : Storage) where
-  goes-on : (left : ℕ) (seg : List ℕ) (sent : List (List ℕ)) (g : Gathered) → NotZero (goOn left seg sent g)
+  go-on-not-zero : (left : ℕ) (seg : List ℕ) (sent : List (List ℕ)) (g : Gathered) → NotZero (goOn left seg sent g)
   unfolding goOn
-  goes-on left seg sent g = by-test NotZero (allZero (drop left seg)) (λ e. tt) (λ e n. absurd (omega (arith, n)))
+  go-on-not-zero left seg sent g = by-test NotZero (allZero (drop left seg)) (λ e. tt) (λ e n. absurd (omega (arith, n)))
 
   takes-sent : (left : ℕ) (f seg : List ℕ) (o : Outcome Gathered) → NotZero o → NotZero (takeSent print left f seg o)
   unfolding takeSent
   takes-sent left f seg (refused n) h = h
-  takes-sent left f seg (done g) h = by-test NotZero (sameNumbers (print seg) f) (λ e. goes-on left seg (g .sent ++ (seg ∷ [])) g) (λ e n. absurd (omega (arith, n)))
+  takes-sent left f seg (done g) h = by-test NotZero (sameNumbers (print seg) f) (λ e. go-on-not-zero left seg (g .sent ++ (seg ∷ [])) g) (λ e n. absurd (omega (arith, n)))
 
   takes-had : (left : ℕ) (f : List ℕ) (o : Outcome Gathered) → NotZero o → NotZero (takeHad print m storage left f o)
   unfolding takeHad
@@ -35,7 +35,7 @@ module _ (print : Print) (m : Measures) (storage : Storage) where
     where
       go : (o : Option (List ℕ)) → NotZero (goOnWith left o g)
       go none = unfold goOnWith in (λ n. absurd (omega (arith, n)))
-      go (some seg) = unfold goOnWith in goes-on left seg (g .sent) g
+      go (some seg) = unfold goOnWith in go-on-not-zero left seg (g .sent) g
 
   gathers : (marks : List ℕ) (left : ℕ) (o : Outcome Gathered) (fs ss : List ℕ) → NotZero o → NotZero (gather print m storage left o marks fs ss)
   unfolding gather

@@ -24,12 +24,12 @@ use Rattle.model.specs.Sound.{Store, storeOf}
 use Rattle.model.specs.Table.{shapeOf, stateIn}
 use Rattle.model.specs.Calls.{tillOf, After, newestDay, dayFor, placeAndFile, backup, backupAnswer, backupIn, backupBy, backupOf}
 use Rattle.sent.specs.Sent.{Print, segmentBytes, segmentsOf, contents, zeroSegment, sentFits, made, backupOn, backupSent, backupSentIn, backupSentBy}
-use Rattle.sent.specs.Claims.{sentOf, sentFor, knownIn, NoneShare, AllHad, MarksFor, AsWhole, SentIsBackup}
+use Rattle.sent.specs.Claims.{sentOf, sentFor, knownIn, NoneShare, MarksFor, AsWhole, SentIsBackup}
 use Rattle.laws.proofs.Image.{length-blocks}
 use Rattle.laws.specs.Stores.{Sound, storeRead}
 use Rattle.laws.proofs.Stores.{read-or-none, fit}
 use Rattle.sent_laws.proofs.Segments.{segments-whole, sent-length}
-use Rattle.sent_laws.proofs.Gather.{assembled-ok}
+use Rattle.sent_laws.proofs.Gather.{AllHad, assembled-ok}
 use Rattle.sent_laws.proofs.Never.{Never19, never-19}
 
 -- four refusals in their order, then what follows

@@ -12,10 +12,10 @@ use Rattle.lists.specs.Lists.{isSome, sameNumbers}
 use Rattle.lists.specs.Rows.{chunks}
 use Rattle.sha1.specs.declared.Digest.{Digest}
 use Rattle.sha1.specs.Sha1.{sha1, digest, digestBytes}
-use Rattle.model.specs.Measures.{Measures}
+use Rattle.model.specs.Measures.{Measures, recordsAt}
 use Rattle.model.specs.State.{Storage}
 use Rattle.model.specs.Table.{shapeOf, stateIn, storageIn}
-use Rattle.laws.specs.Stores.{Sound, recordsFrom}
+use Rattle.laws.specs.Stores.{Sound}
 use Rattle.sound_laws.proofs.Records.{storage-is}
 use Rattle.sent.specs.Sent.{zeroSegment, had}
 use Rattle.sent.specs.Found.{printAt, RecordsFor}
@@ -70,7 +70,7 @@ all-marked m storage fs found front zero count e r whole z n before marks lb lm 
     ∙ ap (λ (k : ℕ). wanted (sha1 (zeroSegment m)) fs found k j) n)
 
 -- with the measures as the code read them
-pub marks-read : {pool table : List ℕ} → Sound pool table → (at : ℕ) → at ≡ recordsFrom (shapeOf table) → (m : Measures) → m ≡ shapeOf table .measures → (fs marks : List ℕ)
+pub marks-read : {pool table : List ℕ} → Sound pool table → (at : ℕ) → at ≡ recordsAt (shapeOf table .capacities) → (m : Measures) → m ≡ shapeOf table .measures → (fs marks : List ℕ)
     → marks ≡ map (λ f. cond (isSome (had sha1 m (storageIn m pool (take (length table - at) (drop at table))) [] f)) 1 0) (chunks 20 fs)
     → marks ≡ map (λ f. cond (isSome (had sha1 (shapeOf table .measures) (stateIn (shapeOf table) pool table .storage) [] f)) 1 0) (chunks 20 fs)
 marks-read {pool} {table} h at e m q fs marks r =

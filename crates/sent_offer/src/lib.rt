@@ -90,7 +90,7 @@ pub fn offer_segments(
         return r;
     }
     let m = layout::measures_in(table);
-    let from = tills::records_at(table);
+    let from = layout::records_at(table);
     mark_all(pool, &table[from..], fingerprints, marks, m);
     0
 }

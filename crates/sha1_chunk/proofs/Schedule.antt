@@ -10,7 +10,7 @@ use lib.Dec.{ltb}
 use lib.ListN.{length, getD, take, drop, set, length-append, List·getD-append}
 use lib.Seq.{set-at, take-at, append-snoc}
 use Rattle.lists.proofs.Slices.{drop-next}
-use Rattle.sha1.specs.Sha1.{loaded, mixed, schedule}
+use Rattle.sha1.specs.Sha1.{chunkWord, mixed, schedule}
 
 pub length-schedule : (chunk : List ℕ) (t : ℕ) → length (schedule chunk t) ≡ t
 unfolding schedule
@@ -18,10 +18,10 @@ length-schedule chunk zero = refl
 length-schedule chunk (suc t) =
     let w = schedule chunk t in
     let h : length w ≡ t = length-schedule chunk t in
-    omega (arith, length-append w (cond (ltb t 16) (loaded chunk t) (mixed w t) ∷ []))
+    omega (arith, length-append w (cond (ltb t 16) (chunkWord chunk t) (mixed w t) ∷ []))
 
 module _ (chunk before : List ℕ) (t : ℕ) (fits : t < length before) where
-  write : (v : ℕ) → v ≡ cond (ltb t 16) (loaded chunk t) (mixed (schedule chunk t) t)
+  write : (v : ℕ) → v ≡ cond (ltb t 16) (chunkWord chunk t) (mixed (schedule chunk t) t)
       → set (schedule chunk t ++ drop t before) t v ≡ schedule chunk (t + 1) ++ drop (t + 1) before
   unfolding schedule
   write v e =
@@ -31,8 +31,8 @@ module _ (chunk before : List ℕ) (t : ℕ) (fits : t < length before) where
       ∙ ap (λ (x : ℕ). (schedule chunk t ++ (x ∷ [])) ++ drop (t + 1) before) e
       ∙ ap (λ (n : ℕ). schedule chunk n ++ drop (t + 1) before) (sym (add-one t))
 
-  pub load-more : t < 16 → set (schedule chunk t ++ drop t before) t (loaded chunk t) ≡ schedule chunk (t + 1) ++ drop (t + 1) before
-  load-more h = write (loaded chunk t) (rw (lt-ltb t 16 h))
+  pub load-more : t < 16 → set (schedule chunk t ++ drop t before) t (chunkWord chunk t) ≡ schedule chunk (t + 1) ++ drop (t + 1) before
+  load-more h = write (chunkWord chunk t) (rw (lt-ltb t 16 h))
 
   read : (j : ℕ) → 0 < j → j ≤ t → getD (schedule chunk t ++ drop t before) (t - j) 0 ≡ getD (schedule chunk t) (t - j) 0
   read j p q =

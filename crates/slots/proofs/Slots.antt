@@ -40,10 +40,6 @@ slot-room b j till h =
     let m : suc j * (3 + b) ≤ getD till 1 0 * (3 + b) = mul-le-mul-right (3 + b) (h .held) in
     (omega (arith, m, suc-mul j (3 + b), h .slots), omega (arith, m, suc-mul j (3 + b), h .slots, h .long))
 
--- a place before it, and the same words but for pointers
-pub slot-before : (b j : ℕ) (till : List ℕ) → HasSlot b j till → HasSlot b (j - 1) till
-slot-before b j till h = record { small = h .small; long = h .long; held = omega (arith, h .held); slots = h .slots }
-
 pub slot-still : (b j : ℕ) (till new : List ℕ) → HasSlot b j till → length new ≡ length till → getD new 1 0 ≡ getD till 1 0 → HasSlot b j new
 slot-still b j till new h l e = record {
   small = h .small;

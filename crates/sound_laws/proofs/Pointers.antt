@@ -89,6 +89,3 @@ module _ (s : Shape) (st : State) (sound : isSound s st ≡ true) (t : ℕ) (ht 
   -- and name held positions
   pub version-held : (j : ℕ) → NamesHeld (st .storage .records) (wordToPointer (getD (map pointerWord (version .pointers)) j 0))
   version-held j = words-each (NamesHeld (st .storage .records)) (version .pointers) (version-fits .pointers) (λ k. pointers-held s st sound t ht i k) j
-
-  pub version-most : length (version .pointers) ≤ b
-  version-most = version-fits .most

@@ -24,7 +24,7 @@ use Rattle.model.specs.Table.{versionIn, versionToWords, tillToWords, versionsI
 use Rattle.laws.proofs.Fits.{record-in, held-in, TillFits, VersionFits, pointer-in}
 use Rattle.laws.proofs.RoundTrip.{length-version, version-back, length-till}
 use Rattle.storage.specs.Fits.{WithinRecords, NamesHeld}
-use Rattle.restore_trace.specs.Versions.{noVersion, pointersAt, IndirectBelow, Traceable, Direct}
+use Rattle.restore_trace.specs.Versions.{noVersion, pointersAt, IndirectBelow, Traceable, DirectWithin}
 use Rattle.sound_laws.proofs.Storage.{fits, few-versions, few-blocks, wordsOf, words-length}
 
 -- ---- pointers that lead somewhere
@@ -35,12 +35,12 @@ module _ (n : ℕ) (storage : Storage) (most : (k : ℕ) → length (getD (stora
   next-length [] = refl
   next-length (v ∷ vs) = refl
 
-  one-leads : (ps : List Pointer) (p : Pointer) → resolves storage ps p ≡ true → IndirectBelow (length ps) p
+  resolves-below : (ps : List Pointer) (p : Pointer) → resolves storage ps p ≡ true → IndirectBelow (length ps) p
   unfolding IndirectBelow
-  one-leads ps nullPointer e = tt
-  one-leads ps blankPointer e = tt
-  one-leads ps (direct k i) e = tt
-  one-leads ps (indirect k) e = pointer-in ps k e
+  resolves-below ps nullPointer e = tt
+  resolves-below ps blankPointer e = tt
+  resolves-below ps (direct k i) e = tt
+  resolves-below ps (indirect k) e = pointer-in ps k e
 
   one-fits : (next : List Pointer) (p : Pointer) → resolves storage next p ≡ true → WithinRecords n (length (storage .records) * recordWords n) p
   unfolding WithinRecords positionAt
@@ -69,7 +69,7 @@ module _ (n : ℕ) (storage : Storage) (most : (k : ℕ) → length (getD (stora
     all-lead [] e i j = unfold IndirectBelow in tt
     all-lead (v ∷ vs) e zero j =
         subst (λ (l : ℕ). IndirectBelow l (getD (v .pointers) j nullPointer)) (next-length vs)
-        (by-place (IndirectBelow (length (nextPointers vs))) (unfold IndirectBelow in tt) (resolves storage (nextPointers vs)) (one-leads (nextPointers vs)) (v .pointers) (clause _ 1 e) j)
+        (by-place (IndirectBelow (length (nextPointers vs))) (unfold IndirectBelow in tt) (resolves storage (nextPointers vs)) (resolves-below (nextPointers vs)) (v .pointers) (clause _ 1 e) j)
     all-lead (v ∷ vs) e (suc i) j = all-lead vs (clause _ 3 e) i j
 
     all-fit : (vs : List Version) → areTraceable bytes b storage vs ≡ true → (i j : ℕ) → WithinRecords n (length (storage .records) * recordWords n) (getD (pointersAt vs i) j nullPointer)
@@ -125,14 +125,6 @@ module _ (s : Shape) (st : State) (sound : isSound s st ≡ true) (t : ℕ) (ht 
       go [] e k = omega arith
       go (g ∷ segs) e zero = omega (arith, e .0)
       go (g ∷ segs) e (suc k) = go segs (e .1) k
-
-  -- its words among the table's
-  pub till-row : take (tillWords (c .versions) b) (drop (headerWords + t * tillWords (c .versions) b) (stateToWords s st)) ≡ tillToWords (c .versions) b till
-  unfolding stateToWords headerToWords
-  till-row =
-      ap (take (tillWords (c .versions) b)) (sym (drop-drop (t * tillWords (c .versions) b) 8 (stateToWords s st)))
-      ∙ row-append (tillToWords (c .versions) b) (tillWords (c .versions) b) emptyTill (st .tills)
-      (wide-all (tillToWords (c .versions) b) (tillWords (c .versions) b) (length-till (c .versions) b) (st .tills)) (rows recordToWords (st .storage .records)) t ht
 
   -- each pointer of a version names what is there
   pub pointers-fit : (i j : ℕ) → WithinRecords n (length (st .storage .records) * recordWords n) (getD (pointersAt (till .versions) i) j nullPointer)
@@ -195,7 +187,7 @@ module _ (s : Shape) (st : State) (sound : isSound s st ≡ true) (t : ℕ) (ht 
           (all-lead n (st .storage) positions-most bytes b vs (traceable-from n (st .storage) positions-most bytes b i (till .versions) traceable));
     }
 
-    pub sound-direct : Direct n bytes b (length vs) (rows (versionToWords b) vs) (length (wordsOf s st sound))
+    pub sound-direct : DirectWithin n bytes b (length vs) (rows (versionToWords b) vs) (length (wordsOf s st sound))
     sound-direct = record {
       fit =
           subst (λ (us : List Version). (k j : ℕ) → WithinRecords n (length (wordsOf s st sound)) (getD (pointersAt us k) j nullPointer)) (sym slots-read)

@@ -43,16 +43,16 @@ module _ (s : Shape) (st : State) (sound : isSound s st ≡ true) where
   pub fits : StateFits s st
   fits = state-fits s st (omega (arith, range .measured .someBytes)) (range .measured .mostBlocks) sound
 
-  pub sound-told : Encodes (s .measures) (stateToBytes st) wordsOf (st .storage)
+  pub sound-encodes : Encodes (s .measures) (stateToBytes st) wordsOf (st .storage)
   unfolding stateToBytes
-  sound-told = record {
+  sound-encodes = record {
     cells = record { blocks = fits .cells; joins = refl };
     records = record { sized = fits .records; words = records-part s st fits };
   }
 
   -- the storage that the bytes and words are read as is the state's
   pub sound-storage : storageIn (s .measures) (stateToBytes st) wordsOf ≡ st .storage
-  sound-storage = storage-read (s .measures) (range .measured) (stateToBytes st) wordsOf (st .storage) sound-told
+  sound-storage = storage-read (s .measures) (range .measured) (stateToBytes st) wordsOf (st .storage) sound-encodes
 
   pub few-versions : c .versions ≤ 64
   few-versions = range .versions
@@ -61,15 +61,15 @@ module _ (s : Shape) (st : State) (sound : isSound s st ≡ true) where
   few-blocks = range .blocks
 
   pub words-length : length wordsOf ≡ length (st .storage .records) * width
-  words-length = records-length (s .measures .segmentBlocks) wordsOf (st .storage .records) (sound-told .records)
+  words-length = records-length (s .measures .segmentBlocks) wordsOf (st .storage .records) (sound-encodes .records)
 
   pub sound-stored : Stored (s .measures) (stateToBytes st) wordsOf
   sound-stored =
-      let size : length (stateToBytes st) ≡ c .cells * bytes = cells-length bytes (stateToBytes st) (st .storage .cells) (sound-told .cells) ∙ ap (λ (n : ℕ). n * bytes) (fits .cellCount) in
+      let size : length (stateToBytes st) ≡ c .cells * bytes = cells-length bytes (stateToBytes st) (st .storage .cells) (sound-encodes .cells) ∙ ap (λ (n : ℕ). n * bytes) (fits .cellCount) in
       let words : length wordsOf ≡ c .records * width = words-length ∙ ap (λ (n : ℕ). n * width) (fits .recordCount) in
       record {
         measured = range .measured;
-        encodes = subst (λ (x : Storage). Encodes (s .measures) (stateToBytes st) wordsOf x) (sym sound-storage) sound-told;
+        encodes = subst (λ (x : Storage). Encodes (s .measures) (stateToBytes st) wordsOf x) (sym sound-storage) sound-encodes;
         exact = subst (λ (x : Storage). Exact x) (sym sound-storage) (sound-valid s st sound .exact);
         some = let m : 1 * bytes ≤ c .cells * bytes = mul-le-mul-right bytes (range .someCells) in omega (arith, size);
         few = let m : c .cells * bytes ≤ 32768 * bytes = mul-le-mul-right bytes (range .cells) in omega (arith, size);

@@ -1,4 +1,4 @@
--- A record is free just where its three masks are 0.
+-- A record is free just where its three masks are 0, and names no cell where the mask of its held positions is.
 use mathlib.Core.Path.{_∙_, _≡_, ap, refl, sym}
 use mathlib.Core.Bool.{Bool, false, false≢true, true}
 use mathlib.Core.List.{List, [], _∷_}
@@ -9,7 +9,7 @@ use lib.Dec.{eqb}
 use borrow.Author.Tests.{eqb-false, eqb-true}
 use Rattle.lists.specs.Lists.{every}
 use Rattle.lists.specs.Masks.{maskOf}
-use Rattle.model.specs.Records.{isBlankPosition, isFree, isHeld, isRemoved}
+use Rattle.model.specs.Records.{cellsOf, isBlankPosition, isFree, isHeld, isRemoved}
 use Rattle.model.specs.State.{Segment, held, nullPosition, blankPosition, removed}
 use Rattle.model.specs.Table.{recordToWords}
 use Rattle.storage.proofs.Row.{blank-word, held-word, removed-word}
@@ -34,6 +34,15 @@ by-masks : (ps : Segment) (t : Bool) → isFree ps ≡ t → ((maskOf isHeld ps 
 by-masks ps true e n = absurd (n (free-masks ps e))
 by-masks ps false e n = sym e
 
+-- no cell without a held position
+pub cells-none : (ps : Segment) → maskOf isHeld ps ≡ 0 → cellsOf ps ≡ []
+unfolding cellsOf maskOf
+cells-none [] e = refl
+cells-none (nullPosition ∷ ps) e = cells-none ps (omega arith)
+cells-none (blankPosition ∷ ps) e = cells-none ps (omega arith)
+cells-none (held c n ∷ ps) e = absurd (omega arith)
+cells-none (removed ∷ ps) e = cells-none ps (omega arith)
+
 module _ (seg : Segment) (row : List ℕ) (s : row ≡ recordToWords seg) where
   pub held-is : getD row 0 0 ≡ maskOf isHeld seg
   held-is = ap (λ (l : List ℕ). getD l 0 0) s ∙ held-word seg
@@ -43,6 +52,9 @@ module _ (seg : Segment) (row : List ℕ) (s : row ≡ recordToWords seg) where
 
   pub blank-is : getD row 2 0 ≡ maskOf isBlankPosition seg
   blank-is = ap (λ (l : List ℕ). getD l 2 0) s ∙ blank-word seg
+
+  pub row-names-none : getD row 0 0 ≡ 0 → cellsOf seg ≡ []
+  row-names-none z = cells-none seg (sym held-is ∙ z)
 
   pub row-not-held : (getD row 0 0 ≡ 0 → ⊥) → false ≡ isFree seg
   row-not-held n = by-masks seg _ refl (λ z. n (held-is ∙ z .0))

@@ -1,6 +1,6 @@
 -- What a stored storage gives: how many cells and records there are, that every position's cell is one of the cells, and that a cell that none names is zero.
 use mathlib.Core.Path.{_≡_, refl, sym, ap, _∙_}
-use mathlib.Core.Bool.{Bool, true, false, cond}
+use mathlib.Core.Bool.{Bool, true, false, cond, not}
 use mathlib.Core.List.{List, [], _++_}
 use mathlib.Core.Logic.{_↔_}
 use Prim.Native.Nat.{ℕ, suc, _+_, _*_, _/_, _≤_, _<_}
@@ -31,9 +31,9 @@ unfolding cellsIn
 cells-count bytes pool = length-chunks bytes pool
 
 -- whole cells, and nothing left over
-pub cells-told : (bytes n : ℕ) (pool : List ℕ) → 0 < bytes → length pool ≡ n * bytes → EncodesCells bytes pool (cellsIn bytes pool)
+pub encodes-cells : (bytes n : ℕ) (pool : List ℕ) → 0 < bytes → length pool ≡ n * bytes → EncodesCells bytes pool (cellsIn bytes pool)
 unfolding cellsIn chunks
-cells-told bytes n pool h e = record {
+encodes-cells bytes n pool h e = record {
   blocks =
       each-part (λ (b : Block). length b ≡ bytes) bytes (length pool / bytes) pool
       (λ i l. length-take-le bytes (drop (i * bytes) pool) (omega (arith, row-in (length pool) bytes h i l, length-drop (i * bytes) pool)));
@@ -89,9 +89,9 @@ module _ (sh : Storage) (x : Exact sh) where
       zero-bit : (b : Block) → filledBit b ≡ 0 → allZero b ≡ true
       zero-bit b h = go (allZero b) refl (unfold filledBit in h)
         where
-          go : (t : Bool) → allZero b ≡ t → _≡_ {A = ℕ} (cond (allZero b) 0 1) 0 → allZero b ≡ true
+          go : (t : Bool) → allZero b ≡ t → _≡_ {A = ℕ} (cond (not (allZero b)) 1 0) 0 → allZero b ≡ true
           go true e h = e
-          go false e h = absurd (omega (arith, h, ap {B = ℕ} (λ (t : Bool). cond t 0 1) e))
+          go false e h = absurd (omega (arith, h, ap {B = ℕ} (λ (t : Bool). cond (not t) 1 0) e))
 
 -- ---- Stored
 

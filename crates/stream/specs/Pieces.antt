@@ -2,9 +2,9 @@
 use Prim.Native.Nat.{ℕ}
 use mathlib.Core.Bool.{cond}
 use mathlib.Core.List.{List, []}
+use Rattle.model.specs.Sound.{isFilled}
 use Rattle.model.specs.State.{Block}
-use Rattle.stream.specs.Stream.{filled}
 
 -- the block itself, if it has a bit
 abbrev pub blockPart : Block → List ℕ
-blockPart b = cond (filled b) b []
+blockPart b = cond (isFilled b) b []

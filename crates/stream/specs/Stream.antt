@@ -2,10 +2,11 @@
 -- whatever a store's measures are. Each call answers a refusal's number, 0 for an accepted call, and a length, 0 in a refusal; and says what the output
 -- is afterwards.
 use Prim.Native.Nat.{ℕ, zero, suc, _+_, _-_, _*_, _/_, _%_, _^_, min}
-use mathlib.Core.Bool.{Bool, cond, not}
+use mathlib.Core.Bool.{Bool, cond}
 use mathlib.Core.List.{List, [], _∷_, _++_}
 use lib.ListN.{length, getD, take, drop}
 use lib.Dec.{eqb, ltb, leb}
+use Rattle.model.specs.Sound.{isFilled}
 use Rattle.lists.specs.Lists.{allZero, allOf, keep}
 use Rattle.lists.specs.Rows.{joined, rows}
 use Rattle.lists.specs.Masks.{maskOf}
@@ -31,14 +32,10 @@ hasStream n = isWithin 1 65536 n
 unfoldable pub fourBytes : ℕ → List ℕ
 fourBytes n = n % 256 ∷ n / 256 % 256 ∷ n / 65536 % 256 ∷ n / 16777216 % 256 ∷ []
 
--- null blocks have no bit
-abbrev pub filled : Block → Bool
-filled b = not (allZero b)
-
--- Eight blocks: a bit map byte, bit 0 (the lowest) for the first block, and only the blocks whose bit stands. The missing blocks of the last group have no
--- bit either: a segment is filled up with null blocks.
+-- Eight blocks: a bit map byte, bit 0 (the lowest) for the first block, and only the blocks whose bit stands: null blocks have
+-- none. The missing blocks of the last group have no bit either: a segment is filled up with null blocks.
 unfoldable pub groupBytes : List Block → List ℕ
-groupBytes bs = maskOf filled bs ∷ joined (keep filled bs)
+groupBytes bs = maskOf isFilled bs ∷ joined (keep isFilled bs)
 
 -- the length, then the groups
 unfoldable pub streamOf : List ℕ → List ℕ
@@ -70,7 +67,7 @@ andThen a b = cond (eqb (a .refusal) 0) (record { refusal = b .refusal; bytes = 
 
 -- whether a block may have a bit, where `left` bytes of the image are left at its start: it is not null, and zero after the length
 unfoldable pub mayStand : ℕ → Block → Bool
-mayStand left b = allOf (not (allZero b) ∷ allZero (drop left b) ∷ [])
+mayStand left b = allOf (isFilled b ∷ allZero (drop left b) ∷ [])
 
 -- A block, by its bit: null without one; with one the next 64 bytes of the stream, 24 for a block cut short, 26 for one that may not stand.
 unfoldable pub readBlock : ℕ → ℕ → List ℕ → Read

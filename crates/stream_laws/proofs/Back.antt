@@ -18,8 +18,9 @@ use Rattle.lists.proofs.Filled.{fill-back, fill-cut}
 use Rattle.model.specs.Measures.{partsFor}
 use Rattle.model.specs.State.{Block}
 use Rattle.model.specs.Image.{blockFrom, blocksFrom, segmentsFrom, imageSegments}
+use Rattle.model.specs.Sound.{isFilled}
 use Rattle.laws.proofs.Measures.{parts-enough}
-use Rattle.stream.specs.Stream.{Read, passed, stopped, andThen, readBlock, readBlocks, readGroup, readGroups, readEnd, readBody, groupBytes, filled}
+use Rattle.stream.specs.Stream.{Read, passed, stopped, andThen, readBlock, readBlocks, readGroup, readGroups, readEnd, readBody, groupBytes}
 use Rattle.stream.specs.Pieces.{blockPart}
 use Rattle.stream_laws.proofs.Ways.{block-is, then-done, then-first, then-second}
 use Rattle.stream_laws.proofs.Forward.{part-first}
@@ -40,8 +41,8 @@ module _ (image : List ℕ) (at left w : ℕ) (b more : List ℕ) (n : length b 
 
 -- what accepted blocks were
 pub record Blocks-are (k bits : ℕ) (s : List ℕ) (a : Read) (bs : List Block) : Type 0 where
-  pub bit : bits ≡ maskOf filled bs
-  pub stream : s ≡ joined (keep filled bs) ++ a .rest
+  pub bit : bits ≡ maskOf isFilled bs
+  pub stream : s ≡ joined (keep isFilled bs) ++ a .rest
 
 pub blocks-size : (k bits left : ℕ) (s : List ℕ) → readBlocks k bits left s .refusal ≡ 0 → length (readBlocks k bits left s .bytes) ≡ k * 64
 unfolding readBlocks passed
@@ -69,7 +70,7 @@ blocks-are (suc k) bits left s image at more h e d =
     let bs : List Block = blocksFrom 64 image (at + 64) k in
     record {
       bit = rw first (omega (arith, o .marked, rec .bit));
-      stream = rw (first, part-first (a .bytes) bs, x, append-assoc (blockPart (a .bytes)) (joined (keep filled bs)) (b .rest)) (o .stream ∙ ap (λ (l : List ℕ). blockPart (a .bytes) ++ l) (rec .stream));
+      stream = rw (first, part-first (a .bytes) bs, x, append-assoc (blockPart (a .bytes)) (joined (keep isFilled bs)) (b .rest)) (o .stream ∙ ap (λ (l : List ℕ). blockPart (a .bytes) ++ l) (rec .stream));
     }
 
 -- ---- groups

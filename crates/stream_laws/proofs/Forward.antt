@@ -20,20 +20,21 @@ use Rattle.lists.proofs.Rows.{fill-split}
 use Rattle.model.specs.Measures.{isWithin, partsFor}
 use Rattle.model.specs.State.{Block}
 use Rattle.model.specs.Image.{zeroBlock, blockFrom, blocksFrom, segmentsFrom, imageSegments}
+use Rattle.model.specs.Sound.{isFilled}
 use Rattle.laws.proofs.Image.{length-block, blocks-past}
 use Rattle.laws.proofs.Measures.{parts-enough}
-use Rattle.stream.specs.Stream.{Read, passed, readBlock, readBlocks, readGroup, readGroups, readEnd, readBody, filled, groupBytes, fourBytes, lengthIn, hasStream, streamOf, delivered, readStream}
+use Rattle.stream.specs.Stream.{Read, passed, readBlock, readBlocks, readGroup, readGroups, readEnd, readBody, groupBytes, fourBytes, lengthIn, hasStream, streamOf, delivered, readStream}
 use Rattle.stream.specs.Pieces.{blockPart}
 use Rattle.stream_laws.proofs.Ways.{passed-yes, then-passed, block-back}
 use Rattle.lists.proofs.Filled.{fill-after, fill-step}
 use Rattle.stream_laws.proofs.Ranges.{parts-next}
 
 -- the block's own bytes first
-pub part-first : (b : Block) (bs : List Block) → joined (keep filled (b ∷ bs)) ≡ blockPart b ++ joined (keep filled bs)
+pub part-first : (b : Block) (bs : List Block) → joined (keep isFilled (b ∷ bs)) ≡ blockPart b ++ joined (keep isFilled bs)
 unfolding keep joined
 part-first b bs = go (allZero b)
   where
-    go : (t : Bool) → joined (cond (not t) (b ∷ keep filled bs) (keep filled bs)) ≡ cond (not t) b [] ++ joined (keep filled bs)
+    go : (t : Bool) → joined (cond (not t) (b ∷ keep isFilled bs) (keep isFilled bs)) ≡ cond (not t) b [] ++ joined (keep isFilled bs)
     go true = refl
     go false = refl
 
@@ -44,37 +45,37 @@ module _ (image : List ℕ) where
   block-zero-after at = rw (← length-drop at image) (fill-after 64 (drop at image))
 
   pub blocks-back : (n at : ℕ) (s : List ℕ)
-      → readBlocks n (maskOf filled (blocksFrom 64 image at n)) (length image - at) (joined (keep filled (blocksFrom 64 image at n)) ++ s) ≡ passed (fill (n * 64) (drop at image)) s
+      → readBlocks n (maskOf isFilled (blocksFrom 64 image at n)) (length image - at) (joined (keep isFilled (blocksFrom 64 image at n)) ++ s) ≡ passed (fill (n * 64) (drop at image)) s
   unfolding readBlocks blocksFrom keep joined fill passed blockFrom
   blocks-back zero at s = refl
   blocks-back (suc n) at s =
       let b : Block = blockFrom 64 image at in
       let bs : List Block = blocksFrom 64 image (at + 64) n in
-      let e : joined (keep filled (b ∷ bs)) ++ s ≡ blockPart b ++ (joined (keep filled bs) ++ s) = ap (λ (l : List ℕ). l ++ s) (part-first b bs) ∙ append-assoc (blockPart b) (joined (keep filled bs)) s in
+      let e : joined (keep isFilled (b ∷ bs)) ++ s ≡ blockPart b ++ (joined (keep isFilled bs) ++ s) = ap (λ (l : List ℕ). l ++ s) (part-first b bs) ∙ append-assoc (blockPart b) (joined (keep isFilled bs)) s in
       let z : length image - at - 64 ≡ length image - (at + 64) = omega arith in
-      let o : readBlock (maskOf filled (b ∷ bs) % 2) (length image - at) (joined (keep filled (b ∷ bs)) ++ s) ≡ passed b (joined (keep filled bs) ++ s) =
-      rw (mask-odd filled b bs, e) (block-back b (length image - at) (joined (keep filled bs) ++ s) (length-block 64 image at) (block-zero-after at)) in
-      rw (o, mask-half filled b bs, z)
-      (then-passed b (joined (keep filled bs) ++ s) _ (fill (n * 64) (drop (at + 64) image)) s (blocks-back n (at + 64) s)
+      let o : readBlock (maskOf isFilled (b ∷ bs) % 2) (length image - at) (joined (keep isFilled (b ∷ bs)) ++ s) ≡ passed b (joined (keep isFilled bs) ++ s) =
+      rw (mask-odd isFilled b bs, e) (block-back b (length image - at) (joined (keep isFilled bs) ++ s) (length-block 64 image at) (block-zero-after at)) in
+      rw (o, mask-half isFilled b bs, z)
+      (then-passed b (joined (keep isFilled bs) ++ s) _ (fill (n * 64) (drop (at + 64) image)) s (blocks-back n (at + 64) s)
       ∙ ap (λ (l : List ℕ). passed l s) (fill-step 64 n at image))
 
   -- no bit on a missing block
-  pub none-missing : (n at : ℕ) → maskOf filled (blocksFrom 64 image at n) < 2 ^ min n (partsFor 64 (length image - at))
+  pub none-missing : (n at : ℕ) → maskOf isFilled (blocksFrom 64 image at n) < 2 ^ min n (partsFor 64 (length image - at))
   unfolding blocksFrom maskOf zeroBlock
   none-missing zero at = let p : 0 < 2 ^ min 0 (partsFor 64 (length image - at)) = pow-pos (min 0 (partsFor 64 (length image - at))) in p
   none-missing (suc n) at = go (leb (length image) at) refl (none-missing n (at + 64))
     where
-      go : (t : Bool) → leb (length image) at ≡ t → maskOf filled (blocksFrom 64 image (at + 64) n) < 2 ^ min n (partsFor 64 (length image - (at + 64)))
-          → maskOf filled (blocksFrom 64 image at (suc n)) < 2 ^ min (suc n) (partsFor 64 (length image - at))
+      go : (t : Bool) → leb (length image) at ≡ t → maskOf isFilled (blocksFrom 64 image (at + 64) n) < 2 ^ min n (partsFor 64 (length image - (at + 64)))
+          → maskOf isFilled (blocksFrom 64 image at (suc n)) < 2 ^ min (suc n) (partsFor 64 (length image - at))
       go true q h =
-          let m : maskOf filled (blocksFrom 64 image at (suc n)) ≡ 0 = ap (maskOf filled) (blocks-past 64 image (suc n) at (leb-true (length image) at q)) ∙ mask-replicate filled (suc n) (zeroBlock 64) (ap not (zeros-zero 64)) in
+          let m : maskOf isFilled (blocksFrom 64 image at (suc n)) ≡ 0 = ap (maskOf isFilled) (blocks-past 64 image (suc n) at (leb-true (length image) at q)) ∙ mask-replicate isFilled (suc n) (zeroBlock 64) (ap not (zeros-zero 64)) in
           rw m (pow-pos (min (suc n) (partsFor 64 (length image - at))))
       go false q h =
           let l : at < length image = leb-false (length image) at q in
           let z : length image - at - 64 ≡ length image - (at + 64) = omega arith in
           let p : partsFor 64 (length image - at) ≡ suc (partsFor 64 (length image - (at + 64))) = parts-next (length image - at) (omega arith) ∙ ap (λ (k : ℕ). suc (partsFor 64 k)) z in
           let k : min (suc n) (suc (partsFor 64 (length image - (at + 64)))) ≡ suc (min n (partsFor 64 (length image - (at + 64)))) = omega arith in
-          rw (p, k) (omega (arith, h, pow-suc 2 (min n (partsFor 64 (length image - (at + 64)))), bit-le-one (filled (blockFrom 64 image at))))
+          rw (p, k) (omega (arith, h, pow-suc 2 (min n (partsFor 64 (length image - (at + 64)))), bit-le-one (isFilled (blockFrom 64 image at))))
 
   pub group-back : (at : ℕ) (s : List ℕ) → readGroup (length image - at) (groupBytes (blocksFrom 64 image at 8) ++ s) ≡ passed (fill 512 (drop at image)) s
   unfolding readGroup groupBytes

@@ -14,6 +14,7 @@ use Rattle.lists.proofs.Slices.{drop-same}
 use Rattle.lists.proofs.Tests.{clause, all-true}
 use Rattle.model.specs.State.{Block}
 use Rattle.model.specs.Image.{zeroBlock}
+use Rattle.model.specs.Sound.{isFilled}
 use Rattle.stream.specs.Stream.{Read, passed, stopped, andThen, mayStand, readBlock}
 use Rattle.stream.specs.Pieces.{blockPart}
 
@@ -50,24 +51,24 @@ then-passed bytes rest b more end e = then-done (passed bytes rest) b refl ∙ r
 
 -- ---- a block
 
-pub may-filled : (left : ℕ) (b : Block) → mayStand left b ≡ true → not (allZero b) ≡ true
+pub may-filled : (left : ℕ) (b : Block) → mayStand left b ≡ true → isFilled b ≡ true
 unfolding mayStand
-may-filled left b e = clause (not (allZero b) ∷ allZero (drop left b) ∷ []) 0 e
+may-filled left b e = clause (isFilled b ∷ allZero (drop left b) ∷ []) 0 e
 
 pub may-zero : (left : ℕ) (b : Block) → mayStand left b ≡ true → allZero (drop left b) ≡ true
 unfolding mayStand
-may-zero left b e = clause (not (allZero b) ∷ allZero (drop left b) ∷ []) 1 e
+may-zero left b e = clause (isFilled b ∷ allZero (drop left b) ∷ []) 1 e
 
-pub may-stand : (left : ℕ) (b : Block) → not (allZero b) ≡ true → allZero (drop left b) ≡ true → mayStand left b ≡ true
+pub may-stand : (left : ℕ) (b : Block) → isFilled b ≡ true → allZero (drop left b) ≡ true → mayStand left b ≡ true
 unfolding mayStand
-may-stand left b n z = all-true (not (allZero b) ∷ allZero (drop left b) ∷ []) (n, (z, tt))
+may-stand left b n z = all-true (isFilled b ∷ allZero (drop left b) ∷ []) (n, (z, tt))
 
 -- what an accepted block is: its 64 bytes, zero after the length; its bit says whether it is null
 pub record Block-is (bit left : ℕ) (s : List ℕ) (a : Read) : Type 0 where
   pub size : length (a .bytes) ≡ 64
   pub zero-after : allZero (drop left (a .bytes)) ≡ true
   pub stream : s ≡ blockPart (a .bytes) ++ a .rest
-  pub marked : bit ≡ cond (not (allZero (a .bytes))) 1 0
+  pub marked : bit ≡ cond (isFilled (a .bytes)) 1 0
 
 pub block-is : (bit left : ℕ) (s : List ℕ) → bit < 2 → readBlock bit left s .refusal ≡ 0 → Block-is bit left s (readBlock bit left s)
 unfolding readBlock passed stopped zeroBlock
@@ -82,7 +83,7 @@ block-is (suc bit) left s h e = go (ltb (length s) 64) refl e
     one : (b : Bool) → mayStand left (take 64 s) ≡ b → 64 ≤ length s → cond b (passed (take 64 s) (drop 64 s)) (stopped 26) .refusal ≡ 0
         → Block-is (suc bit) left s (cond b (passed (take 64 s) (drop 64 s)) (stopped 26))
     one true q l e =
-        let n : not (allZero (take 64 s)) ≡ true = may-filled left (take 64 s) q in
+        let n : isFilled (take 64 s) ≡ true = may-filled left (take 64 s) q in
         record {
           size = length-take-le 64 s l;
           zero-after = may-zero left (take 64 s) q;
@@ -98,7 +99,7 @@ block-is (suc bit) left s h e = go (ltb (length s) 64) refl e
 
 -- a block's own bytes are read back
 pub block-back : (b : Block) (left : ℕ) (s : List ℕ) → length b ≡ 64 → allZero (drop left b) ≡ true
-    → readBlock (cond (not (allZero b)) 1 0) left (blockPart b ++ s) ≡ passed b s
+    → readBlock (cond (isFilled b) 1 0) left (blockPart b ++ s) ≡ passed b s
 unfolding readBlock zeroBlock
 block-back b left s n z = go (allZero b) refl
   where

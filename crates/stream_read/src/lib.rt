@@ -1,4 +1,4 @@
-// A stream is read back into an image: a first walk through the stream (stream_check) looks for what is to be refused, a second one writes the image.
+// A stream is read back into an image: a first walk through the stream (`stream_check`) looks for what is to be refused, a second one writes the image.
 ghost use mathlib.Core.Path.{_≡_};
 ghost use Prim.Native.Nat.{_+_, _-_, _≤_, _<_};
 ghost use lib.ListN.{length, take, drop};

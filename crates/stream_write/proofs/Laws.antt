@@ -21,8 +21,9 @@ use Rattle.lists.proofs.Written.{written-written}
 use Rattle.model.specs.Measures.{partsFor}
 use Rattle.model.specs.State.{Block}
 use Rattle.model.specs.Image.{blockFrom, blocksFrom, segmentsFrom, imageSegments}
+use Rattle.model.specs.Sound.{isFilled}
 use Rattle.laws.proofs.Image.{length-block, length-blocks}
-use Rattle.stream.specs.Stream.{fourBytes, groupBytes, streamOf, filled}
+use Rattle.stream.specs.Stream.{fourBytes, groupBytes, streamOf}
 use Rattle.stream.specs.Pieces.{blockPart}
 use Rattle.stream_laws.proofs.Forward.{part-first, four-long}
 use Rattle.lists.specs.Written.{written}
@@ -49,18 +50,18 @@ module _ (image : List ℕ) where
   -- ---- the map
 
   -- a bit more, the last block first
-  pub map-front : (from i m : ℕ) → 0 < i → i ≤ 8 → m ≡ maskOf filled (blocksLeft from i)
-      → cond (filled (blockFrom 64 image (from + (i - 1) * 64))) 1 0 + 2 * m ≡ maskOf filled (blocksLeft from (i - 1))
+  pub map-front : (from i m : ℕ) → 0 < i → i ≤ 8 → m ≡ maskOf isFilled (blocksLeft from i)
+      → cond (isFilled (blockFrom 64 image (from + (i - 1) * 64))) 1 0 + 2 * m ≡ maskOf isFilled (blocksLeft from (i - 1))
   unfolding maskOf
   map-front from i m h l e =
       let z : i - 1 + 1 ≡ i = omega arith in
       rw (left-next from (i - 1) (omega arith), z, ← e)
 
-  pub map-small : (at n : ℕ) → n ≤ 8 → maskOf filled (blocksFrom 64 image at n) < 256
+  pub map-small : (at n : ℕ) → n ≤ 8 → maskOf isFilled (blocksFrom 64 image at n) < 256
   map-small at n h =
       let k : length (blocksFrom 64 image at n) ≤ 8 = omega (arith, length-blocks 64 image at n) in
       let p : 2 ^ length (blocksFrom 64 image at n) ≤ 2 ^ 8 = pow-mono k in
-      omega (arith, p, mask-lt filled (blocksFrom 64 image at n))
+      omega (arith, p, mask-lt isFilled (blocksFrom 64 image at n))
 
   -- ---- a group's bytes
 
@@ -69,25 +70,25 @@ module _ (image : List ℕ) where
   blocks-whole at zero = tt
   blocks-whole at (suc n) = (length-block 64 image at, blocks-whole (at + 64) n)
 
-  pub group-size : (at : ℕ) → (length (groupBytes (blocksFrom 64 image at 8)) ≡ 1 + 64 * ones (maskOf filled (blocksFrom 64 image at 8))) × (ones (maskOf filled (blocksFrom 64 image at 8)) ≤ 8)
+  pub group-size : (at : ℕ) → (length (groupBytes (blocksFrom 64 image at 8)) ≡ 1 + 64 * ones (maskOf isFilled (blocksFrom 64 image at 8))) × (ones (maskOf isFilled (blocksFrom 64 image at 8)) ≤ 8)
   unfolding groupBytes
   group-size at =
       let bs : List Block = blocksFrom 64 image at 8 in
-      let n : length (joined (keep filled bs)) ≡ length (keep filled bs) * 64 = length-joined 64 (keep filled bs) (keep-each (λ (b : Block). length b ≡ 64) filled bs (blocks-whole at 8)) in
-      let o : ones (maskOf filled bs) ≡ length (keep filled bs) = ones-mask filled bs ∙ sym (length-keep filled bs) in
-      (omega (arith, n, o), omega (arith, o, length-keep filled bs, count-most filled bs, length-blocks 64 image at 8))
+      let n : length (joined (keep isFilled bs)) ≡ length (keep isFilled bs) * 64 = length-joined 64 (keep isFilled bs) (keep-each (λ (b : Block). length b ≡ 64) isFilled bs (blocks-whole at 8)) in
+      let o : ones (maskOf isFilled bs) ≡ length (keep isFilled bs) = ones-mask isFilled bs ∙ sym (length-keep isFilled bs) in
+      (omega (arith, n, o), omega (arith, o, length-keep isFilled bs, count-most isFilled bs, length-blocks 64 image at 8))
 
   -- the bytes of a group's blocks from the i-th on
   unfoldable pub bytesLeft : ℕ → ℕ → List ℕ
-  bytesLeft from i = joined (keep filled (blocksLeft from i))
+  bytesLeft from i = joined (keep isFilled (blocksLeft from i))
 
-  pub bytes-start : (from : ℕ) → joined (keep filled (blocksFrom 64 image from 8)) ≡ bytesLeft from 0
+  pub bytes-start : (from : ℕ) → joined (keep isFilled (blocksFrom 64 image from 8)) ≡ bytesLeft from 0
   unfolding bytesLeft
   bytes-start from = let z : from + 0 * 64 ≡ from = omega arith in rw z
 
   pub bytes-next : (from i : ℕ) → i < 8 → bytesLeft from i ≡ blockPart (blockFrom 64 image (from + i * 64)) ++ bytesLeft from (i + 1)
   unfolding bytesLeft
-  bytes-next from i h = ap (λ (bs : List Block). joined (keep filled bs)) (left-next from i h) ∙ part-first (blockFrom 64 image (from + i * 64)) (blocksLeft from (i + 1))
+  bytes-next from i h = ap (λ (bs : List Block). joined (keep isFilled bs)) (left-next from i h) ∙ part-first (blockFrom 64 image (from + i * 64)) (blocksLeft from (i + 1))
 
   pub bytes-end : (from i : ℕ) → 8 ≤ i → bytesLeft from i ≡ []
   unfolding bytesLeft keep joined blocksFrom
@@ -139,20 +140,20 @@ module _ (image : List ℕ) (from : ℕ) where
 -- ---- a group: the map byte, then the blocks
 
 module _ (image : List ℕ) (from : ℕ) where
-  group-bytes : groupBytes (blocksFrom 64 image from 8) ≡ (maskOf filled (blocksFrom 64 image from 8) ∷ []) ++ joined (keep filled (blocksFrom 64 image from 8))
+  group-bytes : groupBytes (blocksFrom 64 image from 8) ≡ (maskOf isFilled (blocksFrom 64 image from 8) ∷ []) ++ joined (keep isFilled (blocksFrom 64 image from 8))
   unfolding groupBytes
   group-bytes = refl
 
-  pub group-long : length (groupBytes (blocksFrom 64 image from 8)) ≡ 1 + length (joined (keep filled (blocksFrom 64 image from 8)))
-  group-long = ap length group-bytes ∙ length-append (maskOf filled (blocksFrom 64 image from 8) ∷ []) (joined (keep filled (blocksFrom 64 image from 8)))
+  pub group-long : length (groupBytes (blocksFrom 64 image from 8)) ≡ 1 + length (joined (keep isFilled (blocksFrom 64 image from 8)))
+  group-long = ap length group-bytes ∙ length-append (maskOf isFilled (blocksFrom 64 image from 8) ∷ []) (joined (keep isFilled (blocksFrom 64 image from 8)))
 
   pub group-put : (at : ℕ) (out : List ℕ) (m r : ℕ) (out′ : List ℕ) → at + length (groupBytes (blocksFrom 64 image from 8)) ≤ length out
-      → m ≡ maskOf filled (blocksFrom 64 image from 8) → r ≡ at + 1 + length (joined (keep filled (blocksFrom 64 image from 8)))
-      → out′ ≡ written (set out at m) (at + 1) (joined (keep filled (blocksFrom 64 image from 8)))
+      → m ≡ maskOf isFilled (blocksFrom 64 image from 8) → r ≡ at + 1 + length (joined (keep isFilled (blocksFrom 64 image from 8)))
+      → out′ ≡ written (set out at m) (at + 1) (joined (keep isFilled (blocksFrom 64 image from 8)))
       → (r ≡ at + length (groupBytes (blocksFrom 64 image from 8))) × (out′ ≡ written out at (groupBytes (blocksFrom 64 image from 8)))
   group-put at out m r out′ h e f g =
       let one : set out at m ≡ written out at (m ∷ []) = written-one out at m (omega (arith, group-long)) in
-      let js : List ℕ = joined (keep filled (blocksFrom 64 image from 8)) in
+      let js : List ℕ = joined (keep isFilled (blocksFrom 64 image from 8)) in
       let all : (m ∷ []) ++ js ≡ groupBytes (blocksFrom 64 image from 8) = rw e (sym group-bytes) in
       let two : written (written out at (m ∷ [])) (at + 1) js ≡ written out at ((m ∷ []) ++ js) = written-written out at (m ∷ []) js (omega (arith, h, group-long)) in
       (omega (arith, f, group-long), g ∙ ap (λ (l : List ℕ). written l (at + 1) js) one ∙ two ∙ ap (written out at) all)

@@ -7,7 +7,8 @@ ghost use Rattle.lists.specs.Lists.{keep};
 ghost use Rattle.lists.specs.Rows.{joined, rows};
 ghost use Rattle.lists.specs.Masks.{maskOf};
 ghost use Rattle.model.specs.Image.{blockFrom, blocksFrom, imageSegments};
-ghost use Rattle.stream.specs.Stream.{fourBytes, groupBytes, streamOf, writeStream, filled};
+ghost use Rattle.model.specs.Sound.{isFilled};
+ghost use Rattle.stream.specs.Stream.{fourBytes, groupBytes, streamOf, writeStream};
 ghost use Rattle.stream.specs.Pieces.{blockPart};
 ghost use Rattle.stream_write.specs.Answers.{streamWritten};
 ghost use Rattle.lists.specs.Written.{written};
@@ -24,7 +25,7 @@ pub struct StreamWritten {
 // 0 for a null block, else 1.
 fn block_mark(image: &[u8], at: usize) -> u32
     requires { ⌜ at ≤ 131072 ⌝ }
-    ensures { λ r. ⌜ (r ≡ cond (filled (blockFrom 64 (now (image .entry)) at)) 1 0) × (r ≤ 1) ⌝ }
+    ensures { λ r. ⌜ (r ≡ cond (isFilled (blockFrom 64 (now (image .entry)) at)) 1 0) × (r ≤ 1) ⌝ }
 {
     if blocks::block_zero(image, at, Block::BYTES) {
         return 0;
@@ -35,7 +36,7 @@ fn block_mark(image: &[u8], at: usize) -> u32
 // The bit map of the eight blocks from a byte on, the last block first.
 fn group_map(image: &[u8], from: usize) -> u32
     requires { ⌜ from ≤ 65536 ⌝ }
-    ensures { λ r. ⌜ (r ≡ maskOf filled (blocksFrom 64 (now (image .entry)) from 8)) × (r < 256) ⌝ }
+    ensures { λ r. ⌜ (r ≡ maskOf isFilled (blocksFrom 64 (now (image .entry)) from 8)) × (r < 256) ⌝ }
 {
     let mut m: u32 = 0;
     let mut i: usize = Group::BLOCKS;
@@ -84,8 +85,8 @@ fn put_if(image: &[u8], from: usize, output: &mut [u8], at: usize) -> usize
 
 // The group's blocks that are not null, one after the other.
 fn put_blocks(image: &[u8], from: usize, output: &mut [u8], at: usize) -> usize
-    requires { ⌜ (from ≤ 65536) × (at + length (joined (keep filled (blocksFrom 64 (now image) from 8))) ≤ length (now output)) ⌝ }
-    ensures { λ r. ⌜ (r ≡ at + length (joined (keep filled (blocksFrom 64 (now (image .entry)) from 8)))) × (now (output .exit) ≡ written (now (output .entry)) at (joined (keep filled (blocksFrom 64 (now (image .entry)) from 8)))) ⌝ }
+    requires { ⌜ (from ≤ 65536) × (at + length (joined (keep isFilled (blocksFrom 64 (now image) from 8))) ≤ length (now output)) ⌝ }
+    ensures { λ r. ⌜ (r ≡ at + length (joined (keep isFilled (blocksFrom 64 (now (image .entry)) from 8)))) × (now (output .exit) ≡ written (now (output .entry)) at (joined (keep isFilled (blocksFrom 64 (now (image .entry)) from 8)))) ⌝ }
 {
     let mut to = at;
     let mut i: usize = 0;

@@ -49,5 +49,5 @@ module _ (m : Measures) (pool words : List ℕ) (s : Stored m pool words) (ps : 
   pub claimed : EncodesRecords (m .segmentBlocks) w (changeAll oneMore (recordsIn (m .segmentBlocks) words) ps) → Stored m pool w
   claimed r = again oneMore grows m pool words s ps w l r
 
-pub told-as : {m : Measures} {pool words : List ℕ} {a b : Storage} → b ≡ a → Encodes m pool words a → Encodes m pool words b
-told-as {m} {pool} {words} e t = subst (λ (x : Storage). Encodes m pool words x) (sym e) t
+pub encodes-as : {m : Measures} {pool words : List ℕ} {a b : Storage} → b ≡ a → Encodes m pool words a → Encodes m pool words b
+encodes-as {m} {pool} {words} e t = subst (λ (x : Storage). Encodes m pool words x) (sym e) t

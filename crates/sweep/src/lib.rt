@@ -30,7 +30,7 @@ pub fn sweep_marked(pool: &mut [u8], words: &mut [u32], occupied: &mut [bool], m
     }
 }
 
-// The cells that a record names are marked. A record that holds no position is not loaded.
+// The cells that a record names are marked. A record that holds no position names none.
 fn mark_record(words: &[u32], occupied: &mut [bool], number: RecordNumber, n: usize)
     requires { ⌜ NamedIn n (now words) (length (now occupied)) ⌝ }
     requires { ⌜ (length (now occupied) ≤ 32768) × (number .0 < length (now words) / recordWords n) ⌝ }
@@ -40,9 +40,9 @@ fn mark_record(words: &[u32], occupied: &mut [bool], number: RecordNumber, n: us
     if words[at] == 0 {
         return;
     }
-    let old = records::load(words, number, n);
-    let cells = old.cells;
-    pool::take_marked(occupied, old.held, cells);
+    let from = at + 3;
+    let end = from + n;
+    pool::take_marked(occupied, words[at], &words[from..end]);
 }
 
 // The cells that the records name are marked.

@@ -15,23 +15,23 @@ use Rattle.lists.proofs.Uses.{in-uses, not-in, uses-here, uses-in, each-used}
 use Rattle.model.specs.Records.{namedCells, cellsOf, cellOf}
 use Rattle.model.specs.Runs.{freeCells, Run, scan, findRun}
 use Rattle.model.specs.State.{Block, Segment, nullPosition, blankPosition, held, removed, Storage}
+use Rattle.model.specs.Sound.{isFilled}
 use Rattle.laws.proofs.Named.{inside-any}
 use Rattle.laws.proofs.Sweep.{named-one}
 use Rattle.laws.specs.Storage.{Exact, filledBit}
-use Rattle.sweep_laws.specs.Marked.{isFilled}
 
 -- ---- the free cells
 
--- a cell that is named once if it is isFilled, and not at all if not
+-- a cell that is named once if it is filled, and not at all if not
 pub in-filled : (c : ℕ) (xs : List ℕ) (b : Block) → uses c xs ≡ filledBit b → isIn c xs ≡ isFilled b
-unfolding filledBit isFilled
-in-filled c xs b e = go (isIn c xs) refl (allZero b) e
+unfolding filledBit
+in-filled c xs b e = go (isIn c xs) refl (isFilled b) e
   where
-    go : (i : Bool) → isIn c xs ≡ i → (z : Bool) → uses c xs ≡ cond z 0 1 → i ≡ not z
-    go true p true q = absurd (omega (arith, in-uses c xs p))
-    go true p false q = refl
-    go false p true q = refl
-    go false p false q = absurd (omega (arith, not-in c xs p))
+    go : (i : Bool) → isIn c xs ≡ i → (f : Bool) → uses c xs ≡ cond f 1 0 → i ≡ f
+    go true p true q = refl
+    go true p false q = absurd (omega (arith, in-uses c xs p))
+    go false p true q = absurd (omega (arith, not-in c xs p))
+    go false p false q = refl
 
 map-map : (xs : List Block) → map (λ b. not (isFilled b)) xs ≡ map not (map isFilled xs)
 map-map [] = refl

@@ -2,7 +2,7 @@
 use mathlib.Core.Path.{_≡_, refl, sym, ap, _∙_}
 use mathlib.Core.Bool.{Bool, true, false, cond, false≢true}
 use mathlib.Core.List.{List, [], _∷_, map}
-use Prim.Native.Nat.{ℕ, zero, suc, _+_, _*_, _/_, _≤_, _<_}
+use Prim.Native.Nat.{ℕ, zero, suc, _+_, _*_, _/_, _^_, _≤_, _<_}
 use native.Mathlib.Nat.{zero-mul, eq-of-mul-eq-mul-right, le-of-mul-le-mul-right, mul-div-cancel}
 use native.Mathlib.Omega.{arith}
 use lib.ListN.{length, getD, set, take, drop, replicate, length-set, length-map, length-replicate, getD-replicate, List·getD-map}
@@ -12,31 +12,28 @@ use borrow.Author.Tests.{eqb-true, eqb-false}
 use Rattle.lists.specs.Lists.{isIn, allZero, every}
 use Rattle.lists.specs.Marks.{marked}
 use Rattle.lists.specs.Masks.{maskOf}
-use Rattle.lists.specs.Rows.{joined, fill}
-use Rattle.lists.proofs.Rows.{getD-fill}
+use Rattle.lists.specs.Rows.{joined}
 use Rattle.lists.proofs.Places.{row-below}
 use Rattle.lists.proofs.Masks.{mask-lt}
-use Rattle.pool.proofs.Pool.{along-fill}
 use Rattle.lists.proofs.Marks.{marked-append, length-marked}
 use Rattle.lists.proofs.Slices.{drop-next, drop-end}
 use Rattle.lists.proofs.Apart.{marked-at}
 use Rattle.model.specs.Measures.{Measures, recordWords}
 use Rattle.model.specs.Records.{isHeld, cellOf, cellsOf, namedCells}
 use Rattle.model.specs.State.{nullPosition, blankPosition, held, removed, Segment, Storage, Block}
+use Rattle.model.specs.Sound.{isFilled}
 use Rattle.model.specs.Table.{storageIn, recordsIn}
 use Rattle.laws.specs.Storage.{Exact}
-use Rattle.records.specs.Records.{recordIn, recordOf}
-use Rattle.records.specs.declared.Record.{Record}
-use Rattle.records.proofs.Records.{held-small, mask-none}
-use Rattle.records.proofs.Unreferenced.{row-held}
+use Rattle.records.proofs.Records.{mask-small}
+use Rattle.records.proofs.Unreferenced.{row-held, row-cells}
 use Rattle.storage.specs.Stored.{Stored, EncodesRecords}
+use Rattle.storage.proofs.Free.{cells-none}
 use Rattle.storage.proofs.Read.{cells-length, records-count, count-at, row-at}
 use Rattle.pool.specs.Pool.{markAt, along}
-use Rattle.sweep_laws.specs.Marked.{isFilled, EncodesMarked, NamedIn, StoredMarked}
+use Rattle.sweep_laws.specs.Marked.{EncodesMarked, NamedIn, StoredMarked}
 use Rattle.sweep_laws.specs.Ways.{segmentAt}
 use Rattle.sweep_laws.proofs.Frees.{in-filled, cell-range}
 use Rattle.sweep_laws.proofs.Removes.{cells-inside}
-use Rattle.sweep_laws.proofs.Sweeps.{record-at, loaded-formed}
 use Rattle.sweep_laws.proofs.Walks.{fold, along-picked, held-picked}
 
 fold-mark : (cs : List ℕ) (at : ℕ) (os : List Bool) → fold markAt at cs os ≡ marked cs os
@@ -45,19 +42,8 @@ fold-mark [] at os = refl
 fold-mark (c ∷ cs) at os = fold-mark cs (at + 1) (set os c true)
 
 -- a record's held cells
-along-mark : (seg : Segment) → length seg ≤ 16 → (os : List Bool) → along markAt (maskOf isHeld seg) 0 (fill 16 (map cellOf seg)) os ≡ marked (cellsOf seg) os
-along-mark seg h os =
-    along-fill markAt 16 (maskOf isHeld seg) 0 (map cellOf seg) os (rw (length-map seg cellOf) (mask-lt isHeld seg)) (omega (arith, length-map seg cellOf))
-    ∙ along-picked markAt isHeld seg 0 os ∙ rw (← held-picked seg) (fold-mark (cellsOf seg) 0 os)
-
--- no cell without a held position
-cells-none : (seg : Segment) → maskOf isHeld seg ≡ 0 → cellsOf seg ≡ []
-unfolding cellsOf
-cells-none [] e = refl
-cells-none (nullPosition ∷ seg) e = cells-none seg (mask-none isHeld nullPosition seg e .1)
-cells-none (blankPosition ∷ seg) e = cells-none seg (mask-none isHeld blankPosition seg e .1)
-cells-none (held c n ∷ seg) e = absurd (false≢true (sym (mask-none isHeld (held c n) seg e .0)))
-cells-none (removed ∷ seg) e = cells-none seg (mask-none isHeld removed seg e .1)
+along-mark : (seg : Segment) (os : List Bool) → along markAt (maskOf isHeld seg) 0 (map cellOf seg) os ≡ marked (cellsOf seg) os
+along-mark seg os = along-picked markAt isHeld seg 0 os ∙ rw (← held-picked seg) (fold-mark (cellsOf seg) 0 os)
 
 -- one record more
 marked-next : (segs : List Segment) (k : ℕ) (os : List Bool) → k < length segs
@@ -65,7 +51,7 @@ marked-next : (segs : List Segment) (k : ℕ) (os : List Bool) → k < length se
 unfolding namedCells joined
 marked-next segs k os h = rw (drop-next segs k [] h) (sym (marked-append (cellsOf (getD segs k [])) (joined (map cellsOf (drop (k + 1) segs))) os))
 
--- the cells that are named are those that are isFilled
+-- the cells that are named are those that are filled
 marked-all : (storage : Storage) → Exact storage → (n : ℕ) → n ≡ length (storage .cells) → marked (namedCells (storage .records)) (replicate n false) ≡ map isFilled (storage .cells)
 marked-all storage x n e =
     ext-getD false (marked named (replicate n false)) (map isFilled (storage .cells))
@@ -76,7 +62,7 @@ marked-all storage x n e =
     named = namedCells (storage .records)
 
     none-filled : isFilled [] ≡ false
-    none-filled = unfold isFilled allZero every in refl
+    none-filled = unfold allZero every in refl
 
     pick : (i z : Bool) → i ≡ z → cond i true false ≡ z
     pick true z e = e
@@ -142,10 +128,11 @@ pub record Marking (b : ℕ) (words : List ℕ) (os₀ : List Bool) (n : ℕ) (o
   pub long : length os ≡ length os₀
   pub rest : marked (namedCells (drop k (recordsIn b words))) os ≡ marked (namedCells (recordsIn b words)) os₀
 
--- what the code needs of record k
-pub record NamedAt (n : ℕ) (r : Record) : Type 0 where
-  pub small : r .held < 65536
-  pub cells : (j : ℕ) → getD (r .cells) j 0 < n
+-- what the code needs of record k: the mask of its held positions, and its cells
+pub record NamedAt (n held : ℕ) (cs : List ℕ) : Type 0 where
+  pub within : held < 2 ^ length cs
+  pub small : held < 65536
+  pub cells : (j : ℕ) → getD cs j 0 < n
 
 module _ (b : ℕ) (words : List ℕ) (k : ℕ) (h : k < length words / recordWords b) where
   hk : k < length (recordsIn b words)
@@ -160,32 +147,33 @@ module _ (b : ℕ) (words : List ℕ) (k : ℕ) (h : k < length words / recordWo
     rest = rw q (marked-next (recordsIn b words) k os hk) ∙ m .rest;
   }
 
-  -- a record that holds no position names no cell
-  pub unmarked : EncodesRecords b words (recordsIn b words) → getD words (k * recordWords b) 0 ≡ 0 → (os : List Bool) → os ≡ marked (cellsOf (segmentAt b words k)) os
-  unfolding marked
-  unmarked d z os =
-      let e : maskOf isHeld (segmentAt b words k) ≡ 0 =
-      sym (row-held words (k * recordWords b) b (segmentAt b words k) (count-at b words (recordsIn b words) d k hk) (row-at b words (recordsIn b words) d k hk)) ∙ z in
-      ap (λ (cs : List ℕ). marked cs os) (sym (cells-none (segmentAt b words k) e))
+  -- where its words are
+  module _ (d : EncodesRecords b words (recordsIn b words)) where
+    seg-length : length (segmentAt b words k) ≡ b
+    seg-length = count-at b words (recordsIn b words) d k hk
 
-  module _ (few : b ≤ 16) (r : Record) (e : r ≡ recordIn b (take (recordWords b) (drop (k * recordWords b) words))) where
-    seg-few : EncodesRecords b words (recordsIn b words) → length (segmentAt b words k) ≤ 16
-    seg-few d = omega (arith, count-at b words (recordsIn b words) d k hk)
+    held-word : getD words (k * recordWords b) 0 ≡ maskOf isHeld (segmentAt b words k)
+    held-word = row-held words (k * recordWords b) b (segmentAt b words k) seg-length (row-at b words (recordsIn b words) d k hk)
 
-    pub marked-along : EncodesRecords b words (recordsIn b words) → (os os′ : List Bool) → os′ ≡ along markAt (r .held) 0 (r .cells) os → os′ ≡ marked (cellsOf (segmentAt b words k)) os
-    unfolding recordOf
-    marked-along d os os′ eo =
-        let is : r ≡ recordOf (segmentAt b words k) = record-at b few words d k hk r e in
-        eo ∙ rw is (along-mark (segmentAt b words k) (seg-few d) os)
+    -- a record that holds no position names no cell
+    pub unmarked : getD words (k * recordWords b) 0 ≡ 0 → (os : List Bool) → os ≡ marked (cellsOf (segmentAt b words k)) os
+    unfolding marked
+    unmarked z os = ap (λ (cs : List ℕ). marked cs os) (sym (cells-none (segmentAt b words k) (sym held-word ∙ z)))
 
-    pub named-at : (n : ℕ) → NamedIn b words n → NamedAt n r
-    unfolding recordOf
-    named-at n d =
-        let is : r ≡ recordOf (segmentAt b words k) = record-at b few words (d .encodes) k hk r e in
-        record {
-          small = held-small r (loaded-formed b few words (d .encodes) k hk r e);
-          cells = λ j. rw (is, getD-fill 16 (map cellOf (segmentAt b words k)) j (omega (arith, length-map (segmentAt b words k) cellOf, seg-few (d .encodes)))) (d .inside k j hk);
-        }
+    module _ (few : b ≤ 16) (room : k * recordWords b + recordWords b ≤ length words) (j : ℕ) (ej : j ≡ b) where
+      cell-words : take j (drop (k * recordWords b + 3) words) ≡ map cellOf (segmentAt b words k)
+      cell-words = row-cells words (k * recordWords b) b (segmentAt b words k) seg-length (row-at b words (recordsIn b words) d k hk) few room j ej
+
+      pub marked-along : (os os′ : List Bool) → os′ ≡ along markAt (getD words (k * recordWords b) 0) 0 (take j (drop (k * recordWords b + 3) words)) os
+          → os′ ≡ marked (cellsOf (segmentAt b words k)) os
+      marked-along os os′ eo = eo ∙ rw (held-word, cell-words) (along-mark (segmentAt b words k) os)
+
+      pub named-at : (n : ℕ) → NamedIn b words n → NamedAt n (getD words (k * recordWords b) 0) (take j (drop (k * recordWords b + 3) words))
+      named-at n i = record {
+        within = rw (held-word, cell-words, length-map (segmentAt b words k) cellOf) (mask-lt isHeld (segmentAt b words k));
+        small = rw held-word (mask-small isHeld (segmentAt b words k) (omega (arith, seg-length)));
+        cells = λ p. rw cell-words (i .inside k p hk);
+      }
 
 pub marking-all : (b : ℕ) (words : List ℕ) (os₀ : List Bool) (n : ℕ) (os : List Bool) (k : ℕ) → Marking b words os₀ n os k → n ≤ k → os ≡ marked (namedCells (recordsIn b words)) os₀
 unfolding namedCells joined marked

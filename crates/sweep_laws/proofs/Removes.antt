@@ -16,6 +16,7 @@ use Rattle.model.specs.Measures.{Measures, recordWords}
 use Rattle.model.specs.Records.{cellsOf, cellOf, isHeld, cellAt, namedCells, freeSegment}
 use Rattle.model.specs.Runs.{Run}
 use Rattle.model.specs.State.{Segment, Storage, Block, Position, nullPosition}
+use Rattle.model.specs.Sound.{isFilled}
 use Rattle.model.specs.Sweep.{isUnreferenced, isReferenced, struck, moved, clearCells, freeRecord, strikeOnly, compact}
 use Rattle.model.specs.Table.{recordToWords}
 use Rattle.laws.proofs.Runs.{RunOk, Free}
@@ -24,9 +25,9 @@ use Rattle.laws.proofs.Uses.{unreferenced, referenced, uses-split}
 use Rattle.records.proofs.Records.{length-moved}
 use Rattle.storage.proofs.Read.{store-at}
 use Rattle.pool.specs.Pool.{along, clearAt, freeAt, copyTo, takeAt}
-use Rattle.sweep_laws.specs.Marked.{EncodesMarked, isFilled}
+use Rattle.sweep_laws.specs.Marked.{EncodesMarked}
 use Rattle.sweep_laws.proofs.Frees.{Named, named-cell}
-use Rattle.sweep_laws.proofs.Walks.{picked, along-picked, fold-clear, fold-free, held-picked, goes-picked, stays-picked, sized-clear, fold-copy, fold-take, sized-sets, Source, Sized, bytes}
+use Rattle.sweep_laws.proofs.Walks.{picked, along-picked, fold-clear, fold-free, held-picked, unreferenced-picked, referenced-picked, sized-clear, fold-copy, fold-take, sized-sets, Source, Sized, bytes}
 
 -- a record's words put in the place of record k's
 abbrev pub rowPut : ℕ → List ℕ → ℕ → Segment → List ℕ
@@ -48,11 +49,11 @@ module _ (m : Measures) (pool words : List ℕ) (marks : List Bool) (sh : Storag
   pub all-named : Each (Named sh) (cellsOf seg)
   all-named = each-used (Named sh) (cellsOf seg) (λ c h. named-cell sh x k c h)
 
-  goes-named : Each (Named sh) (cellsOf (keep isUnreferenced seg))
-  goes-named = each-used (Named sh) (cellsOf (keep isUnreferenced seg)) (λ c h. named-cell sh x k c (unfold unreferenced in (omega (arith, h, uses-split c seg))))
+  unreferenced-named : Each (Named sh) (cellsOf (keep isUnreferenced seg))
+  unreferenced-named = each-used (Named sh) (cellsOf (keep isUnreferenced seg)) (λ c h. named-cell sh x k c (unfold unreferenced in (omega (arith, h, uses-split c seg))))
 
-  stays-named : Each (Named sh) (cellsOf (keep isReferenced seg))
-  stays-named = each-used (Named sh) (cellsOf (keep isReferenced seg)) (λ c h. named-cell sh x k c (unfold referenced in (omega (arith, h, uses-split c seg))))
+  referenced-named : Each (Named sh) (cellsOf (keep isReferenced seg))
+  referenced-named = each-used (Named sh) (cellsOf (keep isReferenced seg)) (λ c h. named-cell sh x k c (unfold referenced in (omega (arith, h, uses-split c seg))))
 
   inside : (cs : List ℕ) → Each (Named sh) cs → Each (λ (c : ℕ). c < length (sh .cells)) cs
   inside cs e = each-weaken (Named sh) (λ (c : ℕ). c < length (sh .cells)) (λ c n. n .inside) cs e
@@ -84,7 +85,7 @@ module _ (m : Measures) (pool words : List ℕ) (marks : List Bool) (sh : Storag
   unfolding strikeOnly
   strike-encodes =
       let cs : List ℕ = cellsOf (keep isUnreferenced seg) in
-      let c = cleared isUnreferenced cs (goes-picked seg) (inside cs goes-named) pool marks (sh .cells) refl (d .encodes .cells .blocks) (d .encodes .cells .joins) (d .marked) in
+      let c = cleared isUnreferenced cs (unreferenced-picked seg) (inside cs unreferenced-named) pool marks (sh .cells) refl (d .encodes .cells .blocks) (d .encodes .cells .joins) (d .marked) in
       record {
         encodes = record { cells = record { blocks = sized-clear size cs (sh .cells) (d .encodes .cells .blocks); joins = c .0 }; records = store-at n words (sh .records) (d .encodes .records) k hk (map struck seg) (length-map seg struck ∙ seg-n) };
         marked = c .1;
@@ -122,14 +123,14 @@ module _ (m : Measures) (pool words : List ℕ) (marks : List Bool) (sh : Storag
 
     copied : along (copyTo size) (maskOf isReferenced seg) (run .start) (map cellOf seg) pool ≡ bytes (sets (sh .cells) (run .start) first)
     copied =
-        rw (along-picked (copyTo size) isReferenced seg (run .start) pool, ← stays-picked seg, d .encodes .cells .joins)
+        rw (along-picked (copyTo size) isReferenced seg (run .start) pool, ← referenced-picked seg, d .encodes .cells .joins)
         (fold-copy size (sh .cells) cs (sh .cells) (run .start) (d .encodes .cells .blocks)
-        (each-weaken (Named sh) (Source (sh .cells) (sh .cells) (run .start) (length cs)) source cs stays-named) run-room)
+        (each-weaken (Named sh) (Source (sh .cells) (sh .cells) (run .start) (length cs)) source cs referenced-named) run-room)
 
     taken : along takeAt (maskOf isReferenced seg) (run .start) (map cellOf seg) marks ≡ map isFilled (sets (sh .cells) (run .start) first)
     taken =
-        rw (along-picked takeAt isReferenced seg (run .start) marks, ← stays-picked seg, d .marked)
-        (fold-take cs first (sh .cells) (run .start) (length-map cs (λ c. getD (sh .cells) c [])) (full-first cs stays-named))
+        rw (along-picked takeAt isReferenced seg (run .start) marks, ← referenced-picked seg, d .marked)
+        (fold-take cs first (sh .cells) (run .start) (length-map cs (λ c. getD (sh .cells) c [])) (full-first cs referenced-named))
 
     pub move-encodes : EncodesMarked m (along (clearAt size) (maskOf isHeld seg) 0 (map cellOf seg) (along (copyTo size) (maskOf isReferenced seg) (run .start) (map cellOf seg) pool))
         (rowPut n words k (moved (run .start) seg))
@@ -137,7 +138,7 @@ module _ (m : Measures) (pool words : List ℕ) (marks : List Bool) (sh : Storag
     unfolding compact cellAt
     move-encodes =
         let new : List Block = sets (sh .cells) (run .start) first in
-        let z : Sized size new = sized-sets size first (sh .cells) (run .start) (d .encodes .cells .blocks) (sized-first cs stays-named) in
+        let z : Sized size new = sized-sets size first (sh .cells) (run .start) (d .encodes .cells .blocks) (sized-first cs referenced-named) in
         let c = cleared isHeld (cellsOf seg) (held-picked seg) cells-inside _ _ new (length-sets (sh .cells) (run .start) first) z copied taken in
         record {
           encodes = record { cells = record { blocks = sized-clear size (cellsOf seg) new z; joins = c .0 }; records = store-at n words (sh .records) (d .encodes .records) k hk (moved (run .start) seg) (length-moved (run .start) seg ∙ seg-n) };

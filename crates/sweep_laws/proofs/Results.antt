@@ -14,10 +14,11 @@ use Rattle.model.specs.Measures.{Measures}
 use Rattle.model.specs.Records.{isHeld, cellOf, freeSegment, cellsOf}
 use Rattle.model.specs.Runs.{Run}
 use Rattle.model.specs.State.{Position, nullPosition, blankPosition, held, removed, Segment, Storage}
+use Rattle.model.specs.Sound.{isFilled}
 use Rattle.model.specs.Sweep.{isUnreferenced, isReferenced, struck, moved}
 use Rattle.model.specs.Table.{storageIn, recordsIn}
 use Rattle.laws.proofs.Runs.{RunOk, Free, FoundOk, find-ok}
-use Rattle.laws.proofs.Uses.{referenced, staying-count}
+use Rattle.laws.proofs.Uses.{referenced, referenced-count}
 use Rattle.records.specs.Records.{Formed, positions, recordOf}
 use Rattle.records.specs.declared.Record.{Record}
 use Rattle.records.proofs.Records.{positions-of, formed-of, held-small, moved-struck, length-moved}
@@ -26,11 +27,11 @@ use Rattle.lists.specs.Rows.{fill}
 use Rattle.lists.proofs.Rows.{getD-fill}
 use Rattle.pool.proofs.Pool.{along-fill}
 use Rattle.pool.specs.Pool.{along, clearAt, freeAt, copyTo, takeAt}
-use Rattle.sweep_laws.specs.Marked.{StoredMarked, Loaded, EncodesMarked, isFilled}
+use Rattle.sweep_laws.specs.Marked.{StoredMarked, Loaded, EncodesMarked}
 use Rattle.sweep_laws.specs.Ways.{segmentAt, referencedAt, freed, struckOnly, compacted, Chosen}
 use Rattle.sweep_laws.proofs.Frees.{cell-range}
 use Rattle.sweep_laws.proofs.Removes.{cells-inside, rowPut, free-encodes, strike-encodes, move-encodes, run-room}
-use Rattle.sweep_laws.proofs.Walks.{length-picked, stays-picked}
+use Rattle.sweep_laws.proofs.Walks.{length-picked, referenced-picked}
 
 -- ---- masks: the held positions go or stay
 
@@ -98,19 +99,19 @@ module _ (m : Measures) (pool words : List ℕ) (marks : List Bool) (k : ℕ) (r
       ap (λ (cs : List ℕ). along step (maskOf f seg) at cs s) cells-is
       ∙ along-fill step 16 (maskOf f seg) at (map cellOf seg) s (rw (length-map seg cellOf) (mask-lt f seg)) (omega (arith, length-map seg cellOf, seg-few))
 
-  stays-mask : r .held - unreferenced ≡ maskOf isReferenced seg
-  stays-mask = omega (arith, split-mask seg, held-is, l .gone)
+  referenced-mask : r .held - unreferenced ≡ maskOf isReferenced seg
+  referenced-mask = omega (arith, split-mask seg, held-is, l .gone)
 
   pub need-ones : ones (r .held - unreferenced) ≡ referencedAt n words k
   unfolding referenced
-  need-ones = rw stays-mask (ones-mask isReferenced seg ∙ sym (length-picked isReferenced seg) ∙ ap length (sym (stays-picked seg)) ∙ (omega (arith, staying-count seg)))
+  need-ones = rw referenced-mask (ones-mask isReferenced seg ∙ sym (length-picked isReferenced seg) ∙ ap length (sym (referenced-picked seg)) ∙ (omega (arith, referenced-count seg)))
 
   range : (j : ℕ) → getD (map cellOf seg) j 0 < length marks
   unfolding storageIn
   range = cell-range (length marks) (kept .some) seg (rw marks-length (cells-inside m pool words marks sh (kept .encodesMarked) (kept .exact) k (l .inside)))
 
-  pub ready : RecordPre (length marks) n r unreferenced
-  ready =
+  pub record-pre : RecordPre (length marks) n r unreferenced
+  record-pre =
       let f : Formed r = formed-of r seg (l .is) seg-few in
       record {
         formed = f;
@@ -149,7 +150,7 @@ module _ (m : Measures) (pool words : List ℕ) (marks : List Bool) (k : ℕ) (r
   module _ (start : ℕ) (ch : Chosen m pool words k start) where
     stay-length : referencedAt n words k ≡ length (cellsOf (keep isReferenced seg))
     unfolding referenced
-    stay-length = omega (arith, staying-count seg)
+    stay-length = omega (arith, referenced-count seg)
 
     ok : RunOk (Free sh) (length (cellsOf (keep isReferenced seg))) (ch .run)
     ok =
@@ -175,8 +176,8 @@ module _ (m : Measures) (pool words : List ℕ) (marks : List Bool) (k : ℕ) (r
         let s : positions mid ≡ map struck seg = ap positions (em ∙ ap (λ (s : Segment). recordOf (map struck s)) seg-is) ∙ positions-of (map struck seg) struck-few in
         let q : moved start (positions mid) ≡ moved start seg = ap (moved start) s ∙ moved-struck start seg in
         let ew′ : w ≡ rowPut n words k (moved start seg) = put p w o new (moved start seg) (omega (arith, length-moved start seg, seg-few)) (en ∙ ap recordOf q) ew in
-        rw (ep, ew′, eo, held-is, stays-mask′, walk-is (copyTo (m .blockBytes)) isReferenced start pool, walk-is takeAt isReferenced start marks, walk-is (clearAt (m .blockBytes)) isHeld 0, walk-is freeAt isHeld 0, ← ch .at, ch .found)
+        rw (ep, ew′, eo, held-is, referenced-mask′, walk-is (copyTo (m .blockBytes)) isReferenced start pool, walk-is takeAt isReferenced start marks, walk-is (clearAt (m .blockBytes)) isHeld 0, walk-is freeAt isHeld 0, ← ch .at, ch .found)
         (move-encodes m pool words marks sh (kept .encodesMarked) (kept .exact) k (l .inside) (ch .run) ok some-stay)
       where
-        stays-mask′ : maskOf isHeld seg - unreferenced ≡ maskOf isReferenced seg
-        stays-mask′ = omega (arith, split-mask seg, l .gone)
+        referenced-mask′ : maskOf isHeld seg - unreferenced ≡ maskOf isReferenced seg
+        referenced-mask′ = omega (arith, split-mask seg, l .gone)

@@ -21,7 +21,7 @@ use Rattle.model.specs.Sweep.{isUnreferenced, removeFrom, sweepRecord, compact,
 use Rattle.model.specs.Table.{recordsIn, storageIn}
 use Rattle.laws.proofs.Sweep.{record-keeps}
 use Rattle.laws.specs.Storage.{Exact}
-use Rattle.laws.proofs.Uses.{staying-count}
+use Rattle.laws.proofs.Uses.{referenced-count}
 use Rattle.records.specs.Records.{recordIn, recordOf, Formed, positions}
 use Rattle.records.specs.declared.Record.{Record}
 use Rattle.records.proofs.Records.{formed-of, positions-of}
@@ -70,15 +70,15 @@ module _ (n : ℕ) (few : n ≤ 16) (words : List ℕ) (d : EncodesRecords n wor
           gone = eg ∙ ap (maskOf isUnreferenced) (ap positions is ∙ positions-of seg seg-few);
         }
 
-pub records-told : {m : Measures} {pool words : List ℕ} {marks : List Bool} → StoredMarked m pool words marks → EncodesRecords (m .segmentBlocks) words (recordsIn (m .segmentBlocks) words)
+pub encodes-records : {m : Measures} {pool words : List ℕ} {marks : List Bool} → StoredMarked m pool words marks → EncodesRecords (m .segmentBlocks) words (recordsIn (m .segmentBlocks) words)
 unfolding storageIn
-records-told kept = kept .encodesMarked .encodes .records
+encodes-records kept = kept .encodesMarked .encodes .records
 
 pub unreferenced-ones : (n : ℕ) (words : List ℕ) (k : ℕ) (r : Record) (unreferenced : ℕ) → Loaded n words k r unreferenced → ones unreferenced ≡ unreferencedAt n words k
 unreferenced-ones n words k r unreferenced l = ap ones (l .gone) ∙ ones-mask isUnreferenced (segmentAt n words k)
 
 pub unreferenced-within : (n : ℕ) (words : List ℕ) (k : ℕ) → unreferencedAt n words k ≤ heldAt n words k
-unreferenced-within n words k = omega (arith, staying-count (segmentAt n words k))
+unreferenced-within n words k = omega (arith, referenced-count (segmentAt n words k))
 
 -- ---- the ways
 

@@ -19,9 +19,9 @@ use Rattle.lists.proofs.Sets.{map-set}
 use Rattle.model.specs.Image.{zeroBlock}
 use Rattle.model.specs.Records.{isHeld, cellOf, cellsOf}
 use Rattle.model.specs.State.{Block, Position, nullPosition, blankPosition, held, removed, Segment}
+use Rattle.model.specs.Sound.{isFilled}
 use Rattle.model.specs.Sweep.{isUnreferenced, isReferenced, clearCells}
 use Rattle.pool.specs.Pool.{copyTo, clearAt, takeAt, freeAt, choose, along}
-use Rattle.sweep_laws.specs.Marked.{isFilled}
 use Rattle.lists.proofs.Joins.{row-joined, paste-joined}
 
 -- the cells of the positions that pass a test
@@ -59,23 +59,23 @@ held-picked (blankPosition ∷ ps) = held-picked ps
 held-picked (held c n ∷ ps) = rw (held-picked ps)
 held-picked (removed ∷ ps) = held-picked ps
 
-pub goes-picked : (seg : Segment) → cellsOf (keep isUnreferenced seg) ≡ picked isUnreferenced seg
+pub unreferenced-picked : (seg : Segment) → cellsOf (keep isUnreferenced seg) ≡ picked isUnreferenced seg
 unfolding cellsOf picked keep
-goes-picked [] = refl
-goes-picked (nullPosition ∷ ps) = goes-picked ps
-goes-picked (blankPosition ∷ ps) = goes-picked ps
-goes-picked (held c zero ∷ ps) = rw (goes-picked ps)
-goes-picked (held c (suc n) ∷ ps) = goes-picked ps
-goes-picked (removed ∷ ps) = goes-picked ps
+unreferenced-picked [] = refl
+unreferenced-picked (nullPosition ∷ ps) = unreferenced-picked ps
+unreferenced-picked (blankPosition ∷ ps) = unreferenced-picked ps
+unreferenced-picked (held c zero ∷ ps) = rw (unreferenced-picked ps)
+unreferenced-picked (held c (suc n) ∷ ps) = unreferenced-picked ps
+unreferenced-picked (removed ∷ ps) = unreferenced-picked ps
 
-pub stays-picked : (seg : Segment) → cellsOf (keep isReferenced seg) ≡ picked isReferenced seg
+pub referenced-picked : (seg : Segment) → cellsOf (keep isReferenced seg) ≡ picked isReferenced seg
 unfolding cellsOf picked keep
-stays-picked [] = refl
-stays-picked (nullPosition ∷ ps) = stays-picked ps
-stays-picked (blankPosition ∷ ps) = stays-picked ps
-stays-picked (held c zero ∷ ps) = stays-picked ps
-stays-picked (held c (suc n) ∷ ps) = rw (stays-picked ps)
-stays-picked (removed ∷ ps) = stays-picked ps
+referenced-picked [] = refl
+referenced-picked (nullPosition ∷ ps) = referenced-picked ps
+referenced-picked (blankPosition ∷ ps) = referenced-picked ps
+referenced-picked (held c zero ∷ ps) = referenced-picked ps
+referenced-picked (held c (suc n) ∷ ps) = rw (referenced-picked ps)
+referenced-picked (removed ∷ ps) = referenced-picked ps
 
 -- as many as pass the test
 pub length-picked : (f : Position → Bool) (seg : Segment) → length (picked f seg) ≡ count f seg
@@ -100,7 +100,7 @@ unfolding zeroBlock
 zero-size size = length-replicate size 0
 
 zero-filled : (size : ℕ) → isFilled (zeroBlock size) ≡ false
-unfolding isFilled zeroBlock
+unfolding zeroBlock
 zero-filled size = ap not (ap allZero (sym (fill-zeros size)) ∙ zeros-fill size)
 
 put-cell : (size : ℕ) (cells : List Block) → Sized size cells → (c : ℕ) (b : Block) → c < length cells

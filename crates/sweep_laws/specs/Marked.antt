@@ -1,14 +1,14 @@
 -- What the pool, the records' words and the marks of the occupied cells are, for a storage.
 use mathlib.Core.Path.{_≡_}
-use mathlib.Core.Bool.{Bool, not}
+use mathlib.Core.Bool.{Bool}
 use mathlib.Core.List.{List, [], map}
 use Prim.Native.Nat.{ℕ, _+_, _*_, _≤_, _<_}
 use lib.ListN.{length, getD}
-use Rattle.lists.specs.Lists.{allZero}
 use Rattle.lists.specs.Masks.{maskOf}
 use Rattle.model.specs.Measures.{Measures, recordWords}
 use Rattle.model.specs.Records.{cellOf}
-use Rattle.model.specs.State.{Block, Storage}
+use Rattle.model.specs.State.{Storage}
+use Rattle.model.specs.Sound.{isFilled}
 use Rattle.model.specs.Sweep.{isUnreferenced}
 use Rattle.model.specs.Table.{recordsIn, storageIn}
 use Rattle.laws.specs.Storage.{Exact}
@@ -16,10 +16,6 @@ use Rattle.laws.specs.Ranges.{Measured}
 use Rattle.records.specs.Records.{recordOf}
 use Rattle.records.specs.declared.Record.{Record}
 use Rattle.storage.specs.Stored.{EncodesRecords, Encodes}
-
--- a block that is not all zero
-unfoldable pub isFilled : Block → Bool
-isFilled b = not (allZero b)
 
 -- the pool, the words and the marks of a storage: its occupied cells, those that are not all zero, are marked
 pub record EncodesMarked (m : Measures) (pool words : List ℕ) (marks : List Bool) (storage : Storage) : Type 0 where

@@ -17,14 +17,14 @@ use Rattle.lists.proofs.Counts.{count-most, sum-map}
 use Rattle.lists.proofs.Masks.{ones-mask}
 use Rattle.lists.proofs.Places.{rows-few}
 use Rattle.lists.proofs.Slices.{drop-next, drop-end, tail-all}
-use Rattle.model.specs.Measures.{Measures, recordWords, tableWords}
+use Rattle.model.specs.Measures.{Measures, recordWords, tableWords, recordsAt}
 use Rattle.model.specs.State.{nullPosition, blankPosition, held, removed, Segment}
 use Rattle.model.specs.Records.{isHeld, isRemoved, isFree, cellOf, cellsOf, namedCells, countOf, isBlankPosition}
 use Rattle.model.specs.Table.{recordToWords, segmentIn, recordsIn, shapeOf, stateIn, storageIn, recordsPart}
 use Rattle.model.specs.Calls.{TallyAnswer, tallyIn, tallyOf}
 use Rattle.laws.proofs.Bounds.{counts-most}
 use Rattle.laws.proofs.RoundTrip.{length-record, segment-back, records-part}
-use Rattle.laws.specs.Stores.{recordsFrom, Sound}
+use Rattle.laws.specs.Stores.{Sound}
 use Rattle.laws.proofs.Stores.{header, found, fit, fits, long}
 use Rattle.storage.specs.Stored.{EncodesRecords}
 use Rattle.storage.proofs.Read.{records-length, records-count, count-at, row-at, room-at}
@@ -217,11 +217,11 @@ module _ (n w : ℕ) (ew : w ≡ recordWords n) (most : n ≤ 16) (ws : List ℕ
 
 -- ---- a sound store
 
-module _ {pool table : List ℕ} (h : Sound pool table) (at : ℕ) (e : at ≡ recordsFrom (shapeOf table)) where
+module _ {pool table : List ℕ} (h : Sound pool table) (at : ℕ) (e : at ≡ recordsAt (shapeOf table .capacities)) where
   abbrev positions : ℕ
   positions = shapeOf table .measures .segmentBlocks
 
-  lent-is : take (length table - at) (drop at table) ≡ drop (recordsFrom (shapeOf table)) table
+  lent-is : take (length table - at) (drop at table) ≡ drop (recordsAt (shapeOf table .capacities)) table
   lent-is = tail-all table at ∙ ap (λ (k : ℕ). drop k table) e
 
   records-are : recordsIn positions (take (length table - at) (drop at table)) ≡ stateIn (shapeOf table) pool table .storage .records

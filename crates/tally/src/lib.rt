@@ -94,7 +94,7 @@ pub fn tally_store(pool: &[u8], table: &[u32]) -> Tally
     ensures { λ r. ⌜ tallyAnswer r ≡ tallyOf (now (pool .entry)) (now (table .entry)) ⌝ }
 {
     let m = layout::measures_in(table);
-    let at = tills::records_at(table);
+    let at = layout::records_at(table);
     tally_rows(&table[at..], m.blocks)
 }
 
@@ -119,6 +119,6 @@ pub fn occupied_cells(pool: &[u8], table: &[u32]) -> u32
     ensures { λ r. ⌜ (r ≡ tallyOf (now (pool .entry)) (now (table .entry)) .cells) × (r ≤ 65536) ⌝ }
 {
     let m = layout::measures_in(table);
-    let at = tills::records_at(table);
+    let at = layout::records_at(table);
     cells_in(&table[at..], m.blocks)
 }

@@ -7,6 +7,8 @@ use native.Mathlib.Omega.{arith}
 use lib.ListN.{length, getD, take, drop, length-drop}
 use lib.Dec.{leb}
 use borrow.Author.Tests.{le-leb, lt-leb, leb-true, leb-false, eq-eqb, ne-eqb, le-ltb, lt-ltb}
+use Rattle.lists.specs.Lists.{lastOf}
+use Rattle.model.specs.Measures.{tillWords}
 use Rattle.model.specs.State.{Version, Till}
 use Rattle.model.specs.Table.{shapeOf, stateIn}
 use Rattle.model.specs.Calls.{ListingAnswer, tillOf, heldBefore, missing, firstOf, notHeld, lookUp, oldestNumber, newestNumber, listingRefusal, listTill, listingIn, listingOf}
@@ -15,8 +17,12 @@ use Rattle.laws.specs.Stores.{tillAt, Sound, HeaderRanges}
 use Rattle.laws.proofs.Stores.{header}
 use Rattle.laws.proofs.Tills.{till, in-words, last-word, held-word, held-place, not-held-some, oldest-at, newest-at, slot-in, number-word}
 use Rattle.tills.specs.declared.Head.{Head}
-use Rattle.tills.specs.Answers.{tillSize, HeadOf, versionsHeld, numbersHeld, PlaceFound, LookedUp}
+use Rattle.tills.specs.Answers.{HeadOf, versionsHeld, numbersHeld, PlaceFound, LookedUp}
 use Rattle.lists.proofs.Slices.{drop-end, none-left}
+
+-- how many words a till has
+abbrev pub tillSize : List ℕ → ℕ
+tillSize table = tillWords (getD table 1 0) (getD table 2 0)
 
 pub small : (table : List ℕ) → HeaderRanges table → (t : ℕ) → t ≤ 16 → (tillSize table ≤ 65732) × (t * tillSize table ≤ 1051712)
 small table h t n = let (a, b) = sizes t (getD table 1 0) (getD table 2 0) n (h .versions) (h .blocks) in (omega (arith, a), b)
@@ -51,7 +57,7 @@ module _ {pool table : List ℕ} (h : Sound pool table) (t : ℕ) where
     answer = rw (h .is, lt-leb _ _ in-table)
 
     pub none-held : r .held ≡ 0 → record { refusal = 0; oldest = 0; newest = 0; last = r .last } ≡ listingOf pool table t
-    unfolding listTill oldestNumber newestNumber
+    unfolding listTill oldestNumber lastOf newestNumber
     none-held e = go (till h t in-table) (sym (o .held) ∙ e) (o .last) ∙ sym answer
       where
         go : (x : Till) → length (x .versions) ≡ 0 → r .last ≡ x .last → record { refusal = 0; oldest = 0; newest = 0; last = r .last } ≡ listTill x

@@ -7,7 +7,8 @@ use lib.ListN.{length, getD, take, List·getD-map, List·getD-eq-default}
 use lib.Seq.{take-all}
 use lib.Dec.{leb}
 use borrow.Author.Tests.{le-leb, lt-leb}
-use Rattle.lists.specs.Lists.{keep}
+use Rattle.lists.specs.Lists.{keep, lastOf}
+use Rattle.lists.proofs.Last.{last-snoc}
 use Rattle.lists.proofs.Keep.{keep-not-last, keep-last}
 use Rattle.lists.proofs.Slices.{take-next, none-left}
 use Rattle.model.specs.State.{Version, Till}
@@ -23,9 +24,7 @@ use Rattle.tills.specs.Answers.{HeadOf, versionsHeld, numbersHeld, daysH
 
 number-last : (us : List Version) (u : Version) → newestNumber (us ++ (u ∷ [])) ≡ u .number
 unfolding newestNumber
-number-last [] u = refl
-number-last (v ∷ []) u = refl
-number-last (v ∷ w ∷ us) u = number-last (w ∷ us) u
+number-last us u = last-snoc (λ (v : Version). v .number) 0 us u
 
 newest-last : (us : List Version) (u : Version) → newestOrNone (us ++ (u ∷ [])) ≡ record { refusal = 0; version = u .number }
 unfolding newestOrNone
@@ -62,7 +61,7 @@ module _ {pool table : List ℕ} (h : Sound pool table) (t : ℕ) where
   versions = versionsHeld pool table t
 
   pub no-till-day : getD table 0 0 ≤ t → 0 ≡ newestDay versions
-  unfolding tillOf emptyTill newestDay shapeOf
+  unfolding tillOf emptyTill lastOf newestDay shapeOf
   no-till-day n = ap (λ (x : Till). newestDay (x .versions)) (sym (List·getD-eq-default (stateIn (shapeOf table) pool table .tills) emptyTill (omega (arith, n, fits h .tillCount))))
 
   pub no-till-on : (day : ℕ) → getD table 0 0 ≤ t → record { refusal = 3; version = 0 } ≡ versionOnOf pool table t day
@@ -70,7 +69,7 @@ module _ {pool table : List ℕ} (h : Sound pool table) (t : ℕ) where
   no-till-on day n = rw (h .is, le-leb _ _ n)
 
   pub no-day : (r : Head) → HeadOf pool table t r → r .held ≡ 0 → 0 ≡ newestDay versions
-  unfolding newestDay
+  unfolding lastOf newestDay
   no-day r o e = ap newestDay (sym (none-left versions (sym (o .held) ∙ e)))
 
   pub last-day : (r : Head) → HeadOf pool table t r → (r .held ≡ 0 → ⊥) → (d : ℕ) → d ≡ getD (daysHeld pool table t) (r .held - 1) 0 → d ≡ newestDay versions

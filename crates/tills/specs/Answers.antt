@@ -3,7 +3,6 @@ use Prim.Native.Nat.{ℕ, _-_, _≤_, _<_}
 use mathlib.Core.Path.{_≡_}
 use mathlib.Core.List.{List, map}
 use lib.ListN.{length, getD, take, drop}
-use Rattle.model.specs.Measures.{tillWords}
 use Rattle.model.specs.State.{Version}
 use Rattle.model.specs.Table.{shapeOf, stateIn}
 use Rattle.model.specs.Calls as calls
@@ -12,9 +11,6 @@ use Rattle.tills.specs.declared.Found.{Found}
 use Rattle.tills.specs.declared.Head.{Head}
 use Rattle.tills.specs.declared.Listing.{Listing}
 use Rattle.tills.specs.declared.VersionFound.{VersionFound}
-
-abbrev pub tillSize : List ℕ → ℕ
-tillSize table = tillWords (getD table 1 0) (getD table 2 0)
 
 pub record HeadOf (pool table : List ℕ) (t : ℕ) (r : Head) : Type 0 where
   pub at : r .at ≡ tillAt (shapeOf table) t

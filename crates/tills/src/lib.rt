@@ -4,8 +4,8 @@ ghost use Prim.Native.Nat.{ℕ, _<_};
 ghost use lib.ListN.{length, getD};
 ghost use Rattle.model.specs.Table.{shapeOf, stateIn};
 ghost use Rattle.model.specs.Calls.{tillOf, newestDay, notHeld, listingOf, versionOnOf};
-ghost use Rattle.laws.specs.Stores.{tillAt, recordsFrom, Sound, HeaderRanges};
-ghost use Rattle.tills.specs.Answers.{tillSize, HeadOf, versionsHeld, numbersHeld, daysHeld, PlaceFound, LookedUp, UptoDay, listingAnswer, versionFound};
+ghost use Rattle.laws.specs.Stores.{tillAt, Sound};
+ghost use Rattle.tills.specs.Answers.{HeadOf, versionsHeld, numbersHeld, daysHeld, PlaceFound, LookedUp, UptoDay, listingAnswer, versionFound};
 
 // Refusal 0 is an accepted call.
 #[repr(C)]
@@ -35,28 +35,12 @@ pub struct Found {
     pub place: usize,
 }
 
-// How many words a till has.
-pub fn till_words(table: &[u32]) -> usize
-    requires { ⌜ HeaderRanges (now table) ⌝ }
-    ensures { λ r. ⌜ r ≡ tillSize (now (table .entry)) ⌝ }
-{
-    4 + table[1] as usize * (3 + table[2] as usize)
-}
-
-// Where the records' words begin.
-pub fn records_at(table: &[u32]) -> usize
-    requires { ⌜ HeaderRanges (now table) ⌝ }
-    ensures { λ r. ⌜ r ≡ recordsFrom (shapeOf (now (table .entry))) ⌝ }
-{
-    layout::HEADER_WORDS + table[0] as usize * till_words(table)
-}
-
 // Where a till's words begin, and what its head says.
 pub fn till_head(pool: &[u8], table: &[u32], till: u32) -> Head
     requires { ⌜ Sound (now pool) (now table) × (till < getD (now table) 0 0) ⌝ }
     ensures { λ r. ⌜ HeadOf (now (pool .entry)) (now (table .entry)) till r ⌝ }
 {
-    let at = layout::HEADER_WORDS + till as usize * till_words(table);
+    let at = layout::HEADER_WORDS + till as usize * layout::till_words(table);
     Head {
         at: at,
         last: table[at],

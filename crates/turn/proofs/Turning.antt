@@ -4,7 +4,7 @@ use mathlib.Core.Bool.{Bool, cond, false, true}
 use mathlib.Core.List.{List, [], _++_, _∷_, append-nil, map}
 use mathlib.Core.Option.{Option, none, some}
 use Prim.Native.Nat.{_%_, _*_, _+_, _-_, _/_, _<_, _≤_, suc, zero, ℕ}
-use native.Mathlib.Nat.{mul-le-mul-left, mul-le-mul-right, suc-mul}
+use native.Mathlib.Nat.{mul-le-mul-left, mul-le-mul-right, suc-mul, zero-mul}
 use native.Mathlib.Numerals.{add-one}
 use native.Mathlib.Omega.{arith}
 use lib.ListN.{drop, getD, length, set, take}
@@ -13,6 +13,8 @@ use lib.Dec.{eqb}
 use borrow.Author.Tests.{eq-eqb, ne-eqb}
 use Rattle.lists.specs.Lists.{count, every, firstFrom, keep, sameNumbers, isSome}
 use Rattle.lists.specs.Rows.{fill}
+use Rattle.lists.proofs.Puts.{same-over}
+use Rattle.lists.proofs.Places.{row-next}
 use Rattle.lists.proofs.Same.{same-eq}
 use Rattle.lists.proofs.Slices.{drop-end, drop-next}
 use Rattle.lists.proofs.Tests.{by-test}
@@ -47,7 +49,7 @@ unfolding blockFrom
 first-of zero image at z h = absurd (omega arith)
 first-of (suc b) image at z h = rw (drop-next image at 0 h) (unfold fill in refl)
 
-pub first-apart : (bytes : ℕ) (image cell : List ℕ) (at : ℕ) → 0 < bytes → at < length image → (getD image at 0 ≡ getD cell 0 0 → ⊥) → false ≡ sameNumbers cell (blockFrom bytes image at)
+first-apart : (bytes : ℕ) (image cell : List ℕ) (at : ℕ) → 0 < bytes → at < length image → (getD image at 0 ≡ getD cell 0 0 → ⊥) → false ≡ sameNumbers cell (blockFrom bytes image at)
 first-apart bytes image cell at z h d = go (sameNumbers cell (blockFrom bytes image at)) refl
   where
     go : (t : Bool) → sameNumbers cell (blockFrom bytes image at) ≡ t → false ≡ t
@@ -55,26 +57,37 @@ first-apart bytes image cell at z h d = go (sameNumbers cell (blockFrom bytes im
     go false e = refl
 
 module _ (bytes : ℕ) (f : Block → Bool) (image : List ℕ) (count : ℕ) where
-  find-step : (at n : ℕ) → n < count → firstFrom f n (blocksFrom bytes image at (count - n)) ≡ cond (f (blockFrom bytes image at)) (some n) (firstFrom f (n + 1) (blocksFrom bytes image (at + bytes) (count - (n + 1))))
-  unfolding firstFrom
-  find-step at n h = rw (blocks-next bytes image at count n h, add-one n)
+  -- the search from block n on
+  abbrev from : ℕ → Option ℕ
+  from n = firstFrom f n (blocksFrom bytes image (n * bytes) (count - n))
 
-  pub find-yes : (w at n : ℕ) → n < count → true ≡ f (blockFrom bytes image at) → pointerWord (indirect n) ≡ targetWord w (indirectAt (firstFrom f n (blocksFrom bytes image at (count - n))))
+  find-step : (n : ℕ) → n < count → from n ≡ cond (f (blockFrom bytes image (n * bytes))) (some n) (from (n + 1))
+  unfolding firstFrom
+  find-step n h = rw (blocks-next bytes image (n * bytes) count n h, row-next n bytes, add-one n)
+
+  pub find-yes : (w n : ℕ) → n < count → true ≡ f (blockFrom bytes image (n * bytes)) → pointerWord (indirect n) ≡ targetWord w (indirectAt (from n))
   unfolding targetWord
-  find-yes w at n h e =
-      let found : firstFrom f n (blocksFrom bytes image at (count - n)) ≡ some n = find-step at n h ∙ rw (← e) in
+  find-yes w n h e =
+      let found : from n ≡ some n = find-step n h ∙ rw (← e) in
       sym (ap (λ (o : Option ℕ). targetWord w (indirectAt o)) found)
 
-  pub find-no : (at n : ℕ) → n < count → false ≡ f (blockFrom bytes image at) → firstFrom f n (blocksFrom bytes image at (count - n)) ≡ firstFrom f (n + 1) (blocksFrom bytes image (at + bytes) (count - (n + 1)))
-  find-no at n h e = find-step at n h ∙ rw (← e)
+  pub find-no : (n : ℕ) → n < count → false ≡ f (blockFrom bytes image (n * bytes)) → from n ≡ from (n + 1)
+  find-no n h e = find-step n h ∙ rw (← e)
 
-  pub find-end : (w at n : ℕ) → count ≤ n → w ≡ targetWord w (indirectAt (firstFrom f n (blocksFrom bytes image at (count - n))))
+  pub find-end : (w n : ℕ) → count ≤ n → w ≡ targetWord w (indirectAt (from n))
   unfolding firstFrom blocksFrom targetWord
-  find-end w at n h = let z : count - n ≡ 0 = omega arith in rw z
+  find-end w n h = let z : count - n ≡ 0 = omega arith in rw z
 
-  pub find-start : count ≡ partsFor bytes (length image) → firstFrom f 0 (blocksFrom bytes image 0 (count - 0)) ≡ firstFrom f 0 (imageBlocks bytes image)
+  pub find-start : count ≡ partsFor bytes (length image) → from 0 ≡ firstFrom f 0 (imageBlocks bytes image)
   unfolding imageBlocks
-  find-start e = let z : count - 0 ≡ count = omega arith in rw (z, e)
+  find-start e = let z : count - 0 ≡ count = omega arith in rw (zero-mul bytes, z, e)
+
+-- past blocks that begin with another byte than the cell
+pub find-next : (bytes : ℕ) (image cell : List ℕ) (count n r : ℕ) → 0 < bytes → count ≡ partsFor bytes (length image) → n ≤ r → r ≤ count → ((k : ℕ) → k < r → n ≤ k → getD image (k * bytes) 0 ≡ getD cell 0 0 → ⊥)
+    → firstFrom (sameNumbers cell) n (blocksFrom bytes image (n * bytes) (count - n)) ≡ firstFrom (sameNumbers cell) r (blocksFrom bytes image (r * bytes) (count - r))
+find-next bytes image cell count n r z e l h g =
+    same-over (λ k. firstFrom (sameNumbers cell) k (blocksFrom bytes image (k * bytes) (count - k))) n r l
+    (λ k i m. find-no bytes (sameNumbers cell) image count k (omega arith) (first-apart bytes image cell (k * bytes) z (begins-in bytes k (length image) z (omega (arith, e))) (g k m i)))
 
 -- ---- the target of a word
 

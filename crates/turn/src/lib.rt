@@ -1,10 +1,11 @@
 // Step 2 of a backup: the previous version's direct pointers turn blank, or to equal blocks of the new image.
 ghost use mathlib.Core.Path.{_≡_};
 ghost use mathlib.Core.List.{map, _++_};
-ghost use Prim.Native.Nat.{ℕ, _+_, _%_, _≤_, _<_};
+ghost use Prim.Native.Nat.{ℕ, _+_, _*_, _%_, _≤_, _<_};
 ghost use lib.ListN.{length, getD, take};
 ghost use Rattle.lists.specs.Lists.{sameNumbers, firstFrom};
-ghost use Rattle.model.specs.Image.{blockFrom, imageBlocks, withBlanks};
+ghost use Rattle.model.specs.Image.{imageBlocks, withBlanks};
+ghost use Rattle.model.specs.Measures.{partsFor};
 ghost use Rattle.model.specs.Turn.{indirectAt, turnsTo, turn, turning};
 ghost use Rattle.model.specs.Table.{storageIn, pointerWord, wordToPointer};
 ghost use Rattle.numbers.specs.Measures.{measuresOf};
@@ -14,15 +15,22 @@ use numbers::Block;
 use numbers::Measures;
 use numbers::Pointer;
 
-// Whether the image's block at a byte equals a cell. The first byte settles most.
-fn block_here(image: &[u8], at: usize, cell: &[u8], bytes: usize) -> bool
-    requires { ⌜ (at < length (now image)) × (at ≤ 65536) × (length (now cell) ≡ bytes) × (64 ≤ bytes) × (bytes ≤ 512) × (bytes % 64 ≡ 0) ⌝ }
-    ensures { λ r. ⌜ r ≡ sameNumbers (now (cell .entry)) (blockFrom bytes (now (image .entry)) at) ⌝ }
+// From block n of the image on, which begins at a byte, the next block with this first byte, or how many blocks there are. The first byte settles most
+// blocks, and a loop over nothing else is fast.
+fn next_start(image: &[u8], from: usize, n: usize, count: usize, byte: u8, bytes: usize) -> usize
+    requires { ⌜ (n ≤ count) × (count ≡ partsFor bytes (length (now image))) × (from ≡ n * bytes) × (length (now image) ≤ 65536) × (0 < bytes) × (bytes ≤ 512) ⌝ }
+    ensures { λ r. ⌜ (n ≤ r) × (r ≤ count) × ((k : ℕ) → k < r → n ≤ k → getD (now (image .entry)) (k * bytes) 0 ≡ byte → ⊥) ⌝ }
 {
-    if image[at] != cell[0] {
-        return false;
+    let mut at = from;
+    let mut k = n;
+    while k < count {
+        if image[at] == byte {
+            return k;
+        }
+        at = at + bytes;
+        k = k + 1;
     }
-    blocks::block_same(image, at, cell, bytes)
+    k
 }
 
 // An indirect pointer to the lowest block of the image that equals a cell; the pointer itself if none does.
@@ -31,14 +39,15 @@ fn find_block(pointer: Pointer, image: &[u8], cell: &[u8], bytes: usize) -> Poin
     ensures { λ r. ⌜ r .0 ≡ targetWord (pointer .0) (indirectAt (firstFrom (sameNumbers (now (cell .entry))) 0 (imageBlocks bytes (now (image .entry))))) ⌝ }
 {
     let count = numbers::parts_for(bytes, image.len());
-    let mut at: usize = 0;
-    let mut n: usize = 0;
+    let byte = cell[0];
+    let mut n = next_start(image, 0, 0, count, byte, bytes);
     while n < count {
-        if block_here(image, at, cell, bytes) {
-            return Pointer::indirect(Block(n as u32));
+        let block = Block(n as u32);
+        let at = block.byte(bytes);
+        if blocks::block_same(image, at, cell, bytes) {
+            return Pointer::indirect(block);
         }
-        at = at + bytes;
-        n = n + 1;
+        n = next_start(image, at + bytes, n + 1, count, byte, bytes);
     }
     pointer
 }

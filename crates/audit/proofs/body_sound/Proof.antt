@@ -8,8 +8,10 @@ use lib.ListN.{length, getD, take, drop}
 use denote.Ref.{now}
 use Rattle.lists.specs.Decides.{Decides}
 use Rattle.lists.proofs.Slices.{tail-all}
-use Rattle.model.specs.Measures.{Measures, recordWords, recordsAt}
+use Rattle.model.specs.Measures.{Measures, tillWords, recordWords, recordsAt}
 use Rattle.model.specs.Table.{shapeOf}
+use Rattle.laws.specs.Stores.{HeaderRanges}
+use Rattle.laws.proofs.Measures.{sizes}
 use Rattle.audit.specs.Sound.{Sized, Body, TableBody}
 use borrow.Author.Needs.{needs}
 use Rattle.audit.proofs.body_sound.Statement.{statement}
@@ -17,9 +19,9 @@ use Rattle.audit.proofs.body_sound.Tie as tie
 use Rattle.audit.proofs.body_sound.Reads as reads
 use Rattle.audit.proofs.body_sound.Lts as lts
 use Rattle.audit.proofs.parts_sound.Reads as parts-sound-reads
-use Rattle.audit.proofs.records_at.Reads as records-at-reads
+use Rattle.layout.proofs.records_at.Reads as records-at-reads
 
-parts : {r : Bool} (m : Measures) (pool ws : List ℕ) (base : ℕ) → base ≡ recordsAt (getD ws 0 0) (getD ws 1 0) (getD ws 2 0)
+parts : {r : Bool} (m : Measures) (pool ws : List ℕ) (base : ℕ) → base ≡ recordsAt (shapeOf ws .capacities)
     → Decides r (Body m pool (take (base - 8) (drop 8 ws)) (take (length ws - base) (drop base ws)) (getD ws 0 0) (getD ws 1 0) (getD ws 2 0))
     → Decides r (TableBody m pool ws)
 unfolding shapeOf
@@ -27,10 +29,16 @@ parts m pool ws base e t =
     let n : base - 8 ≡ getD ws 0 0 * (4 + getD ws 1 0 * (3 + getD ws 2 0)) = omega (arith, e) in
     rw (n, tail-all ws base, e) at t
 
+-- where the records begin, in numbers
+begins : (ws : List ℕ) (base : ℕ) → HeaderRanges ws → base ≡ recordsAt (shapeOf ws .capacities)
+    → (base ≡ 8 + getD ws 0 0 * tillWords (getD ws 1 0) (getD ws 2 0)) × (base ≤ 1051720)
+unfolding shapeOf
+begins ws base h e = (e, omega (arith, e, sizes (getD ws 0 0) (getD ws 1 0) (getD ws 2 0) (h .tills) (h .versions) (h .blocks) .1))
+
 -- the lengths' most
 most : (m : Measures) (pool ws : List ℕ) → Sized m pool ws
     → (getD ws 3 0 * recordWords (m .segmentBlocks) ≤ 4096 * recordWords (m .segmentBlocks)) × (getD ws 4 0 * m .blockBytes ≤ 32768 * m .blockBytes)
-most m pool ws z = (mul-le-mul-right (recordWords (m .segmentBlocks)) (z .records), mul-le-mul-right (m .blockBytes) (z .cells))
+most m pool ws z = (mul-le-mul-right (recordWords (m .segmentBlocks)) (z .header .records), mul-le-mul-right (m .blockBytes) (z .header .cells))
 
 -- src/lib.rt:51:17
 shared-slice-read-tills : tie.Need-shared-slice-read-tills
@@ -93,11 +101,12 @@ parts-sound-requires : tie.Need-parts-sound-requires
 parts-sound-requires c κs =
     let a = c .before .before .before .before .before .before .before .before in
     let l = most _ (a .args .pool .now) (a .args .table .now) (a .pre .1) in
-    (search needs, search needs, search needs, search needs, search needs, search needs, omega (arith, l .0), omega (arith, l .1))
+    let b = begins (a .args .table .now) _ (a .pre .1 .header) (c .before .before .records-at .ensures) in
+    (search needs, search needs, search needs, search needs, omega (arith, b .0), omega (arith, b .1), omega (arith, l .0), omega (arith, l .1))
 
 -- src/lib.rt:47:1
 returns : tie.Need-returns
-returns c = parts _ (c .before .before .before .before .before .before .before .before .before .args .pool .now) (c .before .before .before .before .before .before .before .before .before .args .table .now) _ (c .before .before .before .records-at .ensures .0) (c .parts-sound .ensures)
+returns c = parts _ (c .before .before .before .before .before .before .before .before .before .args .pool .now) (c .before .before .before .before .before .before .before .before .before .args .table .now) _ (c .before .before .before .records-at .ensures) (c .parts-sound .ensures)
 
 pub body-sound-spec : {M : Type 1} → statement M
 body-sound-spec =

@@ -1,13 +1,13 @@
 use native.Mathlib.Omega.{arith}
 use borrow.Author.Needs.{needs}
-use mathlib.Core.Bool.{false, not}
+use mathlib.Core.Bool.{false}
 use mathlib.Core.Path.{_≡_, refl}
 use Prim.Native.Nat.{ℕ, _+_, _*_, _-_, _/_, _≤_, _<_}
 use lib.ListN.{length, getD, take, drop}
 use borrow.Author.Count.{below-none, below-more}
-use Rattle.lists.specs.Lists.{allZero}
 use Rattle.lists.proofs.Checkers.{is-so, is-not, refutes, proves}
 use Rattle.lists.proofs.Places.{row-in}
+use Rattle.model.specs.Sound.{isFilled}
 use Rattle.audit_cells.proofs.cells_filled.Statement.{statement}
 use Rattle.audit_cells.proofs.cells_filled.Tie as tie
 use Rattle.audit_cells.proofs.cells_filled.Reads as reads
@@ -16,7 +16,7 @@ use Rattle.audit_cells.proofs.cell_matches.Reads as cell-matches-reads
 use Rattle.numbers.proofs.parts.Reads as parts-reads
 
 abbrev Inv-loop : tie.InvT-loop
-Inv-loop pool occupied bytes n c₀ c = (c ≤ n) × (n ≡ length pool / bytes) × ((k : ℕ) → k < c → getD occupied k false ≡ not (allZero (take bytes (drop (k * bytes) pool))))
+Inv-loop pool occupied bytes n c₀ c = (c ≤ n) × (n ≡ length pool / bytes) × ((k : ℕ) → k < c → getD occupied k false ≡ isFilled (take bytes (drop (k * bytes) pool)))
 
 abbrev μ-loop : tie.MeasureT-loop
 μ-loop pool occupied bytes n c₀ c = n - c

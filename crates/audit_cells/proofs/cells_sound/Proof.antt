@@ -6,17 +6,17 @@ use Prim.Native.Nat.{ℕ, _*_, _/_, _≤_, _<_}
 use lib.ListN.{length, getD, take, drop, replicate}
 use borrow.Author.Tests.{not-false}
 use Rattle.lists.specs.Decides.{Decides}
-use Rattle.lists.specs.Lists.{allZero}
 use Rattle.lists.specs.Marks.{MarkResult, marked}
 use Rattle.lists.proofs.Answers.{answer-no}
 use Rattle.lists.proofs.Checkers.{is-not}
 use Rattle.lists.proofs.Places.{rows-few}
 use Rattle.model.specs.Measures.{Measures}
 use Rattle.model.specs.Records.{namedCells}
+use Rattle.model.specs.Sound.{isFilled}
 use Rattle.model.specs.Table.{recordsIn, storageIn}
 use Rattle.numbers.specs.Measures.{measuresOf}
 use Rattle.audit_cells.specs.Cells.{CellsSound}
-use Rattle.audit_cells.proofs.Cells.{marked-say, say-marked}
+use Rattle.audit_cells.proofs.Cells.{marked-sound, sound-marked}
 use borrow.Author.Needs.{needs}
 use Rattle.audit_cells.proofs.cells_sound.Statement.{statement}
 use Rattle.audit_cells.proofs.cells_sound.Tie as tie
@@ -32,16 +32,16 @@ module _ (sz : Measures) (pool ws : List ℕ) (m : ℕ) (most : length pool / sz
   named = namedCells (recordsIn (sz .segmentBlocks) ws)
 
   fails : {r : Bool} → MarkResult r cells named (replicate m false) occ → not r ≡ true → Decides false (CellsSound (storageIn sz pool ws))
-  fails h e = is-not (λ s. answer-no (h .ok) e (rw ec (say-marked sz m pool ws most s .named)))
+  fails h e = is-not (λ s. answer-no (h .ok) e (rw ec (sound-marked sz m pool ws most s .named)))
 
-  goes : {r t : Bool} → MarkResult r cells named (replicate m false) occ → not r ≡ false
-      → Decides t ((k : ℕ) → k < length pool / sz .blockBytes → getD occ k false ≡ not (allZero (take (sz .blockBytes) (drop (k * sz .blockBytes) pool))))
+  decides : {r t : Bool} → MarkResult r cells named (replicate m false) occ → not r ≡ false
+      → Decides t ((k : ℕ) → k < length pool / sz .blockBytes → getD occ k false ≡ isFilled (take (sz .blockBytes) (drop (k * sz .blockBytes) pool)))
       → Decides t (CellsSound (storageIn sz pool ws))
-  goes {r} h e f =
+  decides {r} h e f =
       let d : occ ≡ marked named (replicate m false) = h .done (not-false r e) in
       record {
-        holds = λ t. marked-say sz m pool ws most (record { named = rw (← ec) (sym (h .ok) ∙ not-false r e); filled = rw d at (f .holds t) });
-        seen = λ s. f .seen (rw d (say-marked sz m pool ws most s .filled));
+        holds = λ t. marked-sound sz m pool ws most (record { named = rw (← ec) (sym (h .ok) ∙ not-false r e); filled = rw d at (f .holds t) });
+        seen = λ s. f .seen (rw d (sound-marked sz m pool ws most s .filled));
       }
 
 few : (c : tie.Start) → length (c .args .pool .now) / c .args .m .bytes ≤ 32768
@@ -73,7 +73,7 @@ cells-filled-requires c κs = omega (arith, few (c .before .before .before .befo
 
 -- src/lib.rt:102:1
 returns-2 : tie.Need-returns-2
-returns-2 c = goes (measuresOf (c .before .before .before .before .before .before .before .before .before .args .m)) (c .before .before .before .before .before .before .before .before .before .args .pool .now) (c .before .before .before .before .before .before .before .before .before .args .records .now) 32768 (few (c .before .before .before .before .before .before .before .before .before)) _ (c .before .before .before .before .before .before .parts .ensures) _ (c .before .before .before .before .mark-all .ensures) (c .before .before .if1 .left) (c .cells-filled .ensures)
+returns-2 c = decides (measuresOf (c .before .before .before .before .before .before .before .before .before .args .m)) (c .before .before .before .before .before .before .before .before .before .args .pool .now) (c .before .before .before .before .before .before .before .before .before .args .records .now) 32768 (few (c .before .before .before .before .before .before .before .before .before)) _ (c .before .before .before .before .before .before .parts .ensures) _ (c .before .before .before .before .mark-all .ensures) (c .before .before .if1 .left) (c .cells-filled .ensures)
 
 pub cells-sound-spec : {M : Type 1} → statement M
 cells-sound-spec =

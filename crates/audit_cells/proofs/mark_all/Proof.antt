@@ -6,8 +6,8 @@ use mathlib.Core.List.{List}
 use Prim.Native.Nat.{ℕ, _+_, _*_, _-_, _/_, _≤_}
 use lib.ListN.{length, take, drop}
 use borrow.Author.Tests.{not-true, not-false}
-use Rattle.lists.specs.Marks.{MarkResult, collect}
-use Rattle.lists.proofs.Marks.{Going, starts, again, fails, ends}
+use Rattle.lists.specs.Marks.{MarkResult}
+use Rattle.lists.proofs.Marks.{collect, Going, starts, again, fails, ends}
 use Rattle.lists.proofs.Answers.{part-is, part-long}
 use Rattle.lists.proofs.Places.{row-in}
 use Rattle.model.specs.Measures.{recordWords}

@@ -12,7 +12,7 @@ use Rattle.model.specs.State.{nullPosition, Segment, Storage}
 use Rattle.model.specs.Records.{isHeld, positionAt}
 use Rattle.model.specs.Table.{wordToPointer, recordsIn}
 use Rattle.model.specs.Sound.{resolves}
-use Rattle.audit_words.proofs.Pointers.{read-direct, read-indirect, direct-says, indirect-says, null-reads, blank-reads, null-says, blank-says, other-says}
+use Rattle.audit_words.proofs.Pointers.{read-direct, read-indirect, direct-canonical, indirect-canonical, null-reads, blank-reads, null-canonical, blank-canonical, canonical-other}
 use Rattle.audit_counts.proofs.Counters.{bumped-other}
 use Rattle.audit_pointers.proofs.pointer_sound.Statement.{statement}
 use Rattle.audit_pointers.proofs.pointer_sound.Tie as tie
@@ -39,7 +39,7 @@ returns c =
     let w = c .before .before .before .before .before .args .w in
     let k = c .before .if1 .taken in
     let e : (storage : Storage) → c .not-null .result ≡ resolves storage (map wordToPointer (now (c .before .before .before .before .before .args .newer))) (wordToPointer w) = λ storage. rw (read-indirect w k) (c .not-null .ensures) in
-    (λ storage q. record { holds = λ t. record { canonical = indirect-says w k; resolves = sym (e storage) ∙ t }; seen = λ g. e storage ∙ g .resolves }, λ t. bumped-other w _ (λ z. omega (arith, k, z)))
+    (λ storage q. record { holds = λ t. record { canonical = indirect-canonical w k; resolves = sym (e storage) ∙ t }; seen = λ g. e storage ∙ g .resolves }, λ t. bumped-other w _ (λ z. omega (arith, k, z)))
 
 -- src/lib.rt:82:9
 bump-requires : tie.Need-bump-requires
@@ -63,7 +63,7 @@ returns-2 c =
     let w = c .before .before .before .before .before .before .before .before .before .before .args .w in
     let k = c .before .before .before .before .before .if2 .taken in
     let e : (storage : Storage) → storage .records ≡ recordsIn (c .before .before .before .before .before .before .before .before .before .before .args .n) (now (c .before .before .before .before .before .before .before .before .before .before .args .records)) → c .held-at .result ≡ resolves storage (map wordToPointer (now (c .before .before .before .before .before .before .before .before .before .before .args .newer))) (wordToPointer w) = λ storage q. rw (read-direct w k) (found storage _ _ _ q (c .held-at .ensures)) in
-    (λ storage q. record { holds = λ t. record { canonical = direct-says w k; resolves = sym (e storage q) ∙ t }; seen = λ g. e storage q ∙ g .resolves }, λ t. c .before .before .before .bump .ensures)
+    (λ storage q. record { holds = λ t. record { canonical = direct-canonical w k; resolves = sym (e storage q) ∙ t }; seen = λ g. e storage q ∙ g .resolves }, λ t. c .before .before .before .bump .ensures)
 
 -- src/lib.rt:85:13
 null-requires : tie.Need-null-requires
@@ -74,7 +74,7 @@ returns-3 : tie.Need-returns-3
 returns-3 c =
     let w = c .before .before .before .before .before .before .before .before .args .w in
     let e = c .if3 .taken ∙ c .before .before .null .ensures in
-    (λ storage q. is-so (record { canonical = null-says w e; resolves = rw (null-reads w e) }), λ t. bumped-other w _ (c .before .before .before .if2 .left))
+    (λ storage q. is-so (record { canonical = null-canonical w e; resolves = rw (null-reads w e) }), λ t. bumped-other w _ (c .before .before .before .if2 .left))
 
 -- src/lib.rt:88:10
 blank-requires : tie.Need-blank-requires
@@ -86,8 +86,8 @@ returns-4 c =
     let w = c .before .before .before .before .before .before .before .before .before .before .args .w in
     let b = c .before .blank .ensures in (
       λ storage q. record {
-        holds = λ t. let e = eqb-true w (c .before .blank .result .0) t ∙ b in record { canonical = blank-says w e; resolves = rw (blank-reads w e) };
-        seen = λ g. eq-eqb w (c .before .blank .result .0) (other-says w (c .before .before .before .before .before .if2 .left) (c .before .before .before .before .before .before .if1 .left) (λ e. c .before .before .if3 .left (e ∙ sym (c .before .before .before .before .null .ensures))) (g .canonical) ∙ sym b);
+        holds = λ t. let e = eqb-true w (c .before .blank .result .0) t ∙ b in record { canonical = blank-canonical w e; resolves = rw (blank-reads w e) };
+        seen = λ g. eq-eqb w (c .before .blank .result .0) (canonical-other w (c .before .before .before .before .before .if2 .left) (c .before .before .before .before .before .before .if1 .left) (λ e. c .before .before .if3 .left (e ∙ sym (c .before .before .before .before .null .ensures))) (g .canonical) ∙ sym b);
       },
       λ t. bumped-other w _ (c .before .before .before .before .before .if2 .left),
     )

@@ -16,7 +16,7 @@ use Rattle.model.specs.State.{Storage}
 use Rattle.model.specs.Table.{storageIn}
 use Rattle.numbers.specs.Measures.{measuresOf}
 use Rattle.audit_counts.specs.Counters.{countsAfter}
-use Rattle.audit_words.proofs.Sizes.{till-small}
+use Rattle.laws.proofs.Measures.{sizes}
 use Rattle.audit_tills.specs.Sound.{tillPointers, tillsPointers, TillSound}
 use Rattle.audit_tills.proofs.Slots.{till-fits, till-short, none-tallied, next-tallied, room-left}
 use Rattle.audit_tills.proofs.tills_sound.Statement.{statement}
@@ -48,11 +48,11 @@ add-width c = search needs
 
 -- src/lib.rt:147:21
 mul-width : tie.Need-mul-width Inv-loop μ-loop
-mul-width c = omega (arith, till-small (c .before .before .before .before .args .versions) (c .before .before .before .before .args .blocks) (c .before .before .before .before .pre .2) (c .before .before .before .before .pre .3))
+mul-width c = omega (arith, sizes 0 (c .before .before .before .before .args .versions) (c .before .before .before .before .args .blocks) (omega arith) (c .before .before .before .before .pre .2) (c .before .before .before .before .pre .3) .0)
 
 -- src/lib.rt:147:17
 add-width-2 : tie.Need-add-width-2 Inv-loop μ-loop
-add-width-2 c = omega (arith, till-small (c .before .before .before .before .args .versions) (c .before .before .before .before .args .blocks) (c .before .before .before .before .pre .2) (c .before .before .before .before .pre .3))
+add-width-2 c = omega (arith, sizes 0 (c .before .before .before .before .args .versions) (c .before .before .before .before .args .blocks) (omega arith) (c .before .before .before .before .pre .2) (c .before .before .before .before .pre .3) .0)
 
 -- src/lib.rt:149:5
 loop-holds : tie.Need-loop-holds Inv-loop μ-loop

@@ -8,7 +8,7 @@ use Rattle.backup.proofs.copy_newest.Tie as tie
 use Rattle.backup.proofs.copy_newest.Reads as reads
 use Rattle.backup.proofs.copy_newest.Lts as lts
 use Rattle.backup_file.proofs.newest_pointers.Reads as newest-pointers-reads
-use Rattle.tills.proofs.till_words.Reads as till-words-reads
+use Rattle.layout.proofs.till_words.Reads as till-words-reads
 
 -- src/lib.rt:59:13
 shared-slice-read-b : tie.Need-shared-slice-read-b

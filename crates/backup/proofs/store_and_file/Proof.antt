@@ -1,7 +1,7 @@
-use Rattle.backup.proofs.Joined.{blocks-fit, last-fits, refused-all, file-ready, filed-all}
+use Rattle.backup.proofs.Joined.{blocks-fit, last-fits, refused-all, file-pre, filed-all}
 use lib.Seq.{length-take-le}
 use mathlib.Core.Path.{refl, sym}
-use Rattle.backup.proofs.Joined.{till-in, storage-ready, bytes-ok, image-short}
+use Rattle.backup.proofs.Joined.{till-in, store-in-pre, bytes-ok, image-short}
 use Rattle.laws.proofs.Stores.{header}
 use native.Mathlib.Omega.{arith}
 use borrow.Author.Needs.{needs}
@@ -12,8 +12,8 @@ use Rattle.backup.proofs.store_and_file.Reads as reads
 use Rattle.backup.proofs.store_and_file.Lts as lts
 use Rattle.backup.proofs.file_in.Reads as file-in-reads
 use Rattle.backup.proofs.store_in.Reads as store-in-reads
-use Rattle.tills.proofs.records_at.Reads as records-at-reads
-use Rattle.tills.proofs.till_words.Reads as till-words-reads
+use Rattle.layout.proofs.records_at.Reads as records-at-reads
+use Rattle.layout.proofs.till_words.Reads as till-words-reads
 
 -- src/lib.rt:77:9
 records-at-requires : tie.Need-records-at-requires
@@ -37,7 +37,7 @@ add-end c = let p = c .before .before .before .before .before .before .before .b
 
 -- src/lib.rt:80:9
 store-in-requires : tie.Need-store-in-requires
-store-in-requires c κs = (storage-ready (c .before .before .before .before .before .before .before .before .before .before .before .before .before .before .before .pre .0) _ (c .before .before .before .before .before .before .before .before .records-at .ensures), c .before .before .before .before .before .before .before .before .before .before .before .before .before .before .before .pre .1)
+store-in-requires c κs = (store-in-pre (c .before .before .before .before .before .before .before .before .before .before .before .before .before .before .before .pre .0) _ (c .before .before .before .before .before .before .before .before .records-at .ensures), c .before .before .before .before .before .before .before .before .before .before .before .before .before .before .before .pre .1)
 
 -- src/lib.rt:82:9
 same-length : tie.Need-same-length
@@ -77,7 +77,7 @@ slice-aggregate-file-in c = sym (length-take-le _ _ (omega (arith, blocks-fit (c
 
 -- src/lib.rt:89:5
 file-in-requires : tie.Need-file-in-requires
-file-in-requires c κs = file-ready (c .before .before .before .before .before .before .before .before .before .before .before .before .before .before .before .before .before .before .before .before .before .before .before .before .before .before .before .before .before .pre .0) (c .before .before .before .before .before .before .before .before .before .before .before .before .before .before .before .before .before .before .before .before .before .before .before .before .before .before .before .before .before .args .limit .others) (c .before .before .before .before .before .before .before .before .before .before .before .before .before .before .before .before .before .before .before .before .before .before .before .before .before .before .before .before .before .args .limit .most) (c .before .before .before .before .before .before .before .before .before .before .before .before .before .store-in .result) (c .before .before .before .before .before .before .before .before .before .before .before .before .before .store-in .last .1 .0) (c .before .before .before .before .before .before .before .before .before .before .before .before .before .store-in .last .1 .1 .0) (c .before .before .before .before .before .before .before .before .before .before .before .before .before .store-in .last .1 .1 .1 .1 .0) (c .before .before .before .before .before .before .before .before .before .before .before .before .before .store-in .last .1 .1 .1 .1 .1 .0) (c .before .before .before .before .before .before .before .before .before .before .before .before .before .store-in .ensures) (c .before .before .before .before .if1 .left) _ _ (c .before .before .before .before .before .before .before .before .before .before .before .before .before .before .before .before .before .before .before .till-words .ensures) (c .before .before .before .parts-for .ensures) (c .before .before .before .before .before .before .before .before .before .before .before .before .before .store-in .kept .1 .1 .0) (c .before .before .before .before .before .before .before .before .before .before .before .before .before .store-in .kept .1 .1 .1 .1 .1 .0)
+file-in-requires c κs = file-pre (c .before .before .before .before .before .before .before .before .before .before .before .before .before .before .before .before .before .before .before .before .before .before .before .before .before .before .before .before .before .pre .0) (c .before .before .before .before .before .before .before .before .before .before .before .before .before .before .before .before .before .before .before .before .before .before .before .before .before .before .before .before .before .args .limit .others) (c .before .before .before .before .before .before .before .before .before .before .before .before .before .before .before .before .before .before .before .before .before .before .before .before .before .before .before .before .before .args .limit .most) (c .before .before .before .before .before .before .before .before .before .before .before .before .before .store-in .result) (c .before .before .before .before .before .before .before .before .before .before .before .before .before .store-in .last .1 .0) (c .before .before .before .before .before .before .before .before .before .before .before .before .before .store-in .last .1 .1 .0) (c .before .before .before .before .before .before .before .before .before .before .before .before .before .store-in .last .1 .1 .1 .1 .0) (c .before .before .before .before .before .before .before .before .before .before .before .before .before .store-in .last .1 .1 .1 .1 .1 .0) (c .before .before .before .before .before .before .before .before .before .before .before .before .before .store-in .ensures) (c .before .before .before .before .if1 .left) _ _ (c .before .before .before .before .before .before .before .before .before .before .before .before .before .before .before .before .before .before .before .till-words .ensures) (c .before .before .before .parts-for .ensures) (c .before .before .before .before .before .before .before .before .before .before .before .before .before .store-in .kept .1 .1 .0) (c .before .before .before .before .before .before .before .before .before .before .before .before .before .store-in .kept .1 .1 .1 .1 .1 .0)
 
 -- src/lib.rt:92:18
 add-t20 : tie.Need-add-t20

@@ -3,7 +3,7 @@ use Rattle.numbers.specs.Measures.{measuresOf}
 use Rattle.model.specs.State.{Storage}
 use Rattle.place_undo.specs.Undo.{undoUpto}
 use Rattle.storage.proofs.Read.{stored-records}
-use Rattle.sweep.proofs.Released.{claimed, claimed-storage, told-as}
+use Rattle.sweep.proofs.Released.{claimed, claimed-storage, encodes-as}
 use denote.Ref.{now}
 use borrow.Author.Needs.{needs}
 use Rattle.backup_steps.proofs.take_back.Statement.{statement}
@@ -27,7 +27,7 @@ same-length-2 c = search needs
 
 -- src/lib.rt:91:1
 returns : tie.Need-returns
-returns c = let a = c .before .before .before .before .before .before .before .before .before .before .before .before .before .before .before in let q = c .before .before .before .before .before .before .before .before .before .claim in told-as (ap (λ (s : Storage). undoUpto (measuresOf (a .args .m)) (now (a .args .placed)) (a .args .segments) s) (sym (claimed-storage _ _ _ (a .pre .stored) _ _ (q .kept .0) (q .ensures)))) (c .before .before .before .before .undo-all .ensures)
+returns c = let a = c .before .before .before .before .before .before .before .before .before .before .before .before .before .before .before in let q = c .before .before .before .before .before .before .before .before .before .claim in encodes-as (ap (λ (s : Storage). undoUpto (measuresOf (a .args .m)) (now (a .args .placed)) (a .args .segments) s) (sym (claimed-storage _ _ _ (a .pre .stored) _ _ (q .kept .0) (q .ensures)))) (c .before .before .before .before .undo-all .ensures)
 
 pub take-back-spec : {M : Type 1} → statement M
 take-back-spec =

@@ -9,7 +9,7 @@ use Rattle.bill_sums.proofs.bill_store.Reads as reads
 use Rattle.bill_sums.proofs.bill_store.Lts as lts
 use Rattle.bill_sums.proofs.bill_tills.Reads as bill-tills-reads
 use Rattle.layout.proofs.measures_in.Reads as measures-in-reads
-use Rattle.tills.proofs.till_words.Reads as till-words-reads
+use Rattle.layout.proofs.till_words.Reads as till-words-reads
 
 -- src/lib.rt:205:9
 returns : tie.Need-returns

@@ -8,7 +8,7 @@ use Rattle.model.specs.State.{Segment}
 use Rattle.model.specs.Table.{recordToWords}
 use Rattle.place_words.proofs.Cells.{Acted, acted-end, acted-next, acted-start}
 use Rattle.place_free.specs.Free.{withoutCells}
-use Rattle.place_free.proofs.Searches.{taken-append}
+use Rattle.place_free.proofs.Searches.{taken-append, taken-none}
 use Rattle.place_free.proofs.take_row.Statement.{statement}
 use Rattle.place_free.proofs.take_row.Tie as tie
 
@@ -21,8 +21,11 @@ abbrev μ-loop : tie.MeasureT-loop
 shared-slice-read-m : tie.Need-shared-slice-read-m Inv-loop μ-loop
 shared-slice-read-m c = search needs
 
+returns : tie.Need-returns Inv-loop μ-loop
+returns c = λ seg e s. taken-none seg _ s (c .if1 .taken) _
+
 loop-holds : tie.Need-loop-holds Inv-loop μ-loop
-loop-holds c = (search needs, refl, λ seg l s. acted-start withoutCells seg (now (c .before .before .before .args .row)) s (now (c .before .before .before .args .free)))
+loop-holds c = (search needs, refl, λ seg l s. acted-start withoutCells seg (now (c .before .before .before .before .args .row)) s (now (c .before .before .before .before .args .free)))
 
 add-cell : tie.Need-add-cell Inv-loop μ-loop
 add-cell c = search needs
@@ -36,7 +39,7 @@ shared-slice-read-cell c = search needs
 take-if-requires : tie.Need-take-if-requires Inv-loop μ-loop
 take-if-requires c κs =
     let l = c .before .before .before .loop in
-    (omega arith, omega (arith, l .inv .1, c .before .before .before .before .before .before .before .pre .2 (l .i) (omega arith)))
+    (omega arith, omega (arith, l .inv .1, c .before .before .before .before .before .before .before .before .pre .2 (l .i) (omega arith)))
 
 add-i : tie.Need-add-i Inv-loop μ-loop
 add-i c = search needs
@@ -47,16 +50,16 @@ loop-less c = search needs
 loop-again : tie.Need-loop-again Inv-loop μ-loop
 loop-again c =
     let l = c .before .before .before .before .before .before .loop in
-    let a = c .before .before .before .before .before .before .before .before .before .before .args in
+    let a = c .before .before .before .before .before .before .before .before .before .before .before .args in
     (omega arith, omega arith, λ seg e s. rw (c .before .before .take-if .ensures) (acted-next withoutCells seg (now (a .row)) s (now (a .free)) (l .m) (l .i) (l .free) (l .inv .2 seg e s) (λ xs ys. taken-append xs ys (l .free)) (omega (arith, e))))
 
 same-length : tie.Need-same-length Inv-loop μ-loop
 same-length c = c .before .loop .inv .1
 
-returns : tie.Need-returns Inv-loop μ-loop
-returns c = λ seg e s.
+returns-2 : tie.Need-returns-2 Inv-loop μ-loop
+returns-2 c = λ seg e s.
     let l = c .before .loop in
-    acted-end withoutCells seg (now (c .before .before .before .before .before .args .row)) s (now (c .before .before .before .before .before .args .free)) (l .m) (l .i) (l .free) (l .inv .2 seg e s) (unfold withoutCells in refl) (omega (arith, e))
+    acted-end withoutCells seg (now (c .before .before .before .before .before .before .args .row)) s (now (c .before .before .before .before .before .before .args .free)) (l .m) (l .i) (l .free) (l .inv .2 seg e s) (unfold withoutCells in refl) (omega (arith, e))
 
 pub take-row-spec : {M : Type 1} → statement M
 take-row-spec =
@@ -65,6 +68,7 @@ take-row-spec =
     Inv-loop
     μ-loop
     shared-slice-read-m
+    returns
     loop-holds
     add-cell
     mul-cell
@@ -74,4 +78,4 @@ take-row-spec =
     loop-less
     loop-again
     same-length
-    returns)
+    returns-2)

@@ -7,14 +7,14 @@ use lib.Seq.{sets}
 use denote.Ref.{now}
 use Rattle.lists.proofs.Places.{row-next}
 use Rattle.model.specs.Image.{blocksFrom, withBlanks}
-use Rattle.model.specs.Place.{stored}
+use Rattle.model.specs.Place.{storedBlocks}
 use Rattle.model.specs.Table.{cellsIn}
 use Rattle.place_match.proofs.Copying.{Copied, block-low, copied-end, copied-room, copied-start, copied-step}
 use Rattle.place_match.proofs.copy_blocks.Statement.{statement}
 use Rattle.place_match.proofs.copy_blocks.Tie as tie
 
 abbrev Inv-loop : tie.InvT-loop
-Inv-loop image from pool₀ mask bytes n m₀ cell₀ at₀ i₀ pool m cell at i = (at ≡ from + i * bytes) × Copied bytes image pool₀ n (sets (cellsIn bytes pool₀) cell₀ (stored withBlanks (blocksFrom bytes image from n))) pool m cell at i
+Inv-loop image from pool₀ mask bytes n m₀ cell₀ at₀ i₀ pool m cell at i = (at ≡ from + i * bytes) × Copied bytes image pool₀ n (sets (cellsIn bytes pool₀) cell₀ (storedBlocks withBlanks (blocksFrom bytes image from n))) pool m cell at i
 
 abbrev μ-loop : tie.MeasureT-loop
 μ-loop image from pool₀ mask bytes n m₀ cell₀ at₀ i₀ pool m cell at i = n - i

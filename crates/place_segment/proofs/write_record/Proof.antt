@@ -5,7 +5,7 @@ use Prim.Native.Nat.{_+_, _-_, _≤_}
 use lib.ListN.{length}
 use denote.Ref.{now}
 use Rattle.model.specs.Image.{blocksFrom, withBlanks}
-use Rattle.model.specs.Place.{newPositions, stored}
+use Rattle.model.specs.Place.{newPositions, storedBlocks}
 use Rattle.model.specs.Runs as model
 use Rattle.model.specs.Table.{cellsIn}
 use Rattle.numbers.specs.Measures.{measuresOf}
@@ -21,11 +21,11 @@ use Rattle.place_segment.proofs.write_record.Tie as tie
 abbrev theRun : tie.Start → model.Run
 theRun a = record { start = a .args .run .start .0; cells = a .args .run .size }
 
-found : (a : tie.Start) → model.scan (length (stored withBlanks (blocksFrom (a .args .m .bytes) (now (a .args .image)) (a .args .from) (a .args .m .blocks)))) (now (a .args .free)) 0 0 none ≡ some (theRun a)
+found : (a : tie.Start) → model.scan (length (storedBlocks withBlanks (blocksFrom (a .args .m .bytes) (now (a .args .image)) (a .args .from) (a .args .m .blocks)))) (now (a .args .free)) 0 0 none ≡ some (theRun a)
 found a = sym (a .pre .1 .1 .1) ∙ run-some (a .args .run .start .0) (a .args .run .size) (λ z. omega (arith, a .pre .1 .1 .0))
 
 -- its cells are the pool's
-has-room : (a : tie.Start) → a .args .run .start .0 + length (stored withBlanks (blocksFrom (a .args .m .bytes) (now (a .args .image)) (a .args .from) (a .args .m .blocks))) ≤ length (cellsIn (a .args .m .bytes) (now (a .args .pool)))
+has-room : (a : tie.Start) → a .args .run .start .0 + length (storedBlocks withBlanks (blocksFrom (a .args .m .bytes) (now (a .args .image)) (a .args .from) (a .args .m .blocks))) ≤ length (cellsIn (a .args .m .bytes) (now (a .args .pool)))
 has-room a = write-room (a .pre .0 .0) (a .pre .0 .1) (a .pre .0 .2) (a .args .k .0) (a .pre .1 .0 .0) (a .pre .1 .0 .1) (theRun a) (found a)
 
 rowed : (c : tie.After-row-words) → c .before .word .result + c .row-words .result ≤ length (now (c .before .before .before .before .before .before .before .args .records))

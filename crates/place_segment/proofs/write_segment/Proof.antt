@@ -8,7 +8,7 @@ use lib.Count.{ones}
 use lib.ListN.{length}
 use denote.Ref.{now}
 use Rattle.model.specs.Image.{blocksFrom, withBlanks}
-use Rattle.model.specs.Place.{stored}
+use Rattle.model.specs.Place.{storedBlocks}
 use Rattle.model.specs.Runs.{Run, scan}
 use Rattle.numbers.specs.Measures.{measuresOf}
 use Rattle.runs.specs.Runs.{freeIf}
@@ -22,7 +22,7 @@ use Rattle.place_segment.proofs.write_segment.Tie as tie
 
 -- the search's answer, for the segment's blocks
 as-found : (a : tie.Start) (r : Option Run) → r ≡ scan (ones (a .args .masks .stored)) (map (freeIf true) (now (a .args .free))) 0 0 none
-    → r ≡ scan (length (stored withBlanks (blocksFrom (a .args .m .bytes) (now (a .args .image)) (a .args .from) (a .args .m .blocks)))) (now (a .args .free)) 0 0 none
+    → r ≡ scan (length (storedBlocks withBlanks (blocksFrom (a .args .m .bytes) (now (a .args .image)) (a .args .from) (a .args .m .blocks)))) (now (a .args .free)) 0 0 none
 as-found a r e = e ∙ ap₂ (λ (n : ℕ) (fs : List Bool). scan n fs 0 0 none) (need-is (measuresOf (a .args .m)) (now (a .args .image)) (a .args .from) (a .args .masks .stored) (a .args .masks .blank) (a .pre .1)) (map-id (now (a .args .free)))
 
 free-record-requires : tie.Need-free-record-requires

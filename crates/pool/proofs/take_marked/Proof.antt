@@ -5,6 +5,7 @@ use lib.Count.{ones, trailingZeros}
 use lib.ListN.{length, getD, length-set}
 use lib.Pow.{pow-pos}
 use borrow.Author.Needs.{needs}
+use denote.Ref.{now}
 use Rattle.lists.proofs.Masks.{one-shl, First, trailing-first, first-le, first-lt, first-ones}
 use Rattle.pool.specs.Pool.{along, markAt}
 use Rattle.pool.proofs.Pool.{first-along, along-none}
@@ -17,6 +18,7 @@ Inv-loop occupied₀ mask cells left₀ occupied left =
     × (ones left ≤ ones mask)
     × (length occupied ≡ length occupied₀)
     × (along markAt left (ones mask - ones left) cells occupied ≡ along markAt mask 0 cells occupied₀)
+    × (left < 2 ^ length cells)
 
 abbrev μ-loop : tie.MeasureT-loop
 μ-loop occupied₀ mask cells left₀ occupied left = left
@@ -30,15 +32,15 @@ small c = first-lt 16 (bit c) (c .before .loop .inv .0)
 power : (c : tie.In-loop Inv-loop μ-loop) → 1 * 2 ^ trailingZeros 32 (c .before .loop .left) % 2 ^ 32 ≡ 2 ^ trailingZeros 32 (c .before .loop .left)
 power c = one-shl _ 32 (omega (arith, small c))
 
-sixteen : (c : tie.Start Inv-loop μ-loop) → length (c .args .t3) ≡ 16
-sixteen c = search needs
+inside : (c : tie.In-loop Inv-loop μ-loop) → trailingZeros 32 (c .before .loop .left) < length (now (c .before .before .args .cells))
+inside c = first-lt _ (bit c) (c .before .loop .inv .4)
 
-cell : (c : tie.In-loop Inv-loop μ-loop) → getD (c .before .before .args .t3) (trailingZeros 32 (c .before .loop .left)) 0 < length (c .before .loop .occupied)
-cell c = omega (arith, c .before .before .pre .1 (trailingZeros 32 (c .before .loop .left)))
+cell : (c : tie.In-loop Inv-loop μ-loop) → getD (now (c .before .before .args .cells)) (trailingZeros 32 (c .before .loop .left)) 0 < length (c .before .loop .occupied)
+cell c = omega (arith, c .before .before .pre .2 (trailingZeros 32 (c .before .loop .left)))
 
 loop-holds : tie.Need-loop-holds Inv-loop μ-loop
 loop-holds c = let z : ones (c .args .mask) - ones (c .args .mask) ≡ 0 = omega arith in
-    (c .pre .0, omega arith, refl, rw z)
+    (c .pre .1, omega arith, refl, rw z, c .pre .0)
 
 cast-i : tie.Need-cast-i Inv-loop μ-loop
 cast-i c = omega (arith, small c)
@@ -46,34 +48,35 @@ cast-i c = omega (arith, small c)
 mul-c : tie.Need-mul-c Inv-loop μ-loop
 mul-c c = omega (arith, small c)
 
-array-read-c : tie.Need-array-read-c Inv-loop μ-loop
-array-read-c c = small c
+shared-slice-read-c : tie.Need-shared-slice-read-c Inv-loop μ-loop
+shared-slice-read-c c = inside (c .before)
 
 cast-c : tie.Need-cast-c Inv-loop μ-loop
-cast-c c = omega (arith, cell c)
+cast-c c = omega (arith, cell (c .before))
 
 slice-write-occupied : tie.Need-slice-write-occupied Inv-loop μ-loop
-slice-write-occupied c = cell c
+slice-write-occupied c = cell (c .before)
 
 shl-left : tie.Need-shl-left Inv-loop μ-loop
-shl-left c = omega (arith, small c)
+shl-left c = omega (arith, small (c .before))
 
 sub-left : tie.Need-sub-left Inv-loop μ-loop
-sub-left c = omega (arith, power c, first-le (bit c))
+sub-left c = omega (arith, power (c .before), first-le (bit (c .before)))
 
 loop-less : tie.Need-loop-less Inv-loop μ-loop
-loop-less c = omega (arith, power c, first-le (bit c), pow-pos (trailingZeros 32 (c .before .loop .left)))
+loop-less c = omega (arith, power (c .before), first-le (bit (c .before)), pow-pos (trailingZeros 32 (c .before .before .loop .left)))
 
 loop-again : tie.Need-loop-again Inv-loop μ-loop
-loop-again c = let i = c .before .loop .inv in
-    let left = c .before .loop .left in
-    let f = first-ones (bit c) in
-    let n : ones (c .before .before .args .mask) - ones (left - 2 ^ trailingZeros 32 left) ≡ ones (c .before .before .args .mask) - ones left + 1 = omega (arith, f) in
-    rw (power c) (
+loop-again c = let i = c .before .before .loop .inv in
+    let left = c .before .before .loop .left in
+    let f = first-ones (bit (c .before)) in
+    let n : ones (c .before .before .before .args .mask) - ones (left - 2 ^ trailingZeros 32 left) ≡ ones (c .before .before .before .args .mask) - ones left + 1 = omega (arith, f) in
+    rw (power (c .before)) (
       omega arith,
       omega (arith, f),
       simp length-set (i .2),
-      rw n (sym (first-along markAt _ _ _ (omega (arith, sixteen (c .before .before), small c)) (bit c)) ∙ i .3),
+      rw n (sym (first-along markAt _ _ _ (inside (c .before)) (bit (c .before))) ∙ i .3),
+      omega (arith, i .4),
     )
 
 same-length : tie.Need-same-length Inv-loop μ-loop
@@ -92,7 +95,7 @@ take-marked-spec =
     loop-holds
     cast-i
     mul-c
-    array-read-c
+    shared-slice-read-c
     cast-c
     slice-write-occupied
     shl-left

@@ -8,7 +8,7 @@ use Rattle.restore.proofs.restore_held.Tie as tie
 use Rattle.restore.proofs.restore_held.Reads as reads
 use Rattle.restore.proofs.restore_held.Lts as lts
 use Rattle.restore.proofs.restore_slots.Reads as restore-slots-reads
-use Rattle.tills.proofs.records_at.Reads as records-at-reads
+use Rattle.layout.proofs.records_at.Reads as records-at-reads
 
 -- src/lib.rt:52:9
 records-at-requires : tie.Need-records-at-requires

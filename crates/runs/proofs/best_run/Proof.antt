@@ -7,7 +7,7 @@ use lib.ListN.{length, drop}
 use borrow.Author.Needs.{needs}
 use denote.Ref.{now}
 use Rattle.model.specs.Runs.{scan}
-use Rattle.runs.specs.Runs.{asRun, freeIf, found}
+use Rattle.runs.specs.Runs.{asRun, freeIf, foundAtEnd}
 use Rattle.runs.proofs.Runs.{scan-end, scan-fits}
 use Rattle.runs.proofs.best_run.Statement.{statement}
 use Rattle.runs.proofs.best_run.Tie as tie
@@ -19,7 +19,7 @@ use Rattle.runs.proofs.by_cell.Reads as by-cell-reads
 use Rattle.runs.proofs.by_piece.Reads as by-piece-reads
 
 abbrev Inv-loop : tie.InvT-loop
-Inv-loop marks free need search₀ search = (search .at ≤ length marks) × (search .run ≤ search .at) × (found free need marks search ≡ scan need (map (freeIf free) marks) 0 0 none)
+Inv-loop marks free need search₀ search = (search .at ≤ length marks) × (search .run ≤ search .at) × (foundAtEnd free need marks search ≡ scan need (map (freeIf free) marks) 0 0 none)
 
 abbrev μ-loop : tie.MeasureT-loop
 μ-loop marks free need search₀ search = length marks - search .at

@@ -3,7 +3,7 @@ use Prim.Native.Nat.{_-_, _≤_}
 use native.Mathlib.Omega.{arith}
 use borrow.Author.Needs.{needs}
 use denote.Ref.{now}
-use Rattle.runs.specs.Runs.{freeIf, found}
+use Rattle.runs.specs.Runs.{freeIf, foundAtEnd}
 use Rattle.runs.proofs.Runs.{cell-next, went}
 use Rattle.runs.proofs.by_cell.Statement.{statement}
 use Rattle.runs.proofs.by_cell.Tie as tie
@@ -13,7 +13,7 @@ use Rattle.runs.proofs.Search.past.Reads as past-reads
 use Rattle.runs.proofs.is_free.Reads as is-free-reads
 
 abbrev Inv-loop : tie.InvT-loop
-Inv-loop marks free need end search₀ search = (search .at ≤ end) × (search .run ≤ search .at) × (found free need marks search ≡ found free need marks search₀)
+Inv-loop marks free need end search₀ search = (search .at ≤ end) × (search .run ≤ search .at) × (foundAtEnd free need marks search ≡ foundAtEnd free need marks search₀)
 
 abbrev μ-loop : tie.MeasureT-loop
 μ-loop marks free need end search₀ search = end - search .at

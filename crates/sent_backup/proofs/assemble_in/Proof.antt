@@ -11,7 +11,7 @@ use Rattle.sent_backup.proofs.assemble_in.Reads as reads
 use Rattle.sent_backup.proofs.assemble_in.Lts as lts
 use Rattle.layout.proofs.measures_in.Reads as measures-in-reads
 use Rattle.sent_assemble.proofs.assemble.Reads as assemble-reads
-use Rattle.tills.proofs.records_at.Reads as records-at-reads
+use Rattle.layout.proofs.records_at.Reads as records-at-reads
 
 -- src/lib.rt:27:9
 measures-in-requires : tie.Need-measures-in-requires

@@ -21,7 +21,7 @@ use Rattle.sent_offer.proofs.offer_segments.Lts as lts
 use Rattle.layout.proofs.measures_in.Reads as measures-in-reads
 use Rattle.sent_accept.proofs.offer_refusal.Reads as offer-refusal-reads
 use Rattle.sent_offer.proofs.mark_all.Reads as mark-all-reads
-use Rattle.tills.proofs.records_at.Reads as records-at-reads
+use Rattle.layout.proofs.records_at.Reads as records-at-reads
 
 -- src/lib.rt:88:9
 offer-refusal-requires : tie.Need-offer-refusal-requires

@@ -5,7 +5,7 @@ use mathlib.Core.List.{List, _++_}
 use Prim.Native.Nat.{ℕ, _-_, _≤_}
 use denote.Ref.{now}
 use lib.ListN.{length, drop, set, length-set}
-use Rattle.sha1.specs.Sha1.{loaded, schedule}
+use Rattle.sha1.specs.Sha1.{chunkWord, schedule}
 use Rattle.sha1_chunk.proofs.Schedule.{load-more}
 use Rattle.sha1_chunk.proofs.load.Statement.{statement}
 use Rattle.sha1_chunk.proofs.load.Tie as tie
@@ -60,7 +60,7 @@ loop-less : tie.Need-loop-less Inv-loop μ-loop
 loop-less c = search needs
 
 loop-again : tie.Need-loop-again Inv-loop μ-loop
-unfolding loaded
+unfolding chunkWord
 loop-again c = let h = c .before .before .before .before .before .before .loop in
     let a = c .before .before .before .before .before .before .before .before .before .args in (
       search needs,

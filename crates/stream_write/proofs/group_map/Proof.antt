@@ -5,13 +5,13 @@ use Prim.Native.Nat.{ℕ, _+_, _-_, _*_, _≤_, _<_}
 use denote.Ref.{now}
 use Rattle.lists.specs.Masks.{maskOf}
 use Rattle.model.specs.Image.{blocksFrom}
+use Rattle.model.specs.Sound.{isFilled}
 use Rattle.stream_write.proofs.Laws.{blocksLeft, map-front, map-small}
 use Rattle.stream_write.proofs.group_map.Statement.{statement}
-use Rattle.stream.specs.Stream.{filled}
 use Rattle.stream_write.proofs.group_map.Tie as tie
 
 abbrev Inv-loop : tie.InvT-loop
-Inv-loop image from m₀ i₀ m i = (i ≤ 8) × (m ≡ maskOf filled (blocksLeft image from i))
+Inv-loop image from m₀ i₀ m i = (i ≤ 8) × (m ≡ maskOf isFilled (blocksLeft image from i))
 
 abbrev μ-loop : tie.MeasureT-loop
 μ-loop image from m₀ i₀ m i = i
@@ -59,7 +59,7 @@ returns c =
     let a = c .before .before .before .args in
     let e : a .from + l .i * 64 ≡ a .from = omega arith in
     let f : 8 - l .i ≡ 8 = omega arith in
-    let g : l .m ≡ maskOf filled (blocksFrom 64 (now (a .image)) (a .from) 8) = rw (e, f) at (l .inv .1) in
+    let g : l .m ≡ maskOf isFilled (blocksFrom 64 (now (a .image)) (a .from) 8) = rw (e, f) at (l .inv .1) in
     (g, omega (arith, g, map-small (now (a .image)) (a .from) 8 (omega arith)))
 
 pub group-map-spec : {M : Type 1} → statement M

@@ -6,7 +6,7 @@ use Rattle.model.specs.State.{Storage}
 use Rattle.model.specs.Sweep.{release, sweep}
 use Rattle.model.specs.Table.{wordToPointer}
 use Rattle.storage.proofs.Read.{stored-records}
-use Rattle.sweep.proofs.Released.{claimed-storage, claimed, told-as}
+use Rattle.sweep.proofs.Released.{claimed-storage, claimed, encodes-as}
 use Rattle.sweep.proofs.exchange.Statement.{statement}
 use Rattle.sweep.proofs.exchange.Tie as tie
 
@@ -32,7 +32,7 @@ returns c =
     let a = c .before .before .before .before .before .before .before .before .before .before .before .before .before .before .before in
     let q = c .before .before .before .before .before .before .before .before .before .claim in
     let e = claimed-storage _ _ _ (a .pre .0) _ _ (q .kept .0) (q .ensures) in
-    told-as (ap (λ (s : Storage). sweep (measuresOf (a .args .m)) (release s (map wordToPointer (a .args .gone .now)))) (sym e)) (c .before .before .before .before .release-and-sweep .ensures)
+    encodes-as (ap (λ (s : Storage). sweep (measuresOf (a .args .m)) (release s (map wordToPointer (a .args .gone .now)))) (sym e)) (c .before .before .before .before .release-and-sweep .ensures)
 
 pub exchange-spec : {M : Type 1} → statement M
 exchange-spec = tie.close (tie.spec claim-requires release-and-sweep-requires same-length same-length-2 returns)

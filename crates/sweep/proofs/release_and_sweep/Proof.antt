@@ -4,7 +4,7 @@ use Rattle.numbers.specs.Measures.{measuresOf}
 use Rattle.model.specs.State.{Storage}
 use Rattle.model.specs.Sweep.{sweep}
 use Rattle.storage.proofs.Read.{stored-records}
-use Rattle.sweep.proofs.Released.{released-storage, released, told-as}
+use Rattle.sweep.proofs.Released.{released-storage, released, encodes-as}
 use Rattle.sweep.proofs.release_and_sweep.Statement.{statement}
 use Rattle.sweep.proofs.release_and_sweep.Tie as tie
 
@@ -22,7 +22,7 @@ same-length-2 c = search needs
 
 returns : tie.Need-returns
 returns c = let q = c .before .before .before .before .before .before .before .before .before .release in
-    told-as (ap (λ (s : Storage). sweep (measuresOf (c .before .before .before .before .before .before .before .before .before .before .before .before .before .before .args .m)) s) (sym (released-storage _ _ _ (c .before .before .before .before .before .before .before .before .before .before .before .before .before .before .pre .0) _ _ (q .kept .0) (q .ensures)))) (c .before .before .before .before .sweep-all .ensures)
+    encodes-as (ap (λ (s : Storage). sweep (measuresOf (c .before .before .before .before .before .before .before .before .before .before .before .before .before .before .args .m)) s) (sym (released-storage _ _ _ (c .before .before .before .before .before .before .before .before .before .before .before .before .before .before .pre .0) _ _ (q .kept .0) (q .ensures)))) (c .before .before .before .before .sweep-all .ensures)
 
 pub release-and-sweep-spec : {M : Type 1} → statement M
 release-and-sweep-spec =

@@ -4,22 +4,22 @@ use native.Mathlib.Omega.{arith}
 use lib.Count.{ones, ones-le}
 use lib.ListN.{length}
 use Rattle.sweep_laws.specs.Ways.{referencedAt}
-use Rattle.sweep_laws.proofs.Results.{RecordPre, ready, need-ones}
+use Rattle.sweep_laws.proofs.Results.{RecordPre, record-pre, need-ones}
 use Rattle.sweep_laws.proofs.Sweeps.{recoded, run-chosen, run-missing}
 use Rattle.sweep_record.proofs.compact_record.Statement.{statement}
 use Rattle.sweep_record.proofs.compact_record.Tie as tie
 
-start-ready : (c : tie.Start) → RecordPre (length (c .args .occupied .now)) (c .args .m .blocks) (c .args .old) (c .args .unreferenced)
-start-ready c = ready _ _ _ _ _ _ _ (c .pre .0) (c .pre .1 .0)
+start-pre : (c : tie.Start) → RecordPre (length (c .args .occupied .now)) (c .args .m .blocks) (c .args .old) (c .args .unreferenced)
+start-pre c = record-pre _ _ _ _ _ _ _ (c .pre .0) (c .pre .1 .0)
 
 start-ones : (c : tie.Start) → ones (c .args .old .held - c .args .unreferenced) ≡ referencedAt (c .args .m .blocks) (c .args .words .now) (c .args .number .0)
 start-ones c = need-ones _ _ _ _ _ _ _ (c .pre .0) (c .pre .1 .0)
 
 sub-keep : tie.Need-sub-keep
-sub-keep c = start-ready (c .before .before .before .before) .within
+sub-keep c = start-pre (c .before .before .before .before) .within
 
 cast-need : tie.Need-cast-need
-cast-need c = omega (arith, ones-le 16 (c .before .before .before .before .args .old .held - c .before .before .before .before .args .unreferenced) (omega (arith, start-ready (c .before .before .before .before) .small)))
+cast-need c = omega (arith, ones-le 16 (c .before .before .before .before .args .old .held - c .before .before .before .before .args .unreferenced) (omega (arith, start-pre (c .before .before .before .before) .small)))
 
 best-run-requires : tie.Need-best-run-requires
 best-run-requires c κs = let a = c .before .before .before .before .before in (omega (arith, start-ones a, a .pre .1 .1), omega (arith, a .pre .0 .few))

@@ -2,16 +2,16 @@ use native.Mathlib.Omega.{arith}
 use lib.ListN.{length}
 use borrow.Author.Needs.{needs}
 use Rattle.records.proofs.Records.{free-formed}
-use Rattle.sweep_laws.proofs.Results.{RecordPre, ready, free-done}
+use Rattle.sweep_laws.proofs.Results.{RecordPre, record-pre, free-done}
 use Rattle.sweep_record.proofs.free_record.Statement.{statement}
 use Rattle.sweep_record.proofs.free_record.Tie as tie
 
-start-ready : (c : tie.Start) → RecordPre (length (c .args .occupied .now)) (c .args .m .blocks) (c .args .old) (c .args .unreferenced)
-start-ready c = ready _ _ _ _ _ _ _ (c .pre .0) (c .pre .1)
+start-pre : (c : tie.Start) → RecordPre (length (c .args .occupied .now)) (c .args .m .blocks) (c .args .old) (c .args .unreferenced)
+start-pre c = record-pre _ _ _ _ _ _ _ (c .pre .0) (c .pre .1)
 
 clear-marked-requires : tie.Need-clear-marked-requires
 clear-marked-requires c κs = let a = c .before .before .before .before .before .before in
-    let y = start-ready a in
+    let y = start-pre a in
     (y .small, y .cells, a .pre .0 .measured .mostBytes, a .pre .0 .bytes, a .pre .0 .few)
 
 free-requires : tie.Need-free-requires

@@ -9,7 +9,7 @@ use Rattle.tally.proofs.tally_store.Reads as reads
 use Rattle.tally.proofs.tally_store.Lts as lts
 use Rattle.layout.proofs.measures_in.Reads as measures-in-reads
 use Rattle.tally.proofs.tally_rows.Reads as tally-rows-reads
-use Rattle.tills.proofs.records_at.Reads as records-at-reads
+use Rattle.layout.proofs.records_at.Reads as records-at-reads
 
 -- src/lib.rt:91:9
 measures-in-requires : tie.Need-measures-in-requires

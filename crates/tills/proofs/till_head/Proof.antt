@@ -5,7 +5,7 @@ use Rattle.tills.proofs.till_head.Statement.{statement}
 use Rattle.tills.proofs.till_head.Tie as tie
 use Rattle.tills.proofs.till_head.Reads as reads
 use Rattle.tills.proofs.till_head.Lts as lts
-use Rattle.tills.proofs.till_words.Reads as till-words-reads
+use Rattle.layout.proofs.till_words.Reads as till-words-reads
 
 -- src/lib.rt:46:34
 till-words-requires : tie.Need-till-words-requires

@@ -1,0 +1,2 @@
+-- Which records are compared with a segment.
+pub mod Fit
