@@ -174,7 +174,8 @@ theDay =
     }
     ∷ []
 
-day-holds : every holds (dates ++ (keys ++ (settings ++ (theDay ++ (blanks ++ rules))))) ≡ true
+-- The order is for the must-fail edits, which stop at the first row that does not hold: lists that catch many in little time come first.
+day-holds : every holds (dates ++ (blanks ++ (keys ++ (settings ++ (rules ++ theDay))))) ≡ true
 unfolding theDay blanks dates keys seen each onlyList onlyBackUp onlyRestore onlyRetire allRights shopOf oneBlock A B rules settings boxOf version case1 case2 case3 case4 case5 case6 v512 to8 run8 letters ABCDEFGH ABCDEFGZ AIJKLMNO ABIJKLMN IJKLMNOP QRSTUVWX zeros blocks atBase box holds
     holdsFrom isAt tillAt slotAt recordAt
     refusalFor ownerRefusal backupRefusal backupAs restoreAs retireRefusal retireAs listingAs versionOnRefusal versionOnAs tallyRefusal tallyAs withRights Rights.setRights rightsAnswer setRightsIn setRightsOf
