@@ -1,6 +1,6 @@
 -- Pointers let go, the cells left counted, and all of it taken back.
 use mathlib.Core.Path.{_≡_, refl, sym, ap, _∙_, subst}
-use mathlib.Core.Bool.{Bool, true, false}
+use mathlib.Core.Bool.{Bool, true, false, not}
 use mathlib.Core.List.{List, [], _∷_, map}
 use Prim.Native.Nat.{ℕ, zero, suc, _+_, _<_}
 use native.Mathlib.Nat.{not-suc-le-zero, le-of-suc-le-suc}
@@ -8,14 +8,15 @@ use native.Mathlib.Omega.{arith}
 use lib.ListN.{length, getD, take}
 use lib.Seq.{length-take-le}
 use lib.Dec.{ltb}
-use Rattle.lists.specs.Lists.{count, total}
+use Rattle.lists.specs.Lists.{count, counted, isIn, total}
 use Rattle.model.specs.Measures.{Measures}
 use Rattle.model.specs.Records.{isHeld}
+use Rattle.model.specs.Runs.{freeCells}
 use Rattle.model.specs.Sound.{leadsTo}
 use Rattle.model.specs.State.{Pointer, nullPointer, blankPointer, direct, indirect, Segment, Storage}
 use Rattle.model.specs.Sweep.{oneLess, changeAll, isReferenced, release, claim, sweep}
 use Rattle.model.specs.Table.{recordsIn, storageIn, wordToPointer}
-use Rattle.laws.proofs.Counts.{leads-itself}
+use Rattle.laws.proofs.Counts.{falls, leads-itself, change-all-named}
 use Rattle.laws.proofs.Remaining.{still-held, lowered-most, claimed-back, sweep-left}
 use Rattle.place_undo.specs.Undo.{undoUpto}
 use Rattle.storage.specs.Fits.{WithinRecords, NamesHeld}
@@ -39,6 +40,12 @@ names-by segs blankPointer h = tt
 names-by segs (direct k i) h = h k i (leads-itself k i)
 names-by segs (indirect n) h = tt
 
+-- a count that falls frees no cell
+released-free : (storage : Storage) (ps : List Pointer) → freeCells (release storage ps) ≡ freeCells storage
+unfolding freeCells release
+released-free storage ps =
+    ap (λ (named : List ℕ). counted (λ c. not (isIn c named)) 0 (length (storage .cells))) (change-all-named oneLess falls ps (storage .records))
+
 -- ---- after the release
 
 module _ {m : Measures} {pool ws out : List ℕ} {n : ℕ} {placed : List ℕ} {segments : ℕ} (s : RemovePre m pool ws out n placed segments) (ws′ : List ℕ) (l : length ws′ ≡ length ws)
@@ -57,6 +64,9 @@ module _ {m : Measures} {pool ws out : List ℕ} {n : ℕ} {placed : List ℕ} {
 
   pub let-stored : Stored m pool ws′
   let-stored = released m pool ws (s .stored) gone ws′ l r
+
+  pub let-free : (free : List Bool) → free ≡ freeCells storage → free ≡ freeCells (storageIn m pool ws′)
+  let-free free e = e ∙ sym (ap freeCells now-is ∙ released-free storage gone)
 
   pub let-backward : TakeBackPre m pool ws′ (take n out) placed segments
   let-backward = record {

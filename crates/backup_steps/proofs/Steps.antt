@@ -10,6 +10,7 @@ use Rattle.lists.specs.Each.{Each}
 use Rattle.model.specs.Image.{imageBlocks, imageSegments, withBlanks}
 use Rattle.model.specs.Measures.{Measures}
 use Rattle.model.specs.Place.{Placed}
+use Rattle.model.specs.Runs.{freeCells}
 use Rattle.model.specs.State.{Block, Pointer, Segment, Storage, Outcome, refused, done}
 use Rattle.model.specs.Table.{recordsIn, storageIn, pointerWord, wordToPointer}
 use Rattle.model.specs.Turn.{turn, turning}
@@ -91,18 +92,18 @@ module _ (m : Measures) (image pool ws words prev : List ℕ) (h : StorePre m im
   abbrev bs : List Block
   bs = imageBlocks (m .blockBytes) image
 
-  module _ (r : ℕ) (pool′ ws′ placed′ words′ : List ℕ) (d : PlaceResult m image o r pool ws pool′ ws′ placed′ words′) where
+  module _ (r : ℕ) (pool′ ws′ placed′ words′ : List ℕ) (free′ : List Bool) (d : PlaceResult m image o r pool ws pool′ ws′ placed′ words′ free′) where
     pub refused-so : (prev′ : List ℕ) → (r ≡ 0 → ⊥) → StoreResult m image qs (limited others most m bs qs o) r pool ws pool′ ws′ words′ prev′
     refused-so prev′ z = go o refl d
       where
-        go : (x : Outcome Placed) → o ≡ x → PlaceResult m image x r pool ws pool′ ws′ placed′ words′ → StoreResult m image qs (limited others most m bs qs x) r pool ws pool′ ws′ words′ prev′
+        go : (x : Outcome Placed) → o ≡ x → PlaceResult m image x r pool ws pool′ ws′ placed′ words′ free′ → StoreResult m image qs (limited others most m bs qs x) r pool ws pool′ ws′ words′ prev′
         go (refused n) e q = (q .0, refusal-positive (storageIn m pool ws) (imageSegments (m .blockBytes) (m .segmentBlocks) image) n e, q .1, q .2)
         go (done p) e q = absurd (z (q .0))
 
     pub turnable-so : r ≡ 0 → length placed′ ≡ 256 → TurnPre m image pool′ ws′ prev placed′
     turnable-so z l = go o refl d
       where
-        go : (x : Outcome Placed) → o ≡ x → PlaceResult m image x r pool ws pool′ ws′ placed′ words′ → TurnPre m image pool′ ws′ prev placed′
+        go : (x : Outcome Placed) → o ≡ x → PlaceResult m image x r pool ws pool′ ws′ placed′ words′ free′ → TurnPre m image pool′ ws′ prev placed′
         go (refused n) e q = absurd (omega (arith, z, q .0, refusal-positive (storageIn m pool ws) (imageSegments (m .blockBytes) (m .segmentBlocks) image) n e))
         go (done p) e q =
             let is : recordsIn (m .segmentBlocks) ws′ ≡ p .storage .records = sym (records-of m pool′ ws′) ∙ ap (λ (x : Storage). x .records) (placed-storage m image pool ws (h .ready .stored) (h .fits) p e pool′ ws′ (q .1 .encodes)) in
@@ -115,11 +116,19 @@ module _ (m : Measures) (image pool ws words prev : List ℕ) (h : StorePre m im
               placings = l;
             }
 
+    -- the free cells are known for the sweep
+    pub free-so : r ≡ 0 → free′ ≡ freeCells (storageIn m pool′ ws′)
+    free-so z = go o refl d
+      where
+        go : (x : Outcome Placed) → o ≡ x → PlaceResult m image x r pool ws pool′ ws′ placed′ words′ free′ → free′ ≡ freeCells (storageIn m pool′ ws′)
+        go (refused n) e q = absurd (omega (arith, z, q .0, refusal-positive (storageIn m pool ws) (imageSegments (m .blockBytes) (m .segmentBlocks) image) n e))
+        go (done p) e q = q .1 .cells ∙ ap freeCells (sym (placed-storage m image pool ws (h .ready .stored) (h .fits) p e pool′ ws′ (q .1 .encodes)))
+
     pub stored-so : r ≡ 0 → (r′ : ℕ) (pool″ ws″ prev″ : List ℕ) → TurnResult others most m image (storageIn m pool′ ws′) qs placed′ r′ pool″ ws″ prev″
         → StoreResult m image qs (limited others most m bs qs o) r′ pool ws pool″ ws″ words′ prev″
     stored-so z r′ pool″ ws″ prev″ t = go o refl d
       where
-        go : (x : Outcome Placed) → o ≡ x → PlaceResult m image x r pool ws pool′ ws′ placed′ words′ → StoreResult m image qs (limited others most m bs qs x) r′ pool ws pool″ ws″ words′ prev″
+        go : (x : Outcome Placed) → o ≡ x → PlaceResult m image x r pool ws pool′ ws′ placed′ words′ free′ → StoreResult m image qs (limited others most m bs qs x) r′ pool ws pool″ ws″ words′ prev″
         go (refused n) e q = absurd (omega (arith, z, q .0, refusal-positive (storageIn m pool ws) (imageSegments (m .blockBytes) (m .segmentBlocks) image) n e))
         go (done p) e q =
             either (beyond others most m (p .storage) (turning withBlanks (p .storage) bs qs))

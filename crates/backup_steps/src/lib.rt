@@ -1,15 +1,16 @@
 // Steps 1 to 3 of a backup on the pool and the records' words: placed, turned, let go and swept; and the limit of a chain, before anything is removed.
 ghost use mathlib.Core.Path.{_≡_};
-ghost use mathlib.Core.Bool.{cond};
+ghost use mathlib.Core.Bool.{cond, true};
 ghost use mathlib.Core.List.{map};
 ghost use Prim.Native.Nat.{_+_, _*_, _≤_};
-ghost use lib.ListN.{length, drop, take};
+ghost use lib.ListN.{length, drop, replicate, take};
 ghost use lib.Dec.{ltb};
 ghost use Rattle.lists.specs.Lists.{count, total};
 ghost use Rattle.model.specs.Image.{imageBlocks};
 ghost use Rattle.model.specs.Measures.{recordWords};
+ghost use Rattle.model.specs.Runs.{freeCells};
 ghost use Rattle.model.specs.Sweep.{claim, isReferenced};
-ghost use Rattle.model.specs.Table.{recordsIn, storageIn, wordToPointer};
+ghost use Rattle.model.specs.Table.{cellsIn, recordsIn, storageIn, wordToPointer};
 ghost use Rattle.numbers.specs.Measures.{measuresOf};
 ghost use Rattle.place.specs.All.{placedIn};
 ghost use Rattle.place_undo.specs.Undo.{undoUpto};
@@ -114,10 +115,12 @@ fn take_back(
     place_undo::undo_all(pool, records, placed, segments, m);
 }
 
-// The first `count` pointers of a list let go, and the storage is swept; or, beyond the limit, all is as before the placings.
+// The first `count` pointers of a list let go, and the storage is swept; or, beyond the limit, all is as before the placings. Letting go frees no cell,
+// so the map of the free ones still serves.
 fn remove_or_take_back(
     pool: &mut [u8],
     records: &mut [u32],
+    free: &mut [bool],
     out: &[u32],
     count: usize,
     placed: &[u32],
@@ -126,6 +129,7 @@ fn remove_or_take_back(
     m: Measures,
 ) -> u32
     requires { ⌜ RemovePre (measuresOf m) (now pool) (now records) (now out) count (now placed) segments × (limit .others ≤ 524288) ⌝ }
+    requires { ⌜ now free ≡ freeCells (storageIn (measuresOf m) (now pool) (now records)) ⌝ }
     ensures { λ r. ⌜ (let storage = storageIn (measuresOf m) (now (pool .entry)) (now (records .entry)) in let gone = map wordToPointer (take count (now (out .entry))) in RemoveResult (beyond (limit .others) (limit .most) (measuresOf m) storage gone) (measuresOf m) storage gone (undoUpto (measuresOf m) (now (placed .entry)) segments storage) r (now (pool .exit)) (now (records .exit))) ⌝ }
 {
     sweep_counts::release(records, &out[..count], m.blocks);
@@ -133,7 +137,7 @@ fn remove_or_take_back(
         take_back(pool, records, &out[..count], placed, segments, m);
         return 21;
     }
-    sweep::sweep_all(pool, records, m);
+    sweep::sweep_free(pool, records, free, m);
     0
 }
 
@@ -142,6 +146,7 @@ fn turn_with(
     image: &[u8],
     pool: &mut [u8],
     records: &mut [u32],
+    free: &mut [bool],
     prev: &mut [u32],
     targets: &mut [u32],
     out: &mut [u32],
@@ -150,12 +155,13 @@ fn turn_with(
     m: Measures,
 ) -> u32
     requires { ⌜ TurnPre (measuresOf m) (now image) (now pool) (now records) (now prev) (now placed) × (length (now targets) ≡ 1024) × (length (now out) ≡ 1024) × (limit .others ≤ 524288) ⌝ }
+    requires { ⌜ now free ≡ freeCells (storageIn (measuresOf m) (now pool) (now records)) ⌝ }
     ensures { λ r. ⌜ TurnResult (limit .others) (limit .most) (measuresOf m) (now (image .entry)) (storageIn (measuresOf m) (now (pool .entry)) (now (records .entry))) (map wordToPointer (now (prev .entry))) (now (placed .entry)) r (now (pool .exit)) (now (records .exit)) (now (prev .exit)) ⌝ }
 {
     let n = prev.len();
     let count = turn::turn_pointers(prev, image, pool, records, &mut targets[..n], out, m);
     let segments = m.segments(image.len());
-    remove_or_take_back(pool, records, out, count, placed, segments, limit, m)
+    remove_or_take_back(pool, records, free, out, count, placed, segments, limit, m)
 }
 
 // The previous version's pointers turn, those that did let go, and the storage is swept: 21 if that would exceed the limit.
@@ -163,12 +169,14 @@ fn turn_and_sweep(
     image: &[u8],
     pool: &mut [u8],
     records: &mut [u32],
+    free: &mut [bool],
     prev: &mut [u32],
     placed: &[u32],
     limit: Limit,
     m: Measures,
 ) -> u32
     requires { ⌜ TurnPre (measuresOf m) (now image) (now pool) (now records) (now prev) (now placed) × (limit .others ≤ 524288) ⌝ }
+    requires { ⌜ now free ≡ freeCells (storageIn (measuresOf m) (now pool) (now records)) ⌝ }
     ensures { λ r. ⌜ TurnResult (limit .others) (limit .most) (measuresOf m) (now (image .entry)) (storageIn (measuresOf m) (now (pool .entry)) (now (records .entry))) (map wordToPointer (now (prev .entry))) (now (placed .entry)) r (now (pool .exit)) (now (records .exit)) (now (prev .exit)) ⌝ }
 {
     let mut targets = [0u32; 1024];
@@ -177,6 +185,7 @@ fn turn_and_sweep(
         image,
         pool,
         records,
+        free,
         prev,
         &mut targets,
         &mut out,
@@ -186,11 +195,12 @@ fn turn_and_sweep(
     )
 }
 
-// With room for the record of each placing.
+// With room for the record of each placing, and for one map of the cells: all are free at first, and the sweep has it as the placings leave it.
 fn store_image_with(
     image: &[u8],
     pool: &mut [u8],
     records: &mut [u32],
+    free: &mut [bool],
     placed: &mut [u32],
     words: &mut [u32],
     prev: &mut [u32],
@@ -198,13 +208,14 @@ fn store_image_with(
     m: Measures,
 ) -> u32
     requires { ⌜ StorePre (measuresOf m) (now image) (now pool) (now records) (now words) (now prev) × (length (now placed) ≡ 256) × (limit .others ≤ 524288) ⌝ }
+    requires { ⌜ now free ≡ replicate (length (cellsIn (m .bytes) (now pool))) true ⌝ }
     ensures { λ r. ⌜ StoreResult (measuresOf m) (now (image .entry)) (map wordToPointer (now (prev .entry))) (limited (limit .others) (limit .most) (measuresOf m) (imageBlocks (m .bytes) (now (image .entry))) (map wordToPointer (now (prev .entry))) (placedIn (measuresOf m) (now (image .entry)) (now (pool .entry)) (now (records .entry)))) r (now (pool .entry)) (now (records .entry)) (now (pool .exit)) (now (records .exit)) (now (words .exit)) (now (prev .exit)) ⌝ }
 {
-    let r = place::place_all(image, pool, records, placed, words, m);
+    let r = place::place_all(image, pool, records, free, placed, words, m);
     if r != 0 {
         return r;
     }
-    turn_and_sweep(image, pool, records, prev, placed, limit, m)
+    turn_and_sweep(image, pool, records, free, prev, placed, limit, m)
 }
 
 // All three steps. A refusal alters nothing.
@@ -220,6 +231,18 @@ pub fn store_image(
     requires { ⌜ StorePre (measuresOf m) (now image) (now pool) (now records) (now words) (now prev) × (limit .others ≤ 524288) ⌝ }
     ensures { λ r. ⌜ StoreResult (measuresOf m) (now (image .entry)) (map wordToPointer (now (prev .entry))) (limited (limit .others) (limit .most) (measuresOf m) (imageBlocks (m .bytes) (now (image .entry))) (map wordToPointer (now (prev .entry))) (placedIn (measuresOf m) (now (image .entry)) (now (pool .entry)) (now (records .entry)))) r (now (pool .entry)) (now (records .entry)) (now (pool .exit)) (now (records .exit)) (now (words .exit)) (now (prev .exit)) ⌝ }
 {
+    let mut free = [true; 32768];
     let mut placed = [0u32; 256];
-    store_image_with(image, pool, records, &mut placed, words, prev, limit, m)
+    let cells = numbers::parts(pool.len(), m.bytes);
+    store_image_with(
+        image,
+        pool,
+        records,
+        &mut free[..cells],
+        &mut placed,
+        words,
+        prev,
+        limit,
+        m,
+    )
 }

@@ -193,13 +193,13 @@ module _ {m : Measures} {image pool₀ ws₀ : List ℕ} {free₀ : List Bool} {
       go (done p) e q = absurd (z (q .0))
 
   -- and those before it are taken back
-  pub along-undone : Stored m pool₀ ws₀ → (r : ℕ) (pool′ ws′ pool″ ws″ words′ : List ℕ) → pool′ ≡ pool → ws′ ≡ ws → placedIn m image pool₀ ws₀ ≡ refused r
-      → Encodes m pool″ ws″ (undoUpto m placed j (storageIn m pool′ ws′)) → PlaceResult m image (placedIn m image pool₀ ws₀) r pool₀ ws₀ pool″ ws″ placed words′
-  along-undone st r pool′ ws′ pool″ ws″ words′ ep ew f t =
+  pub along-undone : Stored m pool₀ ws₀ → (r : ℕ) (pool′ ws′ pool″ ws″ words′ : List ℕ) (free′ : List Bool) → pool′ ≡ pool → ws′ ≡ ws → placedIn m image pool₀ ws₀ ≡ refused r
+      → Encodes m pool″ ws″ (undoUpto m placed j (storageIn m pool′ ws′)) → PlaceResult m image (placedIn m image pool₀ ws₀) r pool₀ ws₀ pool″ ws″ placed words′ free′
+  along-undone st r pool′ ws′ pool″ ws″ words′ free′ ep ew f t =
       let d : Encodes m pool″ ws″ (storageIn m pool₀ ws₀) = rw (ep, ew, a .back) at t in
       rw f (refl, d .cells .joins ∙ sym (st .encodes .cells .joins), d .records .words ∙ sym (st .encodes .records .words))
 
-  pub along-end : j ≡ n → n ≤ 256 → length words₀ ≡ segmentsIn m image * k → PlaceResult m image (placedIn m image pool₀ ws₀) 0 pool₀ ws₀ pool ws placed words
+  pub along-end : j ≡ n → n ≤ 256 → length words₀ ≡ segmentsIn m image * k → PlaceResult m image (placedIn m image pool₀ ws₀) 0 pool₀ ws₀ pool ws placed words free
   unfolding segmentsFrom placeAll
   along-end e few hw =
       let z : n - j ≡ 0 = omega arith in
@@ -210,6 +210,7 @@ module _ {m : Measures} {image pool₀ ws₀ : List ℕ} {free₀ : List Bool} {
           encodes = a .stored .encodes;
           pointers = sym (take-all first words (omega (arith, a .starts, a .sameWords, ap (λ (x : ℕ). x * k) (e ∙ a .all)))) ∙ a .written;
           counts = rw (records-of m pool ws) (counts-wider _ _ (a .counts) 2147483904 (omega (arith, e, few)));
+          cells = a .cells;
           back = ap (λ (x : ℕ). undoUpto m placed x s) (sym (e ∙ a .all)) ∙ a .back;
         },
       )

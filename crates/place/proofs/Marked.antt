@@ -2,9 +2,8 @@
 use mathlib.Core.Path.{_∙_, _≡_, ap}
 use mathlib.Core.Bool.{Bool, true}
 use mathlib.Core.List.{List}
-use Prim.Native.Nat.{_≤_, ℕ}
-use lib.ListN.{length, length-replicate, replicate, take}
-use Rattle.lists.proofs.Slices.{take-replicate}
+use Prim.Native.Nat.{ℕ}
+use lib.ListN.{length, length-replicate, replicate}
 use Rattle.model.specs.Measures.{Measures}
 use Rattle.model.specs.Records.{namedCells}
 use Rattle.model.specs.Runs.{freeCells}
@@ -14,9 +13,6 @@ use Rattle.place_free.proofs.Free.{free-start}
 
 pub marked-length : (n : ℕ) (free : List Bool) → free ≡ replicate n true → length free ≡ n
 marked-length n free e = ap length e ∙ length-replicate n true
-
-pub marked-part : (m n : ℕ) (free : List Bool) → m ≤ n → free ≡ replicate n true → take m free ≡ replicate m true
-marked-part m n free h e = ap (take m) e ∙ take-replicate m n true h
 
 pub marked-free : (m : Measures) (pool ws : List ℕ) (free free′ : List Bool) → free ≡ replicate (length (cellsIn (m .blockBytes) pool)) true
     → free′ ≡ withoutCells (namedCells (recordsIn (m .segmentBlocks) ws)) free → free′ ≡ freeCells (storageIn m pool ws)

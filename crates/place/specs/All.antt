@@ -1,11 +1,13 @@
 -- Placing all segments of an image: what is asked, and what is left.
 use mathlib.Core.Path.{_≡_}
+use mathlib.Core.Bool.{Bool}
 use mathlib.Core.List.{List, [], map}
 use Prim.Native.Nat.{_*_, _≤_, ℕ}
 use lib.ListN.{length}
 use Rattle.model.specs.Image.{imageSegments, withBlanks}
 use Rattle.model.specs.Measures.{Measures, partsFor}
 use Rattle.model.specs.Place.{Placed, placeAll}
+use Rattle.model.specs.Runs.{freeCells}
 use Rattle.model.specs.State.{Storage, Outcome, done, refused}
 use Rattle.model.specs.Table.{pointerWord, recordsIn, storageIn}
 use Rattle.storage.specs.Stored.{Countable, Stored, Encodes}
@@ -25,14 +27,15 @@ pub record PlacePre (m : Measures) (image pool ws words : List ℕ) : Type 0 whe
 abbrev pub placedIn : Measures → List ℕ → List ℕ → List ℕ → Outcome Placed
 placedIn m image pool ws = placeAll withBlanks (done (record { storage = storageIn m pool ws; pointers = [] })) (imageSegments (m .blockBytes) (m .segmentBlocks) image)
 
--- `placed` says for each segment where it went: undone, all is as it was
-pub record PlaceDone (m : Measures) (segments : ℕ) (before : Storage) (p : Placed) (pool ws placed words : List ℕ) : Type 0 where
+-- `placed` says for each segment where it went: undone, all is as it was; `free` which cells are free now
+pub record PlaceDone (m : Measures) (segments : ℕ) (before : Storage) (p : Placed) (pool ws placed words : List ℕ) (free : List Bool) : Type 0 where
   pub encodes : Encodes m pool ws (p .storage)
   pub pointers : words ≡ map pointerWord (p .pointers)
   pub counts : Countable 2147483904 (p .storage .records)
+  pub cells : free ≡ freeCells (p .storage)
   pub back : undoUpto m placed segments (p .storage) ≡ before
 
--- a refusal alters neither buffer
-abbrev pub PlaceResult : Measures → List ℕ → Outcome Placed → ℕ → List ℕ → List ℕ → List ℕ → List ℕ → List ℕ → List ℕ → Type 0
-PlaceResult m image (refused n) r pool₀ ws₀ pool ws placed words = (r ≡ n) × (pool ≡ pool₀) × (ws ≡ ws₀)
-PlaceResult m image (done p) r pool₀ ws₀ pool ws placed words = (r ≡ 0) × PlaceDone m (segmentsIn m image) (storageIn m pool₀ ws₀) p pool ws placed words
+-- a refusal alters neither buffer, and says nothing of the free cells
+abbrev pub PlaceResult : Measures → List ℕ → Outcome Placed → ℕ → List ℕ → List ℕ → List ℕ → List ℕ → List ℕ → List ℕ → List Bool → Type 0
+PlaceResult m image (refused n) r pool₀ ws₀ pool ws placed words free = (r ≡ n) × (pool ≡ pool₀) × (ws ≡ ws₀)
+PlaceResult m image (done p) r pool₀ ws₀ pool ws placed words free = (r ≡ 0) × PlaceDone m (segmentsIn m image) (storageIn m pool₀ ws₀) p pool ws placed words free

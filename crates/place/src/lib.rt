@@ -19,7 +19,7 @@ fn place_segments(
     m: Measures,
 ) -> u32
     requires { ⌜ PlacePre (measuresOf m) (now image) (now pool) (now records) (now words) × (now free ≡ freeCells (storageIn (measuresOf m) (now pool) (now records))) × (length (now placed) ≡ 256) ⌝ }
-    ensures { λ r. ⌜ PlaceResult (measuresOf m) (now (image .entry)) (placedIn (measuresOf m) (now (image .entry)) (now (pool .entry)) (now (records .entry))) r (now (pool .entry)) (now (records .entry)) (now (pool .exit)) (now (records .exit)) (now (placed .exit)) (now (words .exit)) ⌝ }
+    ensures { λ r. ⌜ PlaceResult (measuresOf m) (now (image .entry)) (placedIn (measuresOf m) (now (image .entry)) (now (pool .entry)) (now (records .entry))) r (now (pool .entry)) (now (records .entry)) (now (pool .exit)) (now (records .exit)) (now (placed .exit)) (now (words .exit)) (now (free .exit)) ⌝ }
 {
     let width = m.segment_bytes();
     let n = m.segments(image.len());
@@ -54,8 +54,9 @@ fn place_segments(
     0
 }
 
-// With all cells marked free at first.
-fn place_marked(
+// Step 1 of a backup, with all cells marked free at first. A refusal takes back what it placed; `placed` says how to take all back later, and
+// `free` which cells are free now.
+pub fn place_all(
     image: &[u8],
     pool: &mut [u8],
     records: &mut [u32],
@@ -65,41 +66,8 @@ fn place_marked(
     m: Measures,
 ) -> u32
     requires { ⌜ PlacePre (measuresOf m) (now image) (now pool) (now records) (now words) × (now free ≡ replicate (length (cellsIn (m .bytes) (now pool))) true) × (length (now placed) ≡ 256) ⌝ }
-    ensures { λ r. ⌜ PlaceResult (measuresOf m) (now (image .entry)) (placedIn (measuresOf m) (now (image .entry)) (now (pool .entry)) (now (records .entry))) r (now (pool .entry)) (now (records .entry)) (now (pool .exit)) (now (records .exit)) (now (placed .exit)) (now (words .exit)) ⌝ }
+    ensures { λ r. ⌜ PlaceResult (measuresOf m) (now (image .entry)) (placedIn (measuresOf m) (now (image .entry)) (now (pool .entry)) (now (records .entry))) r (now (pool .entry)) (now (records .entry)) (now (pool .exit)) (now (records .exit)) (now (placed .exit)) (now (words .exit)) (now (free .exit)) ⌝ }
 {
     place_free::take_all(records, free, m.blocks);
     place_segments(image, pool, records, free, placed, words, m)
-}
-
-// With room for as many cells as a pool can have.
-fn place_within(
-    image: &[u8],
-    pool: &mut [u8],
-    records: &mut [u32],
-    free: &mut [bool],
-    placed: &mut [u32],
-    words: &mut [u32],
-    m: Measures,
-) -> u32
-    requires { ⌜ PlacePre (measuresOf m) (now image) (now pool) (now records) (now words) × (now free ≡ replicate 32768 true) × (length (now placed) ≡ 256) ⌝ }
-    ensures { λ r. ⌜ PlaceResult (measuresOf m) (now (image .entry)) (placedIn (measuresOf m) (now (image .entry)) (now (pool .entry)) (now (records .entry))) r (now (pool .entry)) (now (records .entry)) (now (pool .exit)) (now (records .exit)) (now (placed .exit)) (now (words .exit)) ⌝ }
-{
-    let cells = numbers::parts(pool.len(), m.bytes);
-    place_marked(image, pool, records, &mut free[..cells], placed, words, m)
-}
-
-// Step 1 of a backup. A refusal takes back what it placed; `placed` says how to take all back later.
-pub fn place_all(
-    image: &[u8],
-    pool: &mut [u8],
-    records: &mut [u32],
-    placed: &mut [u32],
-    words: &mut [u32],
-    m: Measures,
-) -> u32
-    requires { ⌜ PlacePre (measuresOf m) (now image) (now pool) (now records) (now words) × (length (now placed) ≡ 256) ⌝ }
-    ensures { λ r. ⌜ PlaceResult (measuresOf m) (now (image .entry)) (placedIn (measuresOf m) (now (image .entry)) (now (pool .entry)) (now (records .entry))) r (now (pool .entry)) (now (records .entry)) (now (pool .exit)) (now (records .exit)) (now (placed .exit)) (now (words .exit)) ⌝ }
-{
-    let mut free = [true; 32768];
-    place_within(image, pool, records, &mut free, placed, words, m)
 }

@@ -1,1 +1,2 @@
 pub mod Released
+pub mod Flipped

@@ -1,6 +1,6 @@
 // Counts rise and fall, then step 3: positions whose count is 0 are removed, record by record in rising number.
 ghost use mathlib.Core.Path.{_≡_};
-ghost use mathlib.Core.Bool.{false};
+ghost use mathlib.Core.Bool.{false, not};
 ghost use mathlib.Core.List.{map};
 ghost use Prim.Native.Nat.{ℕ, _+_, _*_, _/_, _^_, _≤_, _<_};
 ghost use lib.ListN.{length, getD, replicate};
@@ -8,6 +8,7 @@ ghost use Rattle.lists.specs.Marks.{marked};
 ghost use Rattle.numbers.specs.Measures.{measuresOf};
 ghost use Rattle.model.specs.Measures.{recordWords};
 ghost use Rattle.model.specs.Records.{cellsOf, namedCells, countOf};
+ghost use Rattle.model.specs.Runs.{freeCells};
 ghost use Rattle.model.specs.Table.{wordToPointer, recordsIn, storageIn};
 ghost use Rattle.model.specs.Sweep.{release, claim, sweep};
 ghost use Rattle.storage.specs.Stored.{Encodes, Stored, positionIn};
@@ -76,6 +77,27 @@ pub fn sweep_all(pool: &mut [u8], words: &mut [u32], m: Measures)
     let mut occupied = [false; 32768];
     let n = numbers::parts(pool.len(), m.bytes);
     sweep_with(pool, words, &mut occupied[..n], m);
+}
+
+// Each mark becomes the other.
+fn flip(marks: &mut [bool])
+    ensures { λ _. ⌜ now (marks .exit) ≡ map not (now (marks .entry)) ⌝ }
+{
+    let mut i: usize = 0;
+    while i < marks.len() {
+        marks[i] = !marks[i];
+        i = i + 1;
+    }
+}
+
+// The sweep with a map of the free cells, which becomes one of the occupied cells: the records are not read for it.
+pub fn sweep_free(pool: &mut [u8], words: &mut [u32], free: &mut [bool], m: Measures)
+    requires { ⌜ Stored (measuresOf m) (now pool) (now words) ⌝ }
+    requires { ⌜ now free ≡ freeCells (storageIn (measuresOf m) (now pool) (now words)) ⌝ }
+    ensures { λ _. ⌜ Encodes (measuresOf m) (now (pool .exit)) (now (words .exit)) (sweep (measuresOf m) (storageIn (measuresOf m) (now (pool .entry)) (now (words .entry)))) ⌝ }
+{
+    flip(free);
+    sweep_marked(pool, words, free, m);
 }
 
 // Pointers let go of their blocks.

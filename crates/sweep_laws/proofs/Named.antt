@@ -1,6 +1,6 @@
 -- The cells that the records name, marked.
 use mathlib.Core.Path.{_≡_, refl, sym, ap, _∙_}
-use mathlib.Core.Bool.{Bool, true, false, cond, false≢true}
+use mathlib.Core.Bool.{Bool, true, false, cond, not, false≢true}
 use mathlib.Core.List.{List, [], _∷_, map}
 use Prim.Native.Nat.{ℕ, zero, suc, _+_, _*_, _/_, _^_, _≤_, _<_}
 use native.Mathlib.Nat.{zero-mul, eq-of-mul-eq-mul-right, le-of-mul-le-mul-right, mul-div-cancel}
@@ -20,6 +20,7 @@ use Rattle.lists.proofs.Slices.{drop-next, drop-end}
 use Rattle.lists.proofs.Apart.{marked-at}
 use Rattle.model.specs.Measures.{Measures, recordWords}
 use Rattle.model.specs.Records.{isHeld, cellOf, cellsOf, namedCells}
+use Rattle.model.specs.Runs.{freeCells}
 use Rattle.model.specs.State.{nullPosition, blankPosition, held, removed, Segment, Storage, Block}
 use Rattle.model.specs.Sound.{isFilled}
 use Rattle.model.specs.Table.{storageIn, recordsIn}
@@ -32,7 +33,7 @@ use Rattle.storage.proofs.Read.{cells-length, records-count, count-at, row-at}
 use Rattle.pool.specs.Pool.{markAt, along}
 use Rattle.sweep_laws.specs.Marked.{EncodesMarked, NamedIn, StoredMarked}
 use Rattle.sweep_laws.specs.Ways.{segmentAt}
-use Rattle.sweep_laws.proofs.Frees.{in-filled, cell-range}
+use Rattle.sweep_laws.proofs.Frees.{in-filled, free-marks, cell-range}
 use Rattle.sweep_laws.proofs.Removes.{cells-inside}
 use Rattle.sweep_laws.proofs.Walks.{fold, along-picked, held-picked}
 
@@ -76,6 +77,15 @@ marked-all storage x n e =
         ∙ sym (List·getD-map isFilled (storage .cells) c [])
         ∙ ap (λ (b : Bool). getD (map isFilled (storage .cells)) c b) none-filled
 
+not-twice : (bs : List Bool) → map not (map not bs) ≡ bs
+not-twice [] = refl
+not-twice (true ∷ bs) = ap (λ (l : List Bool). true ∷ l) (not-twice bs)
+not-twice (false ∷ bs) = ap (λ (l : List Bool). false ∷ l) (not-twice bs)
+
+-- so are those that are not free
+not-free : (storage : Storage) → Exact storage → map not (freeCells storage) ≡ map isFilled (storage .cells)
+not-free storage x = ap (map not) (free-marks storage x) ∙ not-twice (map isFilled (storage .cells))
+
 -- ---- what the code needs and leaves
 
 module _ (m : Measures) (pool words : List ℕ) (s : Stored m pool words) (n : ℕ) (e : n * m .blockBytes ≡ length pool) where
@@ -105,10 +115,8 @@ module _ (m : Measures) (pool words : List ℕ) (s : Stored m pool words) (n : �
     short = s .short;
   }
 
-  pub kept-of : (marks : List Bool) → marks ≡ marked (namedCells (recordsIn (m .segmentBlocks) words)) (replicate n false) → StoredMarked m pool words marks
-  unfolding storageIn
-  kept-of marks em =
-      let q : marks ≡ map isFilled (sh .cells) = em ∙ marked-all sh (s .exact) n cells-n in
+  kept-filled : (marks : List Bool) → marks ≡ map isFilled (sh .cells) → StoredMarked m pool words marks
+  kept-filled marks q =
       let l : length marks ≡ n = ap length q ∙ length-map (sh .cells) isFilled ∙ sym cells-n in
       record {
         measured = s .measured;
@@ -119,6 +127,10 @@ module _ (m : Measures) (pool words : List ℕ) (s : Stored m pool words) (n : �
         bytes = sym e ∙ ap (λ (i : ℕ). i * m .blockBytes) (sym l);
         short = s .short;
       }
+
+  pub kept-of : (marks : List Bool) → marks ≡ marked (namedCells (recordsIn (m .segmentBlocks) words)) (replicate n false) → StoredMarked m pool words marks
+  unfolding storageIn
+  kept-of marks em = kept-filled marks (em ∙ marked-all sh (s .exact) n cells-n)
 
 -- ---- the loop that marks
 
@@ -203,3 +215,8 @@ whole-cells m pool words s =
     let e : length pool ≡ length cells * m .blockBytes = cells-length (m .blockBytes) pool cells (s .encodes .cells) in
     ap (λ (i : ℕ). i / m .blockBytes * m .blockBytes) e
     ∙ ap (λ (i : ℕ). i * m .blockBytes) (mul-div-cancel (length cells) (omega (arith, s .measured .someBytes))) ∙ sym e
+
+-- the free cells, flipped
+pub kept-flipped : (m : Measures) (pool words : List ℕ) → Stored m pool words → (free marks : List Bool) → free ≡ freeCells (storageIn m pool words) → marks ≡ map not free → StoredMarked m pool words marks
+kept-flipped m pool words s free marks ef em =
+    kept-filled m pool words s _ (whole-cells m pool words s) marks (em ∙ ap (map not) ef ∙ not-free (storageIn m pool words) (s .exact))

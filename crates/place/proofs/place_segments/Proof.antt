@@ -108,7 +108,7 @@ returns c =
     let l = c .before .before .before .before .before .before .before .before .before .before .before .before .before .before .before .before .before .before .before .before .before .before .before .before .loop in
     let p = c .before .before .before .before .before .before .before .before .before .before .before .before .before .before .before .before .before .place-segment in
     let q = along-stop (l .inv) (c .before .before .before .before .before .before .before .before .before .before .before .before .before .before .before .before .before .before .before .before .before .before .before .loop-test .taken) _ _ _ _ _ _ (p .ensures) (c .before .before .before .before .before .before .before .before .if1 .taken) in
-    along-undone (l .inv) (c .before .before .before .before .before .before .before .before .before .before .before .before .before .before .before .before .before .before .before .before .before .before .before .before .before .before .before .before .before .before .before .before .before .before .before .pre .0 .stored) (p .result .refusal) _ _ _ _ _ (q .0) (q .1) (q .2) (c .before .before .before .before .undo-all .ensures)
+    along-undone (l .inv) (c .before .before .before .before .before .before .before .before .before .before .before .before .before .before .before .before .before .before .before .before .before .before .before .before .before .before .before .before .before .before .before .before .before .before .before .pre .0 .stored) (p .result .refusal) _ _ _ _ _ _ (q .0) (q .1) (q .2) (c .before .before .before .before .undo-all .ensures)
 
 mul-placed : tie.Need-mul-placed Inv-loop μ-loop
 mul-placed c = omega (arith, few (c .before .before .before .before .before .before .before .before .before .before .before .before .before .before .before .before))
