@@ -1,4 +1,12 @@
 // Answers of the store, held against the keeper's.
+ghost use mathlib.Core.Bool.{cond};
+ghost use mathlib.Core.List.{[], _∷_};
+ghost use mathlib.Core.Path.{_≡_};
+ghost use lib.Dec.{eqb};
+ghost use lib.ListN.{length};
+ghost use Rattle.trial_report.specs.Counts.{expected, answeredWith};
+ghost use Rattle.trial_keeper.specs.Notes.{lastGiven, newerThan, placeOf, newestOf, oldestOf, lengthOf, struck, filed, imageAt, filedImages, wrongFrom, mostBytes, userRefusal, setRefusal, rightsSet};
+ghost use Rattle.trial_judge.specs.Judge.{backups, restores, retires, listings, tallies, rightsCalls, zeros, refusedAs, firstRefusal, orFull, wantedBackup, wantedRestore, wantedRetire, compared, backupVersion, countRetired, restoredBytes, restoredChain, notRestored, listedAs};
 use backup::BackedUp;
 use layout::Capacities;
 use restore::Restored;
@@ -9,7 +17,9 @@ use tills::Listing;
 use trial_report::counts;
 
 // The buffers have the bytes and words of their copies.
-pub fn unaltered(bytes: &[u8], entries: &[u32], pool: &[u8], table: &[u32], counts: &mut [u64]) {
+pub fn unaltered(bytes: &[u8], entries: &[u32], pool: &[u8], table: &[u32], counts: &mut [u64])
+    ensures { λ _. ⌜ now (counts .exit) ≡ compared (now (counts .entry)) (now (bytes .entry)) (now (entries .entry)) (now (pool .entry)) (now (table .entry)) ⌝ }
+{
     counts::expect_unaltered(counts, trial_compare::differing_bytes(pool, bytes) == 0);
     counts::expect_unaltered(counts, trial_compare::differing_words(table, entries) == 0);
 }
@@ -22,55 +32,73 @@ pub fn buffers(
     pool: &[u8],
     table: &[u32],
     counts: &mut [u64],
-) {
+)
+    ensures { λ _. ⌜ now (counts .exit) ≡ cond (eqb refusal 0) (now (counts .entry)) (compared (now (counts .entry)) (now (bytes .entry)) (now (entries .entry)) (now (pool .entry)) (now (table .entry))) ⌝ }
+{
     if refusal != 0 {
         unaltered(bytes, entries, pool, table, counts);
     }
 }
 
 // A refusal has its number, and every other field is 0.
-pub fn backup_refused(a: BackedUp, expected: u32, counts: &mut [u64]) {
-    counts::answered(counts, counts::BACKUPS, a.refusal, expected);
+pub fn backup_refused(a: BackedUp, wanted: u32, counts: &mut [u64])
+    ensures { λ _. ⌜ now (counts .exit) ≡ refusedAs (now (counts .entry)) backups (a .refusal) wanted (a .version ∷ []) ⌝ }
+{
+    counts::answered(counts, counts::BACKUPS, a.refusal, wanted);
     counts::expect(counts, a.version == 0);
 }
 
-pub fn retire_refused(a: Retired, expected: u32, counts: &mut [u64]) {
-    counts::answered(counts, counts::RETIRES, a.refusal, expected);
+pub fn retire_refused(a: Retired, wanted: u32, counts: &mut [u64])
+    ensures { λ _. ⌜ now (counts .exit) ≡ refusedAs (now (counts .entry)) retires (a .refusal) wanted (a .length ∷ []) ⌝ }
+{
+    counts::answered(counts, counts::RETIRES, a.refusal, wanted);
     counts::expect(counts, a.length == 0);
 }
 
-pub fn tally_refused(a: Tally, expected: u32, counts: &mut [u64]) {
-    counts::answered(counts, counts::TALLIES, a.refusal, expected);
+pub fn tally_refused(a: Tally, wanted: u32, counts: &mut [u64])
+    ensures { λ _. ⌜ now (counts .exit) ≡ refusedAs (now (counts .entry)) tallies (a .refusal) wanted (a .cells ∷ a .records ∷ a .counts ∷ []) ⌝ }
+{
+    counts::answered(counts, counts::TALLIES, a.refusal, wanted);
     counts::expect(counts, a.cells == 0);
     counts::expect(counts, a.records == 0);
     counts::expect(counts, a.counts == 0);
 }
 
-fn not_listed(a: Listing, counts: &mut [u64]) {
+fn not_listed(a: Listing, counts: &mut [u64])
+    ensures { λ _. ⌜ now (counts .exit) ≡ zeros (now (counts .entry)) (a .oldest ∷ a .newest ∷ a .last ∷ []) ⌝ }
+{
     counts::expect(counts, a.oldest == 0);
     counts::expect(counts, a.newest == 0);
     counts::expect(counts, a.last == 0);
 }
 
-pub fn listing_refused(a: Listing, expected: u32, counts: &mut [u64]) {
-    counts::answered(counts, counts::LISTINGS, a.refusal, expected);
+pub fn listing_refused(a: Listing, wanted: u32, counts: &mut [u64])
+    ensures { λ _. ⌜ now (counts .exit) ≡ refusedAs (now (counts .entry)) listings (a .refusal) wanted (a .oldest ∷ a .newest ∷ a .last ∷ []) ⌝ }
+{
+    counts::answered(counts, counts::LISTINGS, a.refusal, wanted);
     not_listed(a, counts);
 }
 
 // The output is as it was marked.
-fn not_restored(a: Restored, output: &[u8], counts: &mut [u64]) {
+fn not_restored(a: Restored, output: &[u8], counts: &mut [u64])
+    ensures { λ _. ⌜ now (counts .exit) ≡ notRestored (now (counts .entry)) (a .length) (a .hops) (now (output .entry)) ⌝ }
+{
     counts::expect(counts, a.length == 0);
     counts::expect(counts, a.hops == 0);
     counts::expect_unaltered(counts, trial_compare::unmarked(output) == 0);
 }
 
-pub fn restore_refused(a: Restored, expected: u32, output: &[u8], counts: &mut [u64]) {
-    counts::answered(counts, counts::RESTORES, a.refusal, expected);
+pub fn restore_refused(a: Restored, wanted: u32, output: &[u8], counts: &mut [u64])
+    ensures { λ _. ⌜ now (counts .exit) ≡ notRestored (answeredWith (now (counts .entry)) restores (a .refusal) wanted) (a .length) (a .hops) (now (output .entry)) ⌝ }
+{
+    counts::answered(counts, counts::RESTORES, a.refusal, wanted);
     not_restored(a, output, counts);
 }
 
 // The first refusal, if there is one, or the second.
-fn first_of(a: u32, b: u32) -> u32 {
+fn first_of(a: u32, b: u32) -> u32
+    ensures { λ r. ⌜ r ≡ firstRefusal a b ⌝ }
+{
     if a != 0 {
         return a;
     }
@@ -78,15 +106,17 @@ fn first_of(a: u32, b: u32) -> u32 {
 }
 
 // Whether there is room, 14 and 16, is for the store to say.
-fn or_full(expected: u32, refusal: u32) -> u32 {
-    if expected != 0 {
-        return expected;
+fn or_full(wanted: u32, refusal: u32) -> u32
+    ensures { λ r. ⌜ r ≡ orFull wanted refusal ⌝ }
+{
+    if wanted != 0 {
+        return wanted;
     }
     if refusal == 14 {
-        return 14;
+        return refusal;
     }
     if refusal == 16 {
-        return 16;
+        return refusal;
     }
     0
 }
@@ -99,10 +129,12 @@ fn backup_number(
     refusal: u32,
     notes: &[u32],
     counts: &mut [u64],
-) {
+)
+    ensures { λ _. ⌜ now (counts .exit) ≡ answeredWith (now (counts .entry)) backups refusal (orFull (wantedBackup (c .tills) (c .versions) (mostBytes (c .blocks) (c .measures .bytes)) (now (notes .entry)) user till bytes) refusal) ⌝ }
+{
     let may = trial_keeper::refusal_of(c, notes, user, till, trial_keeper::BACK_UP);
-    let expected = first_of(may, trial_keeper::backup_refusal(c, notes, till, bytes));
-    counts::answered(counts, counts::BACKUPS, refusal, or_full(expected, refusal));
+    let wanted = first_of(may, trial_keeper::backup_refusal(c, notes, till, bytes));
+    counts::answered(counts, counts::BACKUPS, refusal, or_full(wanted, refusal));
 }
 
 // An accepted image is filed.
@@ -113,7 +145,9 @@ fn backup_version(
     images: &mut [u8],
     notes: &mut [u32],
     counts: &mut [u64],
-) {
+)
+    ensures { λ _. ⌜ (now (counts .exit) ≡ backupVersion (now (counts .entry)) (a .refusal) (a .version) (lastGiven (filed (now (notes .entry)) till (length (now (image .entry)))) till)) × (now (notes .exit) ≡ cond (eqb (a .refusal) 0) (filed (now (notes .entry)) till (length (now (image .entry)))) (now (notes .entry))) × (now (images .exit) ≡ cond (eqb (a .refusal) 0) (filedImages (now (images .entry)) (now (notes .entry)) till (now (image .entry))) (now (images .entry))) ⌝ }
+{
     if a.refusal == 0 {
         trial_keeper::file(images, notes, till, image);
         counts::expect(counts, a.version == trial_keeper::last(notes, till));
@@ -131,7 +165,9 @@ pub fn backed_up(
     images: &mut [u8],
     notes: &mut [u32],
     counts: &mut [u64],
-) {
+)
+    ensures { λ _. ⌜ (now (counts .exit) ≡ backupVersion (answeredWith (now (counts .entry)) backups (a .refusal) (orFull (wantedBackup (c .tills) (c .versions) (mostBytes (c .blocks) (c .measures .bytes)) (now (notes .entry)) user till (length (now (image .entry)))) (a .refusal))) (a .refusal) (a .version) (lastGiven (filed (now (notes .entry)) till (length (now (image .entry)))) till)) × (now (notes .exit) ≡ cond (eqb (a .refusal) 0) (filed (now (notes .entry)) till (length (now (image .entry)))) (now (notes .entry))) × (now (images .exit) ≡ cond (eqb (a .refusal) 0) (filedImages (now (images .entry)) (now (notes .entry)) till (now (image .entry))) (now (images .entry))) ⌝ }
+{
     backup_number(c, user, till, image.len(), a.refusal, notes, counts);
     backup_version(a, till, image, images, notes, counts);
 }
@@ -144,13 +180,17 @@ fn retire_number(
     refusal: u32,
     notes: &[u32],
     counts: &mut [u64],
-) {
+)
+    ensures { λ _. ⌜ now (counts .exit) ≡ answeredWith (now (counts .entry)) retires refusal (wantedRetire (c .tills) (now (notes .entry)) user till version) ⌝ }
+{
     let may = trial_keeper::refusal_of(c, notes, user, till, trial_keeper::RETIRE);
-    let expected = first_of(may, trial_keeper::retire_refusal(c, notes, till, version));
-    counts::answered(counts, counts::RETIRES, refusal, expected);
+    let wanted = first_of(may, trial_keeper::retire_refusal(c, notes, till, version));
+    counts::answered(counts, counts::RETIRES, refusal, wanted);
 }
 
-fn count_retired(till: u32, version: u32, notes: &[u32], counts: &mut [u64]) {
+fn count_retired(till: u32, version: u32, notes: &[u32], counts: &mut [u64])
+    ensures { λ _. ⌜ now (counts .exit) ≡ countRetired (now (counts .entry)) (oldestOf (now (notes .entry)) till) (newestOf (now (notes .entry)) till) version ⌝ }
+{
     if version == trial_keeper::oldest(notes, till) {
         return;
     }
@@ -162,7 +202,9 @@ fn count_retired(till: u32, version: u32, notes: &[u32], counts: &mut [u64]) {
 }
 
 // A retired version is struck.
-fn retired_version(length: u32, till: u32, version: u32, notes: &mut [u32], counts: &mut [u64]) {
+fn retired_version(length: u32, till: u32, version: u32, notes: &mut [u32], counts: &mut [u64])
+    ensures { λ _. ⌜ (now (counts .exit) ≡ countRetired (expected (now (counts .entry)) (eqb length (lengthOf (now (notes .entry)) till version))) (oldestOf (now (notes .entry)) till) (newestOf (now (notes .entry)) till) version) × (now (notes .exit) ≡ struck (now (notes .entry)) till version) ⌝ }
+{
     let kept = trial_keeper::length(notes, till, version);
     counts::expect(counts, length == kept);
     count_retired(till, version, notes, counts);
@@ -177,7 +219,9 @@ pub fn retired(
     version: u32,
     notes: &mut [u32],
     counts: &mut [u64],
-) {
+)
+    ensures { λ _. ⌜ (now (counts .exit) ≡ cond (eqb (a .refusal) 0) (countRetired (expected (answeredWith (now (counts .entry)) retires (a .refusal) (wantedRetire (c .tills) (now (notes .entry)) user till version)) (eqb (a .length) (lengthOf (now (notes .entry)) till version))) (oldestOf (now (notes .entry)) till) (newestOf (now (notes .entry)) till) version) (expected (answeredWith (now (counts .entry)) retires (a .refusal) (wantedRetire (c .tills) (now (notes .entry)) user till version)) (eqb (a .length) 0))) × (now (notes .exit) ≡ cond (eqb (a .refusal) 0) (struck (now (notes .entry)) till version) (now (notes .entry))) ⌝ }
+{
     retire_number(c, user, till, version, a.refusal, notes, counts);
     if a.refusal == 0 {
         retired_version(a.length, till, version, notes, counts);
@@ -194,7 +238,9 @@ fn restored_bytes(
     notes: &[u32],
     output: &[u8],
     counts: &mut [u64],
-) {
+)
+    ensures { λ _. ⌜ now (counts .exit) ≡ restoredBytes (now (counts .entry)) (a .length) (wrongFrom (now (images .entry)) (imageAt till (placeOf (now (notes .entry)) till version)) (lengthOf (now (notes .entry)) till version) (now (output .entry))) ⌝ }
+{
     let wrong = trial_keeper::wrong_in(images, notes, till, version, output);
     counts::add(counts, counts::VERSIONS, 1);
     counts::add(counts, counts::BYTES, a.length as u64);
@@ -202,7 +248,9 @@ fn restored_bytes(
 }
 
 // The chain is no longer than there are newer versions held: 0 for the newest.
-fn restored_chain(a: Restored, till: u32, version: u32, notes: &[u32], counts: &mut [u64]) {
+fn restored_chain(a: Restored, till: u32, version: u32, notes: &[u32], counts: &mut [u64])
+    ensures { λ _. ⌜ now (counts .exit) ≡ restoredChain (now (counts .entry)) (a .length) (a .hops) (lengthOf (now (notes .entry)) till version) (newerThan (now (notes .entry)) till version) ⌝ }
+{
     let bytes = trial_keeper::length(notes, till, version);
     let newer = trial_keeper::newer(notes, till, version);
     counts::raise(counts, counts::CHAIN, a.hops as u64);
@@ -219,13 +267,15 @@ fn restore_number(
     refusal: u32,
     notes: &[u32],
     counts: &mut [u64],
-) {
+)
+    ensures { λ _. ⌜ now (counts .exit) ≡ answeredWith (now (counts .entry)) restores refusal (wantedRestore (c .tills) (now (notes .entry)) user till version room) ⌝ }
+{
     let may = trial_keeper::refusal_of(c, notes, user, till, trial_keeper::RESTORE);
-    let expected = first_of(
+    let wanted = first_of(
         may,
         trial_keeper::restore_refusal(c, notes, till, version, room),
     );
-    counts::answered(counts, counts::RESTORES, refusal, expected);
+    counts::answered(counts, counts::RESTORES, refusal, wanted);
 }
 
 pub fn restored(
@@ -239,7 +289,9 @@ pub fn restored(
     notes: &[u32],
     output: &[u8],
     counts: &mut [u64],
-) {
+)
+    ensures { λ _. ⌜ now (counts .exit) ≡ cond (eqb (a .refusal) 0) (restoredChain (restoredBytes (answeredWith (now (counts .entry)) restores (a .refusal) (wantedRestore (c .tills) (now (notes .entry)) user till version room)) (a .length) (wrongFrom (now (images .entry)) (imageAt till (placeOf (now (notes .entry)) till version)) (lengthOf (now (notes .entry)) till version) (now (output .entry)))) (a .length) (a .hops) (lengthOf (now (notes .entry)) till version) (newerThan (now (notes .entry)) till version)) (notRestored (answeredWith (now (counts .entry)) restores (a .refusal) (wantedRestore (c .tills) (now (notes .entry)) user till version room)) (a .length) (a .hops) (now (output .entry))) ⌝ }
+{
     restore_number(c, user, till, version, room, a.refusal, notes, counts);
     if a.refusal == 0 {
         restored_bytes(a, till, version, images, notes, output, counts);
@@ -249,16 +301,24 @@ pub fn restored(
     }
 }
 
-pub fn listed(a: Listing, c: Capacities, user: u32, till: u32, notes: &[u32], counts: &mut [u64]) {
-    let expected = trial_keeper::refusal_of(c, notes, user, till, trial_keeper::LIST);
-    counts::answered(counts, counts::LISTINGS, a.refusal, expected);
-    if expected != 0 {
-        not_listed(a, counts);
-        return;
-    }
+fn listed_as(a: Listing, till: u32, notes: &[u32], counts: &mut [u64])
+    ensures { λ _. ⌜ now (counts .exit) ≡ listedAs (now (counts .entry)) (a .oldest) (a .newest) (a .last) (oldestOf (now (notes .entry)) till) (newestOf (now (notes .entry)) till) (lastGiven (now (notes .entry)) till) ⌝ }
+{
     counts::expect(counts, a.oldest == trial_keeper::oldest(notes, till));
     counts::expect(counts, a.newest == trial_keeper::newest(notes, till));
     counts::expect(counts, a.last == trial_keeper::last(notes, till));
+}
+
+pub fn listed(a: Listing, c: Capacities, user: u32, till: u32, notes: &[u32], counts: &mut [u64])
+    ensures { λ _. ⌜ now (counts .exit) ≡ cond (eqb (userRefusal (c .tills) (now (notes .entry)) user till 0) 0) (listedAs (answeredWith (now (counts .entry)) listings (a .refusal) (userRefusal (c .tills) (now (notes .entry)) user till 0)) (a .oldest) (a .newest) (a .last) (oldestOf (now (notes .entry)) till) (newestOf (now (notes .entry)) till) (lastGiven (now (notes .entry)) till)) (refusedAs (now (counts .entry)) listings (a .refusal) (userRefusal (c .tills) (now (notes .entry)) user till 0) (a .oldest ∷ a .newest ∷ a .last ∷ [])) ⌝ }
+{
+    let wanted = trial_keeper::refusal_of(c, notes, user, till, trial_keeper::LIST);
+    counts::answered(counts, counts::LISTINGS, a.refusal, wanted);
+    if wanted == 0 {
+        listed_as(a, till, notes, counts);
+    } else {
+        not_listed(a, counts);
+    }
 }
 
 // Rights that are set are noted.
@@ -271,9 +331,11 @@ pub fn rights_set(
     rights: Rights,
     notes: &mut [u32],
     counts: &mut [u64],
-) {
-    let expected = trial_keeper::set_refusal(c, user, subject, till);
-    counts::answered(counts, counts::RIGHTS, refusal, expected);
+)
+    ensures { λ _. ⌜ (now (counts .exit) ≡ answeredWith (now (counts .entry)) rightsCalls refusal (setRefusal (c .tills) user subject till)) × (now (notes .exit) ≡ cond (eqb refusal 0) (rightsSet (now (notes .entry)) till subject (rights .list) (rights .«back_up») (rights .restore) (rights .retire)) (now (notes .entry))) ⌝ }
+{
+    let wanted = trial_keeper::set_refusal(c, user, subject, till);
+    counts::answered(counts, counts::RIGHTS, refusal, wanted);
     if refusal == 0 {
         trial_keeper::set_rights(notes, till, subject, rights);
     }

@@ -1,0 +1,3 @@
+-- The modules of the crate's proofs.
+pub mod Judging
+pub mod Wanted

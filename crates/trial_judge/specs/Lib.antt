@@ -1,0 +1,2 @@
+-- What the judges' contracts cite.
+pub mod Judge
