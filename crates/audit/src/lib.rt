@@ -1,4 +1,6 @@
 // The soundness check, refusal 10: whether a pool and a table are a sound store. Each word and each byte is read a bounded number of times.
+#![tactic(auto)]
+
 ghost use Rattle.std.specs.Prelude.{false, ◌≡◌, ℕ, ◌+◌, ◌*◌, ◌≤◌, ◌<◌, length, take, drop};
 ghost use Rattle.lists.specs.Lists.{is_some};
 ghost use Rattle.lists.specs.Decides.{Decides};

@@ -1,4 +1,6 @@
 // The cells that positions name: within the pool, no two the same, and just those that are not all zero.
+#![tactic(auto)]
+
 ghost use Rattle.std.specs.Prelude.{true, false, ◌≡◌, [], ◌∷◌, ℕ, ◌+◌, ◌*◌, ◌/◌, ◌%◌, ◌≤◌, ◌<◌, length, get_or, take, drop};
 ghost use Rattle.lists.specs.Decides.{Decides};
 ghost use Rattle.lists.specs.Marks.{MarkResult};

@@ -1,4 +1,6 @@
 // Counts: each is the number of direct pointers to its position. They are counted while the pointers are checked.
+#![tactic(auto)]
+
 ghost use Rattle.std.specs.Prelude.{true, false, ◌≡◌, ℕ, ◌+◌, ◌*◌, ◌/◌, ◌^◌, ◌≤◌, ◌<◌, length, get_or};
 ghost use Rattle.lists.specs.Decides.{Decides};
 ghost use Rattle.model.specs.Measures.{record_words};

@@ -1,4 +1,6 @@
 // Whether the header's words and the lengths of the two buffers are in order.
+#![tactic(auto)]
+
 ghost use Rattle.std.specs.Prelude.{true, false, ◌≡◌, ℕ, ◌≤◌, length};
 ghost use Rattle.lists.specs.Decides.{Decides};
 ghost use Rattle.numbers.specs.Measures.{measures_of};

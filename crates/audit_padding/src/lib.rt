@@ -1,4 +1,6 @@
 // The last block of a version, as traced.
+#![tactic(auto)]
+
 ghost use Rattle.std.specs.Prelude.{true, ◌≡◌, ◌+◌, ◌*◌, ◌-◌, ◌≤◌, ◌<◌, length, take, drop};
 ghost use Rattle.lists.specs.Lists.{all_zero};
 ghost use Rattle.model.specs.Table.{word_to_pointer, storage_in, version_in, versions_in};

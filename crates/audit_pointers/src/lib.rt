@@ -1,4 +1,6 @@
 // Pointers: where each leads, and where the tracing of a block ends.
+#![tactic(auto)]
+
 ghost use Rattle.std.specs.Prelude.{true, false, not, ◌≡◌, [], map, ℕ, ◌+◌, ◌*◌, ◌^◌, ◌≤◌, ◌<◌, length, get_or};
 ghost use Rattle.lists.specs.Decides.{Decides};
 ghost use Rattle.model.specs.State.{null_pointer, null_position, Storage};

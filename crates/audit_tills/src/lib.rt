@@ -1,4 +1,6 @@
 // Tills: their versions' numbers, words, pointers and ends. The direct pointers are counted on the way.
+#![tactic(auto)]
+
 ghost use Rattle.std.specs.Prelude.{true, false, ◌≡◌, ℕ, ◌+◌, ◌*◌, ◌-◌, ◌^◌, ◌≤◌, ◌<◌, length, get_or, take, drop};
 ghost use Rattle.lists.specs.Lists.{rises};
 ghost use Rattle.lists.specs.Decides.{Decides};

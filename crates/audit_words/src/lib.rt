@@ -1,4 +1,6 @@
 // Whether the words of a slot, a record and a pointer are in order. Each check's contract says exactly when it is true.
+#![tactic(auto)]
+
 ghost use Rattle.std.specs.Prelude.{true, false, ◌≡◌, ℕ, ◌+◌, ◌*◌, ◌/◌, ◌%◌, ◌^◌, ◌≤◌, ◌<◌, length, get_or};
 ghost use Rattle.lists.specs.Decides.{Decides};
 ghost use Rattle.lists.specs.Lists.{all_zero};

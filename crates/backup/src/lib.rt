@@ -1,4 +1,6 @@
 // The backup call, step by step on the table.
+#![tactic(auto)]
+
 ghost use Rattle.std.specs.Prelude.{◌≡◌, List, map, [], ℕ, ◌+◌, ◌*◌, ◌/◌, ◌≤◌, ◌<◌, length, get_or, take};
 ghost use Rattle.numbers.specs.Measures.{measures_of};
 ghost use Rattle.model.specs.Table.{shape_of, state_in, pointer_word, word_to_pointer};
@@ -49,7 +51,7 @@ pub fn file_in(
 
 // Refusal 0 is an accepted call.
 #[repr(C)]
-#[derive(Drop)]
+#[derive(Clone, Copy)]
 pub struct BackedUp {
     pub refusal: u32,
     pub version: u32,

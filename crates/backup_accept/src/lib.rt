@@ -1,4 +1,6 @@
 // Whether a backup can begin: the refusals that are told before a segment is placed.
+#![tactic(auto)]
+
 ghost use Rattle.std.specs.Prelude.{◌≡◌, ℕ, ◌<◌, length, get_or};
 ghost use Rattle.model.specs.Table.{shape_of, state_in};
 ghost use Rattle.laws.specs.Stores.{Sound, HeaderRanges};

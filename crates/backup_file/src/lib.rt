@@ -1,4 +1,6 @@
 // A till's newest version: its pointers out and back, and a version added behind it.
+#![tactic(auto)]
+
 ghost use Rattle.std.specs.Prelude.{◌≡◌, List, map, ◌∷◌, ◌++◌, ℕ, suc, ◌+◌, ◌*◌, ◌-◌, ◌≤◌, ◌<◌, length, get_or, take, drop};
 ghost use Rattle.model.specs.State.{Till, Pointer};
 ghost use Rattle.model.specs.Table.{till_to_words, pointer_word};

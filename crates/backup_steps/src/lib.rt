@@ -1,4 +1,6 @@
 // Steps 1 to 3 of a backup on the pool and the records' words: placed, turned, let go and swept; and the limit of a chain, before anything is removed.
+#![tactic(auto)]
+
 ghost use Rattle.std.specs.Prelude.{◌≡◌, cond, true, map, ◌+◌, ◌*◌, ◌≤◌, length, drop, replicate, take, ltb};
 ghost use Rattle.lists.specs.Lists.{count, total};
 ghost use Rattle.model.specs.Image.{image_blocks};
@@ -16,7 +18,7 @@ ghost use Rattle.backup_steps.specs.Steps.{TurnPre, TurnResult, StorePre, StoreR
 use numbers::Measures;
 
 // The cells that the other stores of a chain occupy, and the most that all of them may.
-#[derive(Drop)]
+#[derive(Clone, Copy)]
 pub struct Limit {
     pub others: u32,
     pub most: u32,

@@ -1,4 +1,6 @@
 // The bill: every till's part of the price of the occupied cells.
+#![tactic(auto)]
+
 ghost use Rattle.std.specs.Prelude.{◌≡◌, ℕ, ◌+◌, ◌*◌, ◌-◌, ◌≤◌, ◌<◌, length, get_or, take};
 ghost use Rattle.laws.specs.Stores.{Sound};
 ghost use Rattle.audit_tills.specs.Sound.{pointer_words, slots_pointers, till_pointers};
@@ -8,7 +10,7 @@ ghost use Rattle.bill_sums.specs.Marks.{with_bit, mark_word, mark_words, none_di
 
 // Refusal 0 is an accepted call. The sums are tenths of a cent.
 #[repr(C)]
-#[derive(Drop)]
+#[derive(Clone, Copy)]
 pub struct Bill {
     pub refusal: u32,
     pub sums: [u32; 16],

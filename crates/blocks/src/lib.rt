@@ -1,4 +1,6 @@
 // Blocks of bytes on parts of lent slices: tested, compared, copied and cleared; and the blocks of an image, the last filled up with zeros.
+#![tactic(auto)]
+
 ghost use Rattle.std.specs.Prelude.{◌≡◌, ◌++◌, ℕ, ◌+◌, ◌*◌, ◌%◌, ◌≤◌, ◌<◌, min, eqb, length, take, drop, replicate};
 ghost use Rattle.lists.specs.Lists.{every, all_zero, same_numbers};
 ghost use Rattle.lists.specs.Rows.{fill};

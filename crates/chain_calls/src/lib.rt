@@ -1,5 +1,7 @@
 // The calls on a chain of stores: each names its store, and has no premise. What is no chain is refused with 1, 10 or 3; then the store's parts are lent
 // to the call, with no second check of its soundness, and the other stores keep every byte and word.
+#![tactic(auto)]
+
 ghost use Rattle.std.specs.Prelude.{◌≡◌, ◌≤◌};
 ghost use Rattle.std.proofs.Math.Option.{none, some};
 ghost use Rattle.model.specs.Image.{with_blanks};

@@ -1,4 +1,6 @@
 // The refusals of a chain, which come first: 1, 10 and 3. And of a chain that is not refused: where a store's parts lie, and the cells of the others.
+#![tactic(auto)]
+
 ghost use Rattle.std.specs.Prelude.{◌≡◌, cond, [], ◌≤◌, ◌<◌, length, eqb};
 ghost use Rattle.lists.specs.Lists.{counted, every, total};
 ghost use Rattle.lists.specs.Decides.{Decides};
@@ -7,7 +9,7 @@ ghost use Rattle.chain.specs.Limit.{occupied, other_cells};
 ghost use Rattle.chain_check.specs.Places.{Lengths, SoundChain, Inside, Lies};
 
 // Where a store's pool (from, end) and its table (at, stop) lie in the chain's buffers. Refusal 0 is a store that is there.
-#[derive(Drop)]
+#[derive(Clone, Copy)]
 pub struct Place {
     pub refusal: u32,
     pub from: usize,

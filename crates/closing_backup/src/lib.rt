@@ -1,5 +1,7 @@
 // §7's call, on a sound store: the images are backed up one after the other, with no second check between them. The user's right is asked for each, and
 // the limit of a chain.
+#![tactic(auto)]
+
 ghost use Rattle.std.specs.Prelude.{◌≡◌, true, ℕ, ◌≤◌, replicate};
 ghost use Rattle.laws.specs.Stores.{Sound};
 ghost use Rattle.chain.specs.Limit.{image_within, backup_all_within};
@@ -11,7 +13,7 @@ use backup_steps::Limit;
 
 // Refusal 0 is a call that is not refused whole. The images' own refusals and versions stand in their order, 0 past the last image.
 #[repr(C)]
-#[derive(Drop)]
+#[derive(Clone, Copy)]
 pub struct AllBackedUp {
     pub refusal: u32,
     pub refusals: [u32; 16],

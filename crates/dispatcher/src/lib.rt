@@ -1,11 +1,13 @@
 // Fair turns on the line (§12 of the requests): a turn record of three numbers, and a turn, which serves one waiting till. It stands apart from the store.
+#![tactic(auto)]
+
 ghost use Rattle.std.specs.Prelude.{◌≡◌, true, ◌<◌};
 ghost use Rattle.std.proofs.Math.Option.{some};
 ghost use Rattle.dispatcher.specs.Turns.{is_turn, next_till, turn_for, served_turn, turn_of};
 
 // The turn record: the tills present, the mask of those waiting (bit t for till t) and the till served last.
 #[repr(C)]
-#[derive(Drop)]
+#[derive(Clone, Copy)]
 pub struct Turn {
     pub tills: u32,
     pub waiting: u32,
@@ -14,7 +16,7 @@ pub struct Turn {
 
 // What a turn answers: a refusal or 0, whether a till is served, and which; 0 where none is.
 #[repr(C)]
-#[derive(Drop)]
+#[derive(Clone, Copy)]
 pub struct Served {
     pub refusal: u32,
     pub served: bool,
@@ -23,7 +25,7 @@ pub struct Served {
 
 // The answer and the turn record after it.
 #[repr(C)]
-#[derive(Drop)]
+#[derive(Clone, Copy)]
 pub struct Stepped {
     pub answer: Served,
     pub turn: Turn,

@@ -1,4 +1,6 @@
 // Table length and lay out; a table's capacities and lengths.
+#![tactic(auto)]
+
 ghost use Rattle.std.specs.Prelude.{true, ◌&&◌, ◌≡◌, [], ◌∷◌, ℕ, ◌+◌, ◌*◌, ◌/◌, ◌≤◌, ◌<◌, eqb, length, get_or, set};
 ghost use Rattle.lists.specs.Lists.{is_in};
 ghost use Rattle.model.specs.Measures.{is_within, are_measures, in_range, till_words, records_at, pool_bytes, table_words};
@@ -15,7 +17,7 @@ use numbers::Measures;
 pub const HEADER_WORDS: usize = 8;
 
 // The eight of a store.
-#[derive(Drop)]
+#[derive(Clone, Copy)]
 pub struct Capacities {
     pub tills: u32,
     pub versions: u32,
@@ -27,7 +29,7 @@ pub struct Capacities {
 
 // The answer of table length: a refusal's number, or 0 and the words.
 #[repr(C)]
-#[derive(Drop)]
+#[derive(Clone, Copy)]
 pub struct TableLength {
     pub refusal: u32,
     pub words: u32,

@@ -186,7 +186,7 @@ first_le (later {t = t} e f) = omega (arith, pow-suc 2 t, first_le f)
 pub first_lt : {m t : ℕ} (k : ℕ) → First m t → m < 2 ^ k → t < k
 first_lt {t = t} zero f l = absurd (omega (arith, first_le f, pow_pos t))
 first_lt (suc k) (here e) l = omega arith
-first_lt (suc k) (later {t = t} e f) l = omega (arith, first_lt k f (omega (arith, pow-suc 2 k)))
+first_lt {m = m} (suc k) (later {t = t} e f) l = omega (arith, first_lt {m = m / 2} k f (omega (arith, pow-suc 2 k)))
 
 -- the bit is set
 pub first_bit : {m t : ℕ} → First m t → m / 2 ^ t % 2 ≡ 1

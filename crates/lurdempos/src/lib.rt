@@ -1,4 +1,6 @@
 // The calls as C sees them (include/lurdempos.h): each passes its arguments on, and its contract is the call's.
+#![tactic(auto)]
+
 pub mod chains;
 
 ghost use Rattle.std.specs.Prelude.{◌≡◌};
@@ -43,19 +45,19 @@ use tally::Tally;
 use tills::{Listing, VersionFound};
 
 #[repr(C)]
-#[derive(Drop)]
+#[derive(Clone, Copy)]
 pub struct LaidOut {
     pub refusal: u32,
 }
 
 #[repr(C)]
-#[derive(Drop)]
+#[derive(Clone, Copy)]
 pub struct Offered {
     pub refusal: u32,
 }
 
 #[repr(C)]
-#[derive(Drop)]
+#[derive(Clone, Copy)]
 pub struct RightsSet {
     pub refusal: u32,
 }

@@ -1,4 +1,6 @@
 // Cell, block and record numbers, each its own type so that none serves for another; pointers; and a store's measures.
+#![tactic(auto)]
+
 ghost use Rattle.std.specs.Prelude.{◌≡◌, ◌*◌, ◌+◌, ◌/◌, ◌%◌, ◌≤◌, ◌<◌, eqb};
 ghost use Rattle.model.specs.Measures.{base_measures, is_base, record_words, parts_for};
 ghost use Rattle.model.specs.State.{null_pointer, blank_pointer, direct, indirect};
@@ -7,7 +9,7 @@ ghost use Rattle.laws.specs.Ranges.{Measured};
 ghost use Rattle.numbers.specs.Measures.{measures_of};
 
 // A block's bytes, a segment's blocks, and the percentage from which a removal copies together.
-#[derive(Drop)]
+#[derive(Clone, Copy)]
 pub struct Measures {
     pub bytes: usize,
     pub blocks: usize,
@@ -93,23 +95,23 @@ impl Measures {
 }
 
 // A cell number counts places in the pool.
-#[derive(Drop)]
+#[derive(Clone, Copy)]
 pub struct Cell(pub u32);
 
 // A block number counts places in an image.
-#[derive(Drop)]
+#[derive(Clone, Copy)]
 pub struct Block(pub u32);
 
 // A record number counts segment records.
-#[derive(Drop)]
+#[derive(Clone, Copy)]
 pub struct RecordNumber(pub u32);
 
 // A segment of an image.
-#[derive(Drop)]
+#[derive(Clone, Copy)]
 pub struct Segment(pub u32);
 
 // A block's pointer, as its word in the table.
-#[derive(Drop)]
+#[derive(Clone, Copy)]
 pub struct Pointer(pub u32);
 
 impl Pointer {

@@ -1,4 +1,6 @@
 // All segments of an image are placed, or none.
+#![tactic(auto)]
+
 ghost use Rattle.std.specs.Prelude.{◌≡◌, true, length, replicate};
 ghost use Rattle.model.specs.Runs.{free_cells};
 ghost use Rattle.model.specs.Table.{cells_in, storage_in};

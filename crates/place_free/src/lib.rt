@@ -1,4 +1,6 @@
 // The search for a free record, how many records are in use, and which cells are free. Records have n positions each.
+#![tactic(auto)]
+
 ghost use Rattle.std.specs.Prelude.{◌≡◌, ℕ, ◌+◌, ◌*◌, ◌≤◌, ◌<◌, length, get_or};
 ghost use Rattle.lists.specs.Lists.{first_from};
 ghost use Rattle.model.specs.Measures.{record_words};

@@ -1,5 +1,7 @@
 // The lowest whole record that equals a segment of the image; the masks of a segment's blocks that are stored and that are blank; and the stored ones'
 // copies in consecutive cells.
+#![tactic(auto)]
+
 ghost use Rattle.std.specs.Prelude.{◌≡◌, true, false, cond, ℕ, ◌+◌, ◌*◌, ◌%◌, ◌≤◌, ◌<◌, length, get_or};
 ghost use Rattle.std.proofs.lemmas.List.Edits.{sets};
 ghost use Rattle.lists.specs.Decides.{Decides};
@@ -216,7 +218,7 @@ fn block_blank(image: &[u8], at: usize, bytes: usize) -> bool
 }
 
 // Of a segment's blocks, those that are stored and those that are blank; a block is at most one of them.
-#[derive(Drop)]
+#[derive(Clone, Copy)]
 pub struct Masks {
     pub stored: u32,
     pub blank: u32,

@@ -1,4 +1,6 @@
 // One segment of an image is placed: it needs no record, shares one, or is written to a free one and a run of free cells.
+#![tactic(auto)]
+
 ghost use Rattle.std.specs.Prelude.{◌≡◌, ◌<◌, length};
 ghost use Rattle.std.proofs.Math.Option.{none};
 ghost use Rattle.lists.specs.Lists.{first_from};
@@ -19,7 +21,7 @@ use place_match::Masks;
 use runs::Run;
 
 // The refusal, or 0; and the record, or a number past the last one where none is needed.
-#[derive(Drop)]
+#[derive(Clone, Copy)]
 pub struct Placing {
     pub refusal: u32,
     pub record: RecordNumber,

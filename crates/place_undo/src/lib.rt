@@ -1,4 +1,6 @@
 // Placings undone, the last first.
+#![tactic(auto)]
+
 ghost use Rattle.std.specs.Prelude.{◌≡◌, ℕ, ◌+◌, ◌*◌, ◌≤◌, ◌<◌, length, get_or, ltb};
 ghost use Rattle.lists.specs.Lists.{every};
 ghost use Rattle.model.specs.Measures.{record_words};

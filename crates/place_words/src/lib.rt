@@ -1,4 +1,6 @@
 // The words of a record: counts raised and lowered, a new row written; and pointer words. Written along the bits of a mask.
+#![tactic(auto)]
+
 ghost use Rattle.std.specs.Prelude.{◌≡◌, List, map, ℕ, ◌+◌, ◌-◌, ◌*◌, ◌≤◌, ◌<◌, length, get_or, set};
 ghost use Rattle.lists.specs.Walk.{pick, raised, lowered, bits, numbered};
 ghost use Rattle.model.specs.Measures.{record_words};

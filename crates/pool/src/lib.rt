@@ -1,4 +1,6 @@
 // Blocks moved and cleared within the pool, with the marks of the occupied cells kept up to date.
+#![tactic(auto)]
+
 ghost use Rattle.std.specs.Prelude.{◌≡◌, ℕ, ◌+◌, ◌*◌, ◌^◌, ◌≤◌, ◌<◌, length, get_or};
 ghost use Rattle.std.specs.Int.Count.{ones};
 ghost use Rattle.pool.specs.Pool.{copy_to, clear_at, take_at, free_at, mark_at, along};

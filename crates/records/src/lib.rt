@@ -1,4 +1,6 @@
 // A segment record by value: the masks of its held, removed and blank positions, how many positions it has, and the cell and the count of each.
+#![tactic(auto)]
+
 ghost use Rattle.std.specs.Prelude.{◌≡◌, true, cond, List, map, ◌++◌, ℕ, ◌+◌, ◌*◌, ◌%◌, ◌≤◌, ◌<◌, length, get_or, set, take, drop};
 ghost use Rattle.lists.specs.Lists.{count};
 ghost use Rattle.lists.specs.Masks.{mask_of};
@@ -13,7 +15,7 @@ ghost use Rattle.records.specs.Records.{positions, record_of, record_in, Formed}
 
 use numbers::{Cell, RecordNumber};
 
-#[derive(Drop)]
+#[derive(Clone, Copy)]
 pub struct Record {
     pub held: u32,
     pub removed: u32,

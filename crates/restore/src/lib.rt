@@ -1,4 +1,6 @@
 // A version is restored from a sound store.
+#![tactic(auto)]
+
 ghost use Rattle.std.specs.Prelude.{◌≡◌, [], ℕ, ◌+◌, ◌-◌, ◌<◌, length, get_or, drop};
 ghost use Rattle.model.specs.Table.{shape_of, state_in, storage_in, versions_in};
 ghost use Rattle.model.specs.Calls.{till_of, first_of, restore_from, restore_of};
@@ -12,7 +14,7 @@ use tills::Head;
 
 // Refusal 0 is an accepted call.
 #[repr(C)]
-#[derive(Drop)]
+#[derive(Clone, Copy)]
 pub struct Restored {
     pub refusal: u32,
     pub length: u32,

@@ -1,4 +1,6 @@
 // A block's chain, and a version's image, which is put together in the output.
+#![tactic(auto)]
+
 ghost use Rattle.std.specs.Prelude.{◌≡◌, [], ◌++◌, ◌+◌, ◌*◌, ◌≤◌, ◌<◌, max, length, take, drop, get_or};
 ghost use Rattle.model.specs.Measures.{parts_for, record_words};
 ghost use Rattle.model.specs.State.{null_position};
@@ -13,7 +15,7 @@ ghost use Rattle.restore_trace.specs.Versions.{pointers_at, fill_byte, Traceable
 use numbers::{Block, Cell, Measures, Pointer, RecordNumber};
 
 // The pointer at which the tracing of a block ends, and how many it followed.
-#[derive(Drop)]
+#[derive(Clone, Copy)]
 pub struct Traced {
     pub pointer: Pointer,
     pub hops: u32,

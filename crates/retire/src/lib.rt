@@ -1,4 +1,6 @@
 // Retiring a version: its older neighbour takes over the pointers that it named, counts rise and fall, step 3 is done, and its slot goes.
+#![tactic(auto)]
+
 ghost use Rattle.std.specs.Prelude.{◌≡◌, List, ◌∷◌, ◌++◌, map, ℕ, ◌+◌, ◌-◌, ◌≤◌, ◌<◌, length, get_or, set, take, drop};
 ghost use Rattle.model.specs.Measures.{Shape, records_at};
 ghost use Rattle.model.specs.State.{Pointer, Version, State};
@@ -15,7 +17,7 @@ use numbers::Measures;
 
 // Refusal 0 is an accepted call.
 #[repr(C)]
-#[derive(Drop)]
+#[derive(Clone, Copy)]
 pub struct Retired {
     pub refusal: u32,
     pub length: u32,

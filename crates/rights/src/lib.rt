@@ -1,4 +1,6 @@
 // Keys for staff: what a user may do with a till, asked and set. User 0 is the owner.
+#![tactic(auto)]
+
 ghost use Rattle.std.specs.Prelude.{◌≡◌, ◌-◌, ◌≤◌, ◌<◌, get_or, set};
 ghost use Rattle.model.specs.State.{staff};
 ghost use Rattle.model.specs.Sound.{store_of};
@@ -12,7 +14,7 @@ ghost use Rattle.rights.specs.Answers.{right_of, place_of, rights_given, RightsA
 const STAFF: u32 = 7;
 
 // What a call needs.
-#[derive(Drop)]
+#[derive(Clone, Copy)]
 pub enum Right {
     List,
     BackUp,
@@ -21,7 +23,7 @@ pub enum Right {
 }
 
 // What a user may do.
-#[derive(Drop)]
+#[derive(Clone, Copy)]
 pub struct Rights {
     pub list: bool,
     pub back_up: bool,

@@ -1,4 +1,6 @@
 // The shortest maximal run of free cells that is long enough, the lowest of equals.
+#![tactic(auto)]
+
 ghost use Rattle.std.specs.Prelude.{◌≡◌, Bool, List, map, ◌++◌, ◌+◌, ◌-◌, ◌≤◌, ◌<◌, length, take, drop, replicate};
 ghost use Rattle.std.proofs.Math.Option.{none};
 ghost use Rattle.lists.specs.Lists.{count};
@@ -8,7 +10,7 @@ ghost use Rattle.runs.specs.Runs.{as_run, found_at_end, free_if, left};
 use numbers::Cell;
 
 // Consecutive cells from `start` on; a run of no cells stands for none.
-#[derive(Drop)]
+#[derive(Clone, Copy)]
 pub struct Run {
     pub start: Cell,
     pub size: usize,
@@ -80,7 +82,7 @@ fn count_free(marks: &[bool], free: bool, at: usize, n: usize) -> u8
 }
 
 // Where a search stands: the best run that ended before cell `at`, and how many free cells end there.
-#[derive(Drop)]
+#[derive(Clone, Copy)]
 struct Search {
     best: Run,
     run: usize,

@@ -1,4 +1,6 @@
 // Whether a message is refused before a segment of it is looked at.
+#![tactic(auto)]
+
 ghost use Rattle.std.specs.Prelude.{◌≡◌, ℕ, ◌≤◌, leb, length};
 ghost use Rattle.lists.specs.Lists.{every, total};
 ghost use Rattle.model.specs.Table.{shape_of, state_in};

@@ -1,4 +1,6 @@
 // The image of a second message, put together segment by segment.
+#![tactic(auto)]
+
 ghost use Rattle.std.specs.Prelude.{◌≡◌, ℕ, ◌+◌, ◌*◌, ◌≤◌, ◌<◌, leb, length, get_or, take, drop};
 ghost use Rattle.lists.specs.Lists.{all_zero, first_from};
 ghost use Rattle.lists.specs.Search.{as_option};

@@ -1,4 +1,6 @@
 // The second message, on a sound store: its image is put together and backed up.
+#![tactic(auto)]
+
 ghost use Rattle.std.specs.Prelude.{◌≡◌, true, ℕ, ◌≤◌, length, take};
 ghost use Rattle.model.specs.Table.{shape_of, state_in};
 ghost use Rattle.laws.specs.Stores.{Sound};

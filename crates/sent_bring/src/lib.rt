@@ -1,4 +1,6 @@
 // A segment of an image brought to its place: one that was sent, or one that is had.
+#![tactic(auto)]
+
 ghost use Rattle.std.specs.Prelude.{◌≡◌, cond, List, [], ◌++◌, ℕ, ◌+◌, ◌*◌, ◌/◌, ◌%◌, ◌≤◌, ◌<◌, length, get_or, take, drop};
 ghost use Rattle.lists.specs.Lists.{first_from, same_numbers};
 ghost use Rattle.lists.specs.Rows.{parts, rows};

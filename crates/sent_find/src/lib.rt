@@ -1,4 +1,6 @@
 // For each fingerprint the lowest record that can match and has it. Each record is hashed once, and what it finds overwrites what a higher one found.
+#![tactic(auto)]
+
 ghost use Rattle.std.specs.Prelude.{◌≡◌, cond, ℕ, ◌+◌, ◌*◌, ◌%◌, ◌≤◌, ◌<◌, length, get_or};
 ghost use Rattle.lists.specs.Lists.{same_numbers};
 ghost use Rattle.model.specs.Measures.{record_words};

@@ -1,4 +1,6 @@
 // The first message, on a sound store: a mark for each fingerprint, 1 if the box has its segment.
+#![tactic(auto)]
+
 ghost use Rattle.std.specs.Prelude.{◌≡◌, true, cond, [], map, ℕ, ◌*◌, ◌≤◌, ◌<◌, ltb, length, get_or};
 ghost use Rattle.lists.specs.Lists.{is_some, same_numbers};
 ghost use Rattle.lists.specs.Rows.{chunks};

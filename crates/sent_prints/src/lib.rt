@@ -1,4 +1,6 @@
 // Fingerprints of segment records, hashed where they lie.
+#![tactic(auto)]
+
 ghost use Rattle.std.specs.Prelude.{◌≡◌, false, cond, ℕ, ◌+◌, ◌*◌, ◌%◌, ◌≤◌, ◌<◌, length, get_or};
 ghost use Rattle.lists.specs.Lists.{every};
 ghost use Rattle.lists.specs.Rows.{rows};

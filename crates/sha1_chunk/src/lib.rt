@@ -1,4 +1,6 @@
 // One chunk of 64 bytes taken into the five words, as the definition in crates/sha1/specs says.
+#![tactic(auto)]
+
 ghost use Rattle.std.specs.Prelude.{◌≡◌, ℕ, ◌<◌, ◌⊎◌, List, ◌++◌, length, take, drop, replicate};
 ghost use Rattle.sha1_definition.specs.Sha1.{plus, rotl, choose, parity, majority, k, word_of, schedule, turned, rounds, added, compress};
 ghost use Rattle.sha1_definition.specs.Sha1 as definition;

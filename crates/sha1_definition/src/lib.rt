@@ -1,7 +1,8 @@
 // SHA-1 (RFC 3174): the definition in specs/, its laws in proofs/. The code stands above, in sha1_chunk and sha1_message.
+#![tactic(auto)]
 
 // The five words.
-#[derive(Drop)]
+#[derive(Clone, Copy)]
 pub struct State {
     pub a: u32,
     pub b: u32,
@@ -12,7 +13,7 @@ pub struct State {
 
 // Five words again: the answer.
 #[repr(C)]
-#[derive(Drop)]
+#[derive(Clone, Copy)]
 pub struct Digest {
     pub h0: u32,
     pub h1: u32,

@@ -1,4 +1,6 @@
 // Digests of whole messages, and of messages whose chunks were taken one by one.
+#![tactic(auto)]
+
 ghost use Rattle.std.specs.Prelude.{◌≡◌, ◌-◌, ◌*◌, ◌<◌, [], ◌∷◌, ◌++◌, length, take, replicate};
 ghost use Rattle.lists.specs.Decides.{Decides};
 ghost use Rattle.sha1_definition.specs.Sha1.{bytes_of, absorbed, zeros, digest, digest_bytes};

@@ -1,4 +1,6 @@
 // A till's slots: pointers over those of a version, and a version that goes from between its neighbours.
+#![tactic(auto)]
+
 ghost use Rattle.std.specs.Prelude.{◌≡◌, List, ◌∷◌, ◌++◌, map, ℕ, ◌+◌, ◌-◌, ◌≤◌, ◌<◌, length, get_or, set};
 ghost use Rattle.model.specs.State.{Pointer, Version, Rights, with_pointers};
 ghost use Rattle.model.specs.Table.{pointer_word, till_to_words};

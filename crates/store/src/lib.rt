@@ -1,4 +1,6 @@
 // The calls, on lent buffers. No call has a premise: what is no sound store is refused with 10, and then a user who may not make the call with 22 or 23.
+#![tactic(auto)]
+
 ghost use Rattle.std.specs.Prelude.{◌≡◌};
 ghost use Rattle.std.proofs.Math.Option.{none, some};
 ghost use Rattle.model.specs.Image.{with_blanks};

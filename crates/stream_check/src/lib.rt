@@ -1,4 +1,6 @@
 // The first walk through a stream: it looks for what is to be refused and writes nothing.
+#![tactic(auto)]
+
 ghost use Rattle.std.specs.Prelude.{◌≡◌, ◌≤◌, ◌^◌, min, length, drop, ltb};
 ghost use Rattle.model.specs.Measures.{parts_for};
 ghost use Rattle.stream.specs.Stream.{read_block, read_blocks, read_group, read_body};
@@ -8,7 +10,7 @@ use numbers::Block;
 use stream::Group;
 
 // How far a walk has come: a refusal, or 0 and the place in the stream.
-#[derive(Drop)]
+#[derive(Clone, Copy)]
 pub struct Place {
     pub refusal: u32,
     pub at: usize,
@@ -100,7 +102,7 @@ fn check_group(stream: &[u8], at: usize, left: usize) -> Place
 
 // A reader: the stream, and how far it has come. The borrow checker covers no function over a struct that holds a reference: each is thin, its work is
 // done on the slice and the place, and it is proved by hand.
-#[derive(Drop)]
+#[derive(Clone, Copy)]
 pub struct Reader<'a> {
     pub stream: &'a [u8],
     pub at: usize,

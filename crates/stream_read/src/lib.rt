@@ -1,4 +1,6 @@
 // A stream is read back into an image: a first walk through the stream (`stream_check`) looks for what is to be refused, a second one writes the image.
+#![tactic(auto)]
+
 ghost use Rattle.std.specs.Prelude.{◌≡◌, ◌+◌, ◌-◌, ◌≤◌, ◌<◌, length, take, drop};
 ghost use Rattle.stream.specs.Stream.{length_in, read_block, read_blocks, read_group, read_body, delivered, read_stream};
 ghost use Rattle.stream_read.specs.Answers.{Fills, stream_read};
@@ -8,7 +10,7 @@ use stream::Group;
 
 // Refusal 0 is an accepted call.
 #[repr(C)]
-#[derive(Drop)]
+#[derive(Clone, Copy)]
 pub struct StreamRead {
     pub refusal: u32,
     pub length: u32,

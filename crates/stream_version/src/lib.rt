@@ -1,4 +1,6 @@
 // A version of a sound store is written as a stream: restored into an array of its own, and written from there.
+#![tactic(auto)]
+
 ghost use Rattle.std.specs.Prelude.{◌≡◌, ◌≤◌, length};
 ghost use Rattle.model.specs.Calls.{restore_of};
 ghost use Rattle.laws.specs.Stores.{Sound};

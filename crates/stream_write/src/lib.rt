@@ -1,4 +1,6 @@
 // An image's stream is written to a lent output: the length in four bytes, then for each eight blocks a bit map byte and the blocks whose bit stands.
+#![tactic(auto)]
+
 ghost use Rattle.std.specs.Prelude.{◌≡◌, not, cond, ◌+◌, ◌*◌, ◌≤◌, ◌<◌, length};
 ghost use Rattle.lists.specs.Lists.{keep};
 ghost use Rattle.lists.specs.Rows.{joined, rows};
@@ -15,7 +17,7 @@ use stream::Group;
 
 // Refusal 0 is an accepted call.
 #[repr(C)]
-#[derive(Drop)]
+#[derive(Clone, Copy)]
 pub struct StreamWritten {
     pub refusal: u32,
     pub length: u32,

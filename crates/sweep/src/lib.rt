@@ -1,4 +1,6 @@
 // Counts rise and fall, then step 3: positions whose count is 0 are removed, record by record in rising number.
+#![tactic(auto)]
+
 ghost use Rattle.std.specs.Prelude.{◌≡◌, false, not, map, ℕ, ◌+◌, ◌*◌, ◌/◌, ◌^◌, ◌≤◌, ◌<◌, length, get_or, replicate};
 ghost use Rattle.lists.specs.Marks.{marked};
 ghost use Rattle.numbers.specs.Measures.{measures_of};

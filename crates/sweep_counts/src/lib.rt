@@ -1,4 +1,6 @@
 // Release and claim: each direct pointer of a list lowers its position's count by 1, or adds 1 to it.
+#![tactic(auto)]
+
 ghost use Rattle.std.specs.Prelude.{◌≡◌, map, ℕ, pred, ◌+◌, ◌*◌, ◌^◌, ◌<◌, ◌≤◌, length, get_or, set};
 ghost use Rattle.model.specs.Measures.{record_words};
 ghost use Rattle.model.specs.Table.{word_to_pointer, records_in};

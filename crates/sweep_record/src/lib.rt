@@ -1,4 +1,6 @@
 // Step 3 for one record. Its positions whose count is 0 are removed, in one of four ways.
+#![tactic(auto)]
+
 ghost use Rattle.std.specs.Prelude.{◌≡◌, ◌*◌, ◌≤◌, ◌<◌, length};
 ghost use Rattle.lists.specs.Decides.{Decides};
 ghost use Rattle.numbers.specs.Measures.{measures_of};

@@ -1,4 +1,6 @@
 // The tally: occupied cells, records in use and the sum of all counts.
+#![tactic(auto)]
+
 ghost use Rattle.std.specs.Prelude.{◌≡◌, ◌≤◌, length};
 ghost use Rattle.model.specs.Records.{named_cells};
 ghost use Rattle.model.specs.Table.{segment_in, records_in};
@@ -8,7 +10,7 @@ ghost use Rattle.tally.specs.Answers.{sum, in_use, TallyRow, TallyOfRecord, Tall
 
 // Refusal 0 is an accepted call.
 #[repr(C)]
-#[derive(Drop)]
+#[derive(Clone, Copy)]
 pub struct Tally {
     pub refusal: u32,
     pub cells: u32,

@@ -1,4 +1,6 @@
 // A till of a sound store: where its words are, the version of a number or of a day, and its listing.
+#![tactic(auto)]
+
 ghost use Rattle.std.specs.Prelude.{◌≡◌, ℕ, ◌<◌, length, get_or};
 ghost use Rattle.model.specs.Table.{shape_of, state_in};
 ghost use Rattle.model.specs.Calls.{till_of, newest_day, not_held, listing_of, version_on_of};
@@ -7,7 +9,7 @@ ghost use Rattle.tills.specs.Answers.{HeadOf, versions_held, numbers_held, days_
 
 // Refusal 0 is an accepted call.
 #[repr(C)]
-#[derive(Drop)]
+#[derive(Clone, Copy)]
 pub struct Listing {
     pub refusal: u32,
     pub oldest: u32,
@@ -16,14 +18,14 @@ pub struct Listing {
 }
 
 #[repr(C)]
-#[derive(Drop)]
+#[derive(Clone, Copy)]
 pub struct VersionFound {
     pub refusal: u32,
     pub version: u32,
 }
 
 // A till's first word, its last number given and how many versions it holds.
-#[derive(Drop)]
+#[derive(Clone, Copy)]
 pub struct Head {
     pub at: usize,
     pub last: u32,
@@ -31,7 +33,7 @@ pub struct Head {
 }
 
 // What a lookup finds: the refusal, or 0 and the place of the version.
-#[derive(Drop)]
+#[derive(Clone, Copy)]
 pub struct Found {
     pub refusal: u32,
     pub place: usize,

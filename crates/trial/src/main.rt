@@ -1,4 +1,6 @@
 // The page's cases 6 and 11, and long drawn histories on small stores beside a keeper of whole images. Prints what was counted.
+#![tactic(auto)]
+
 mod checks;
 mod history;
 mod turns;

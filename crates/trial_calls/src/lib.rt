@@ -1,4 +1,6 @@
 // Each call made on the store, its answer judged.
+#![tactic(auto)]
+
 ghost use Rattle.std.specs.Prelude.{◌≡◌, ◌+◌, ◌*◌, ◌≤◌, length};
 
 use backup::BackedUp;

@@ -1,4 +1,6 @@
 // The page's case 6 as its fourth request changes it, and case 11, on fresh stores of 1 till, 4 versions, 16 blocks per image, 8 records and 32 cells.
+#![tactic(auto)]
+
 use backup::BackedUp;
 use layout::Capacities;
 use numbers::Measures;

@@ -1,5 +1,7 @@
 // A day of two stores on one disk, each of 1 till, 3 versions of 8 blocks, 3 records and 24 cells: calls that name one of them, those that back up with
 // their limit. Each line has the call, the store, the limit or the version, the refusal, the number that is answered, and the cells of both stores after it.
+#![tactic(auto)]
+
 use layout::Capacities;
 use numbers::Measures;
 use trial_draw::images;

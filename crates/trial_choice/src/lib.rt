@@ -1,4 +1,6 @@
 // The user, the till and the image of a drawn call.
+#![tactic(auto)]
+
 ghost use Rattle.std.specs.Prelude.{◌≡◌, ◌+◌, ◌≤◌, min};
 ghost use Rattle.trial_keeper.specs.Notes.{most_bytes};
 

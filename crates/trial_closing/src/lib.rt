@@ -1,4 +1,6 @@
 // Backups by one call at closing: made, and judged as so many backups made singly.
+#![tactic(auto)]
+
 pub mod drawn;
 pub mod whole;
 

@@ -43,7 +43,7 @@ fn refuse_parts(
 }
 
 // How many tills, lengths and bytes; the till's reserved word; the number that is expected.
-#[derive(Drop)]
+#[derive(Clone, Copy)]
 struct Parts {
     tills: usize,
     lengths: usize,

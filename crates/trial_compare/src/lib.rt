@@ -1,4 +1,6 @@
 // Bytes and words compared, copied, marked and counted.
+#![tactic(auto)]
+
 ghost use Rattle.std.specs.Prelude.{[], ◌++◌, ◌≡◌, ◌-◌, ◌≤◌, ◌<◌, length, drop, replicate};
 ghost use Rattle.trial_compare.specs.Bytes.{wrong_head, others, Compared, FirstCompared};
 

@@ -1,4 +1,6 @@
 // A day at the box: the page's cases 1 to 4, then version 1 is restored and retired. A line for each call, with what the store answered.
+#![tactic(auto)]
+
 use layout::Capacities;
 use libc::STDOUT_FILENO;
 use numbers::Measures;

@@ -2,7 +2,7 @@
 ghost use Rattle.std.specs.Prelude.{◌≡◌, ◌≤◌, ◌<◌};
 ghost use Rattle.trial_draw.specs.Mixed.{next_state};
 
-#[derive(Drop)]
+#[derive(Clone, Copy)]
 pub struct Dice {
     pub state: u64,
 }

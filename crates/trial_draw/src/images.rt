@@ -5,7 +5,7 @@ ghost use Rattle.std.specs.Prelude.{◌≡◌, ◌⊎◌, ℕ, ◌≤◌, ◌<�
 use crate::dice::{Dice, mixed};
 
 // A seed gives each block its letter, but for one that is changed. If it repeats, all segments have the letters of the first.
-#[derive(Drop)]
+#[derive(Clone, Copy)]
 pub struct Plan {
     pub seed: u64,
     pub changed: usize,

@@ -1,4 +1,6 @@
 // One image among those of a call at closing: its answer and its bytes.
+#![tactic(auto)]
+
 ghost use Rattle.std.specs.Prelude.{◌≡◌, ◌+◌, ◌≤◌, min, get_or};
 
 use backup::BackedUp;

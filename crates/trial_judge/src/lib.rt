@@ -1,4 +1,6 @@
 // Answers of the store, held against the keeper's.
+#![tactic(auto)]
+
 ghost use Rattle.std.specs.Prelude.{cond, [], ◌∷◌, ◌≡◌, eqb, length};
 ghost use Rattle.trial_report.specs.Counts.{expected, answered_with};
 ghost use Rattle.trial_keeper.specs.Notes.{last_given, newer_than, place_of, newest_of, oldest_of, length_of, struck, filed, image_at, filed_images, wrong_from, most_bytes, user_refusal, set_refusal, rights_set};

@@ -1,6 +1,8 @@
 // The keeper of whole images: told the arguments of each call and whether it was accepted, and nothing out of pool or table.
 // Its notes are eleven for each till: the last number given, the number held at each of five places (0 at a free one), the length of the image there.
 // After those of three tills come the rights, 1 for one that is given: on each till those of each user to list, to back up, to restore and to retire.
+#![tactic(auto)]
+
 ghost use Rattle.std.specs.Prelude.{◌≡◌, ◌+◌, ◌*◌, ◌<◌, ◌≤◌, min, length, slice_index, slice_set};
 ghost use Rattle.trial_keeper.specs.Notes.{last_given, number_at, newer_than, place_of, newest_of, oldest_of, length_of, is_held, struck, noted, filed, image_at, with_image, filed_images, wrong_from, most_bytes, missing_number, right_at, user_refusal, owner_refusal, set_refusal, rights_set, backup_refusal, restore_refusal, retire_refusal};
 

@@ -1,4 +1,6 @@
 // Refusals that no drawn call meets: capacities out of range, buffers of another length, a till whose numbers have run out, messages that do not hold together.
+#![tactic(auto)]
+
 pub mod sent;
 
 ghost use Rattle.std.specs.Prelude.{◌≤◌};
@@ -44,7 +46,7 @@ fn most_of(n: u32) -> u32
 }
 
 // Capacities, and the number that they get.
-#[derive(Drop)]
+#[derive(Clone, Copy)]
 struct Sizes {
     c: Capacities,
     expected: u32,
@@ -128,7 +130,7 @@ pub fn lengths(counts: &mut [u64]) {
 }
 
 // Capacities, the bytes and words lent, and the number that they get.
-#[derive(Drop)]
+#[derive(Clone, Copy)]
 struct Lent {
     c: Capacities,
     bytes: usize,

@@ -51,7 +51,7 @@ const OTHER: usize = 1024;
 const NOTHING: usize = 2048;
 
 // A second message: the length, both marks, where what follows starts; the number and the version that are expected.
-#[derive(Drop)]
+#[derive(Clone, Copy)]
 struct Message {
     bytes: u32,
     first: u8,

@@ -1,4 +1,6 @@
 // A backup by both messages: the fingerprints are offered, and the segments follow that are not had.
+#![tactic(auto)]
+
 ghost use Rattle.std.specs.Prelude.{◌≡◌, ◌<◌, ◌≤◌, length};
 
 use backup::BackedUp;
@@ -119,7 +121,7 @@ fn pack(image: &[u8], width: usize, marks: &[u8], out: &mut [u8]) -> usize
 }
 
 // Who sends for which till, and the number that the page's order gives that: 3, 22, 23 or 0.
-#[derive(Drop)]
+#[derive(Clone, Copy)]
 struct Sender {
     user: u32,
     till: u32,

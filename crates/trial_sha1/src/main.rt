@@ -1,4 +1,6 @@
 // Published messages and others, their digests in hexadecimal as sha1sum writes them (the file stdout has sha1sum's).
+#![tactic(auto)]
+
 use libc::STDOUT_FILENO;
 use sha1_definition::{Digest, State};
 

@@ -1,5 +1,7 @@
 // Every call as every kind of user, on an empty store of 2 tills, 4 versions, 16 blocks per image, 8 records and 32 cells. A user who may make a call meets its
 // own refusal next, so that nothing ever changes but the rights, and every other field of an answer is 0.
+#![tactic(auto)]
+
 use layout::Capacities;
 use numbers::Measures;
 use rights::Rights;
@@ -17,7 +19,7 @@ fn capacities() -> Capacities {
 }
 
 // A user on a till, with the refusals of calls that need the right to list, to back up, to restore or to retire.
-#[derive(Drop)]
+#[derive(Clone, Copy)]
 struct Case {
     user: u32,
     till: u32,
@@ -218,7 +220,7 @@ fn calls_judged(kind: u32, c: Case, pool: &mut [u8], table: &mut [u32], counts: 
 }
 
 // A user sets another's rights on a till: the n-th alone, or none.
-#[derive(Drop)]
+#[derive(Clone, Copy)]
 struct Setting {
     user: u32,
     subject: u32,

@@ -1,4 +1,6 @@
 // All calls on what is no sound store: refused with 10, whoever the user is, and nothing changes.
+#![tactic(auto)]
+
 use rights::Rights;
 use trial_draw::dice::Dice;
 use trial_report::counts;

@@ -1,4 +1,6 @@
 // Step 2 of a backup: the previous version's direct pointers turn blank, or to equal blocks of the new image.
+#![tactic(auto)]
+
 ghost use Rattle.std.specs.Prelude.{◌≡◌, map, ◌++◌, ℕ, ◌+◌, ◌*◌, ◌%◌, ◌≤◌, ◌<◌, length, get_or, take};
 ghost use Rattle.lists.specs.Lists.{same_numbers, first_from};
 ghost use Rattle.model.specs.Image.{image_blocks, with_blanks};

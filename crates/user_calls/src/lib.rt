@@ -1,5 +1,7 @@
 // The calls of a user on a sound store: who may not make the call is refused with 22 or 23, and everyone else gets the call's own answer. Those that back
 // up bring the limit of a chain.
+#![tactic(auto)]
+
 ghost use Rattle.std.specs.Prelude.{◌≡◌, ◌≤◌};
 ghost use Rattle.std.proofs.Math.Option.{none, some};
 ghost use Rattle.model.specs.Image.{with_blanks};

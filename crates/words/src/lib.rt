@@ -1,4 +1,6 @@
 // Words on parts of lent slices: copied, moved down and filled.
+#![tactic(auto)]
+
 ghost use Rattle.std.specs.Prelude.{◌≡◌, ◌++◌, ℕ, ◌+◌, ◌≤◌, ◌<◌, length, take, drop, replicate};
 
 pub fn fill_with(part: &mut [u32], word: u32)

@@ -18,7 +18,7 @@ too-many-requires c κs =
     let a = c.before.before.before.before.before.before.before.before.before.before.before in
     let q = c.before.before.before.release in
     let st = let_stored a.requires.0.0 _ q.auto.0 q.ensures in
-    (st.decreases.most_blocks, stored_records _ st, st.short, a.requires.0.1)
+    (st.measured.most_blocks, stored_records _ st, st.short, a.requires.0.1)
 
 slice-aggregate-take-back : tie.Need-slice-aggregate-take-back
 slice-aggregate-take-back c = sym (length-take-le _ c.before.before.before.before.before.before.before.before.before.before.before.before.before.before.before.before.args.out.now (omega (arith, c.before.before.before.before.before.before.before.before.before.before.before.before.before.before.before.before.requires.0.0.within)))

@@ -12,7 +12,7 @@ take-all-requires : tie.Need-take-all-requires
 take-all-requires c κs =
     let a = c.before.before.before.before.before.before.before.before in
     let st = a.requires.0.stored in
-    ((st.decreases.most_blocks, stored_records _ st, st.short), rw (marked_length (length (cells_in a.args.m.bytes a.args.pool.now)) a.args.free.now a.requires.1) (cell_inside st))
+    ((st.measured.most_blocks, stored_records _ st, st.short), rw (marked_length (length (cells_in a.args.m.bytes a.args.pool.now)) a.args.free.now a.requires.1) (cell_inside st))
 
 place-segments-requires : tie.Need-place-segments-requires
 place-segments-requires c κs =

@@ -41,7 +41,7 @@ segments-requires : tie.Need-segments-requires invariant-loop decreases-loop
 segments-requires c κs = (c.before.before.before.before.before.before.before.requires.0.stored.measured, omega (arith, c.before.before.before.before.before.before.before.requires.0.most))
 
 used-records-requires : tie.Need-used-records-requires invariant-loop decreases-loop
-used-records-requires c κs = let st = c.before.before.before.before.before.before.before.before.before.requires.0.stored in (st.decreases.most_blocks, stored_records _ st, st.short)
+used-records-requires c κs = let st = c.before.before.before.before.before.before.before.before.before.requires.0.stored in (st.measured.most_blocks, stored_records _ st, st.short)
 
 loop-holds : tie.Need-loop-init invariant-loop decreases-loop
 loop-holds c = let a = c.before.before.before.before.before.before.before.before.before.before in along_start _ _ _ _ _ _ _ _ _ c.before.before.segments.ensures a.requires.0.stored a.requires.0.counts a.requires.1 c.used-records.ensures.1

@@ -100,7 +100,7 @@ record-equals-requires c κs =
     let fit : RowFits a.args.mask a.args.blank ws w.word.result = rw (place w) (l.invariant.1 c.before.before.loop-test.true) in
     let wide = c.before.before.before.before.before.before.before.row_words in
     let cells = cells_below a.args.m.blocks _ (get_or (records_in a.args.m.blocks ws) l.k []) (at_sized (here w) (below w) r) (λ i. cell_inside s l.k i) _ (at_row (here w) (below w) r) in
-    (a.requires.0, a.requires.1, at_length (here w) (below w) r, row_word ws w.word.result wide.result 1 (omega (arith, wide.ensures.0)) ∙ fit.whole, λ i q. cell_room s _ (cells i q), s.decreases.some_bytes, s.decreases.most_bytes, s.decreases.pieces, s.decreases.most_blocks, row_word ws w.word.result wide.result 2 (omega (arith, wide.ensures.0)) ∙ fit.same ∙ a.requires.5, omega (arith, s.decreases.some_blocks))
+    (a.requires.0, a.requires.1, at_length (here w) (below w) r, row_word ws w.word.result wide.result 1 (omega (arith, wide.ensures.0)) ∙ fit.whole, λ i q. cell_room s _ (cells i q), s.measured.some_bytes, s.measured.most_bytes, s.measured.pieces, s.measured.most_blocks, row_word ws w.word.result wide.result 2 (omega (arith, wide.ensures.0)) ∙ fit.same ∙ a.requires.5, omega (arith, s.measured.some_blocks))
 
 returns : tie.Need-returns invariant-loop decreases-loop
 returns c =

@@ -82,7 +82,7 @@ raise-row-requires c κs =
     let n = a.args.m.blocks in
     let ws = a.args.records.now in
     let h = inside c.before.before.before in (
-      st.decreases.most_blocks,
+      st.measured.most_blocks,
       part_length n ws _ t _ h c.before.before.word.result c.before.row_words.result c.before.before.word.ensures c.before.row_words.ensures.0,
       counts_below n _ _ (count_at n ws _ t _ h) (λ i. a.requires.0.counts.below _ i) _ (row_part_lem n ws _ t _ h c.before.before.word.result c.before.row_words.result c.before.before.word.ensures c.before.row_words.ensures.0),
     )

@@ -45,7 +45,7 @@ copy-blocks-requires : tie.Need-copy-blocks-requires
 copy-blocks-requires c κs =
     let a = c.before.before.before.before.before.before.before.before.before in
     let st = a.requires.0.0.stored in
-    (a.requires.0.0.begins, a.requires.0.1.is, has_room a, few_cells st, omega (arith, st.decreases.some_bytes), st.decreases.most_bytes, st.decreases.most_blocks)
+    (a.requires.0.0.begins, a.requires.0.1.is, has_room a, few_cells st, omega (arith, st.measured.some_bytes), st.measured.most_bytes, st.measured.most_blocks)
 
 mul-new-row : tie.Need-overflow-mul-new-row
 mul-new-row c = omega (arith, rowed c.before.before.before.before.before)
@@ -63,7 +63,7 @@ new-row-requires : tie.Need-new-row-requires
 new-row-requires c κs =
     let a = c.before.before.before.before.before.before.before.before.before.before.before.before.before in
     let st = a.requires.0.0.stored in
-    (st.decreases.most_blocks, part_length a.args.m.blocks a.args.records.now _ (stored_records (measures_of a.args.m) st) a.args.k.0 a.requires.1.0.0 c.before.before.before.before.before.before.before.word.result c.before.before.before.before.before.before.row_words.result c.before.before.before.before.before.before.before.word.ensures c.before.before.before.before.before.before.row_words.ensures.0, omega (arith, has_room a, few_cells st))
+    (st.measured.most_blocks, part_length a.args.m.blocks a.args.records.now _ (stored_records (measures_of a.args.m) st) a.args.k.0 a.requires.1.0.0 c.before.before.before.before.before.before.before.word.result c.before.before.before.before.before.before.row_words.result c.before.before.before.before.before.before.before.word.ensures c.before.before.before.before.before.before.row_words.ensures.0, omega (arith, has_room a, few_cells st))
 
 mul-take-row : tie.Need-overflow-mul-take-row
 mul-take-row c = omega (arith, rowed c.before.before.before.before.before.before.before.before.before)
@@ -83,7 +83,7 @@ take-row-requires c κs =
     let st = a.requires.0.0.stored in
     let w = write_row a.requires.0.0 a.requires.0.1 a.requires.0.2 a.args.k.0 a.requires.1.0.0 a.requires.1.0.1 (theRun a) (found a) _ (c.before.before.before.before.before.new_row.ensures _ (seg_length a.requires.0.0 a.args.image.now) a.requires.0.1.is a.requires.0.1.blanks) in
     let e = part_again a.args.m.blocks a.args.records.now _ (stored_records (measures_of a.args.m) st) a.args.k.0 a.requires.1.0.0 c.before.before.before.before.before.before.before.before.before.before.before.before.before.word.result c.before.before.before.before.before.before.before.before.before.before.before.before.row_words.result c.before.before.before.before.before.before.before.before.before.before.before.before.before.word.ensures c.before.before.before.before.before.before.before.before.before.before.before.before.row_words.ensures.0 c.before.before.before.before.before.new_row.new.0 w.0 in
-    (st.decreases.most_blocks, rw e w.0, rw e w.1)
+    (st.measured.most_blocks, rw e w.0, rw e w.1)
 
 put-places-requires : tie.Need-put-places-requires
 put-places-requires c κs =

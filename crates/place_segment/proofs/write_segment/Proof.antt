@@ -25,7 +25,7 @@ as-found : (a : tie.Start) (r : Option Run) → r ≡ scan (ones a.args.masks.st
 as-found a r e = e ∙ ap₂ (λ (n : ℕ) (fs : List Bool). scan n fs 0 0 none) (need_is (measures_of a.args.m) a.args.image.now a.args.from a.args.masks.stored a.args.masks.blank a.requires.1) (map-id a.args.free.now)
 
 free-record-requires : tie.Need-free-record-requires
-free-record-requires c κs = let st = c.before.before.before.before.before.before.requires.0.stored in (st.decreases.most_blocks, stored_records _ st, st.short)
+free-record-requires c κs = let st = c.before.before.before.before.before.before.requires.0.stored in (st.measured.most_blocks, stored_records _ st, st.short)
 
 cast-if1 : tie.Need-overflow-cast-if1
 cast-if1 c = search rules

@@ -66,7 +66,7 @@ clear-cells-requires c κs =
     let wide = part_length a.args.m.blocks a.args.records.now _ (stored_records M st) a.args.k.0 a.requires.1 c.before.before.before.before.before.before.before.before.before.word.result c.before.before.before.before.before.before.before.before.row_words.result c.before.before.before.before.before.before.before.before.before.word.ensures c.before.before.before.before.before.before.before.before.row_words.ensures.0 in
     let row = row_part_lem a.args.m.blocks a.args.records.now _ (stored_records M st) a.args.k.0 a.requires.1 c.before.before.before.before.before.before.before.before.before.word.result c.before.before.before.before.before.before.before.before.row_words.result c.before.before.before.before.before.before.before.before.before.word.ensures c.before.before.before.before.before.before.before.before.row_words.ensures.0 in
     let sized = count_at a.args.m.blocks a.args.records.now _ (stored_records M st) a.args.k.0 a.requires.1 in
-    (wide, λ i l. cell_room st _ (cells_below a.args.m.blocks _ _ sized (λ j. cell_inside st a.args.k.0 j) _ row i l), omega (arith, st.decreases.some_bytes), st.decreases.most_bytes, st.decreases.most_blocks)
+    (wide, λ i l. cell_room st _ (cells_below a.args.m.blocks _ _ sized (λ j. cell_inside st a.args.k.0 j) _ row i l), omega (arith, st.measured.some_bytes), st.measured.most_bytes, st.measured.most_blocks)
 
 mul-clear : tie.Need-overflow-mul-clear
 mul-clear c = omega (arith, room c.before.before.before.before.before.before.before.before.before.before.before)
@@ -115,7 +115,7 @@ lower-row-requires : tie.Need-lower-row-requires
 lower-row-requires c κs =
     let a = c.before.before.before.before.before.before.before.before.before.before in
     let st = a.requires.0 in
-    (st.decreases.most_blocks, part_length a.args.m.blocks a.args.records.now _ (stored_records (measures_of a.args.m) st) a.args.k.0 a.requires.1 c.before.before.before.before.before.before.before.word.result c.before.before.before.before.before.before.row_words.result c.before.before.before.before.before.before.before.word.ensures c.before.before.before.before.before.before.row_words.ensures.0)
+    (st.measured.most_blocks, part_length a.args.m.blocks a.args.records.now _ (stored_records (measures_of a.args.m) st) a.args.k.0 a.requires.1 c.before.before.before.before.before.before.before.word.result c.before.before.before.before.before.before.row_words.result c.before.before.before.before.before.before.before.word.ensures c.before.before.before.before.before.before.row_words.ensures.0)
 
 same-length-3 : tie.Need-same-length-3
 same-length-3 c = search rules
