@@ -18,7 +18,7 @@ import sys
 WORD = re.compile(r'[^\s(){}.;,@"«»\[\]|`:]+')
 DECLARED = re.compile(r"(?m)^ *(?:\w+ )*?([^\s(){}.;,@\"«»]+)(?: \{[^{}\n]*\})* :(?= |$)")
 IMPORT = re.compile(r"\buse ([^\s;{]+)\.\{([^}]*)\}")
-GENERATED = re.compile(r"(Statement|Tie|Reads|Lts|Goals|Given|Walk)$")
+GENERATED = re.compile(r"\.(Statement|Tie|Reads|Lts)$")
 CRATE = ("sha1", "sha1_definition")
 
 MET = {"go_on": "go_on_lem", "pointer_word": "pointer_word_lem", "read_back": "read_back_lem"}

@@ -10,7 +10,7 @@ use lib.ListN.{drop, get_or, length, length-append, length-drop, length-map, len
 use lib.Seq.{length-take-le}
 use Rattle.lists.specs.Lists.{all_zero}
 use Rattle.lists.specs.Masks.{mask_of}
-use Rattle.lists.specs.Walk.{bits, lowered, nextAdd, nextSame, numbered, outBit, outLess, outMore, outPick, pick, raised, walk}
+use Rattle.lists.specs.Walk.{bits, lowered, next_add, next_same, numbered, out_bit, out_less, out_more, out_pick, pick, raised, walk}
 use Rattle.lists.proofs.Puts.{map_then}
 use Rattle.lists.proofs.Slices.{tail_is, tail_put}
 use Rattle.lists.proofs.Walks.{length_walk, walk_map}
@@ -51,7 +51,7 @@ module _ (n : ℕ) (seg : Segment) (e : length seg ≡ n) (row : List ℕ) (s : 
 -- ---- one more, one less
 
 raise_counts : (ps : Segment) → raised (mask_of is_held ps) (map count_of ps) ≡ map count_of (map one_more ps)
-raise_counts ps = walk_map outMore 0 is_held count_of ps ∙ map_then (λ p. count_of p + cond (is_held p) 1 0) count_of one_more go ps
+raise_counts ps = walk_map out_more 0 is_held count_of ps ∙ map_then (λ p. count_of p + cond (is_held p) 1 0) count_of one_more go ps
   where
     go : (p : Position) → count_of p + cond (is_held p) 1 0 ≡ count_of (one_more p)
     go null_position = refl
@@ -60,7 +60,7 @@ raise_counts ps = walk_map outMore 0 is_held count_of ps ∙ map_then (λ p. cou
     go removed = refl
 
 lower_counts : (ps : Segment) → lowered (mask_of is_held ps) (map count_of ps) ≡ map count_of (map one_less ps)
-lower_counts ps = walk_map outLess 0 is_held count_of ps ∙ map_then (λ p. count_of p - cond (is_held p) 1 0) count_of one_less go ps
+lower_counts ps = walk_map out_less 0 is_held count_of ps ∙ map_then (λ p. count_of p - cond (is_held p) 1 0) count_of one_less go ps
   where
     go : (p : Position) → count_of p - cond (is_held p) 1 0 ≡ count_of (one_less p)
     go null_position = refl
@@ -206,12 +206,12 @@ unfolding record_to_words
 new_row_all n row x y cells counts m b' c h ex ec ey en seg ls em eb =
     let nx : length x ≡ record_words n = ap length ex ∙ length-set (set (set row 0 m) 1 0) 2 b' ∙ length-set (set row 0 m) 1 0 ∙ length-set row 0 m ∙ h in
     let lm : length (take n (drop 3 x)) ≡ n = length-take-le n (drop 3 x) (omega (arith, length-drop 3 x)) in
-    let lc : length cells ≡ n = ap length ec ∙ length_walk outPick nextAdd m c (take n (drop 3 x)) ∙ lm in
+    let lc : length cells ≡ n = ap length ec ∙ length_walk out_pick next_add m c (take n (drop 3 x)) ∙ lm in
     let ny : length y ≡ record_words n =
     ap length ey ∙ length-append (take 3 x) (cells ++ drop n (drop 3 x))
     ∙ (let z : length (take 3 x) + length (cells ++ drop n (drop 3 x)) ≡ record_words n = omega (arith, length-append cells (drop n (drop 3 x)), length-take-le 3 x (omega arith), length-drop n (drop 3 x), length-drop 3 x) in z) in
     let lt : length (take (length y - (3 + n)) (drop (3 + n) y)) ≡ n = length-take-le (length y - (3 + n)) (drop (3 + n) y) (omega (arith, length-drop (3 + n) y)) ∙ (let z : length y - (3 + n) ≡ n = omega arith in z) in
-    let ln : length counts ≡ n = ap length en ∙ length_walk outBit nextSame m 0 (take (length y - (3 + n)) (drop (3 + n) y)) ∙ lt in
+    let ln : length counts ≡ n = ap length en ∙ length_walk out_bit next_same m 0 (take (length y - (3 + n)) (drop (3 + n) y)) ∙ lt in
     new_row_back n row x y cells counts m b' h lc ln ex ey
     ∙ rw (ec, en, em, eb, new_cells c seg (take n (drop 3 x)) (lm ∙ sym ls), new_counts c seg (take (length y - (3 + n)) (drop (3 + n) y)) (lt ∙ sym ls), new_held c seg, new_removed c seg, new_blank c seg)
 

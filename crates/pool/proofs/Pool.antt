@@ -35,10 +35,10 @@ first_along step at (c ∷ cs) s l (here {m} e) =
     let a : (m - 1) % 2 ≡ 0 = omega arith in
     let b : (m - 1) / 2 ≡ m / 2 = omega arith in
     rw (e, a, b, add-zero (at + 1))
-first_along step at (c ∷ cs) s l (later {m} {t} e f) =
+first_along step {m = m'} at (c ∷ cs) s l (later {m} {t} e f) =
     let a : (m - 2 ^ suc t) % 2 ≡ 0 = omega (arith, pow-suc 2 t, first_le f) in
     let b : (m - 2 ^ suc t) / 2 ≡ m / 2 - 2 ^ t = omega (arith, pow-suc 2 t, first_le f) in
-    rw (e, a, b, add-zero (at + 1), add-zero at) (first_along step at cs s (omega arith) f)
+    rw (e, a, b, add-zero (at + 1), add-zero at) (first_along step {m = m / 2} at cs s (omega arith) f)
 
 pub along_none : {S : Type 0} (step : S → ℕ → ℕ → S) (at : ℕ) (cs : List ℕ) (s : S) → along step 0 at cs s ≡ s
 unfolding along

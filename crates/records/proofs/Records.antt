@@ -12,7 +12,7 @@ use lib.Seq.{map-set_same}
 use lib.Pow.{pow_mono}
 use Rattle.lists.specs.Lists.{count}
 use Rattle.lists.specs.Masks.{mask_of}
-use Rattle.lists.specs.Walk.{walk, nextAdd}
+use Rattle.lists.specs.Walk.{walk, next_add}
 use Rattle.lists.proofs.Masks.{First, here, later, first_le, first_bit, first_lt, mask_odd, mask_half, mask_bit, mask_lt, mask_off, mask_on, mask_same, ones_mask, bit_le, bit_true, bit_false}
 use Rattle.lists.specs.Rows.{fill}
 use Rattle.lists.proofs.Rows.{get_d_fill, set_fill}
@@ -254,7 +254,7 @@ out_number (suc b) a x = a
 
 -- where a bit is set, the next number
 unfoldable pub renumbered : ℕ → ℕ → List ℕ → List ℕ
-renumbered m at cs = walk out_number nextAdd m at cs
+renumbered m at cs = walk out_number next_add m at cs
 
 -- one set bit at a time
 pub first_renumbered : {m t : ℕ} (at : ℕ) (cs : List ℕ) → First m t → renumbered m at cs ≡ renumbered (m - 2 ^ t) (at + 1) (set cs t at)
@@ -265,12 +265,12 @@ first_renumbered at (c ∷ cs) (here {m} e) =
     let b : (m - 1) / 2 ≡ m / 2 = omega arith in
     let d : at + 1 + 0 ≡ at + 1 = omega arith in
     rw (e, a, b, d)
-first_renumbered at (c ∷ cs) (later {m} {t} e f) =
+first_renumbered {m = m'} at (c ∷ cs) (later {m} {t} e f) =
     let a : (m - 2 ^ suc t) % 2 ≡ 0 = omega (arith, pow-suc 2 t, first_le f) in
     let b : (m - 2 ^ suc t) / 2 ≡ m / 2 - 2 ^ t = omega (arith, pow-suc 2 t, first_le f) in
     let d : at + 1 + 0 ≡ at + 1 = omega arith in
     let d' : at + 0 ≡ at = omega arith in
-    rw (e, a, b, d, d', first_renumbered at cs f)
+    rw (e, a, b, d, d', first_renumbered {m = m / 2} at cs f)
 
 pub renumbered_none : (at : ℕ) (cs : List ℕ) → renumbered 0 at cs ≡ cs
 unfolding renumbered walk
@@ -293,8 +293,8 @@ moved_cells at (p ∷ seg) n =
     rw (mask_odd is_held p seg, mask_half is_held p seg)
     (go p (mask_none is_unreferenced p seg n).0 (λ a. moved_cells a seg (mask_none is_unreferenced p seg n).1))
   where
-    go : (p : Position) → is_unreferenced p ≡ false → ((a : ℕ) → walk out_number nextAdd (mask_of is_held seg) a (map cell_of seg) ≡ map cell_of (moved a seg))
-        → out_number (cond (is_held p) 1 0) at (cell_of p) ∷ walk out_number nextAdd (mask_of is_held seg) (at + cond (is_held p) 1 0) (map cell_of seg) ≡ map cell_of (moved at (p ∷ seg))
+    go : (p : Position) → is_unreferenced p ≡ false → ((a : ℕ) → walk out_number next_add (mask_of is_held seg) a (map cell_of seg) ≡ map cell_of (moved a seg))
+        → out_number (cond (is_held p) 1 0) at (cell_of p) ∷ walk out_number next_add (mask_of is_held seg) (at + cond (is_held p) 1 0) (map cell_of seg) ≡ map cell_of (moved at (p ∷ seg))
     go null_position g e = rw (add-zero at, e at)
     go blank_position g e = rw (add-zero at, e at)
     go (held c zero) g e = absurd (false≢true (sym g))
