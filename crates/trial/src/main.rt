@@ -7,6 +7,7 @@ mod turns;
 
 use layout::Capacities;
 use numbers::Measures;
+use std::io;
 use trial_report::tell;
 
 fn capacities(tills: u32, versions: u32, blocks: u32, records: u32, cells: u32) -> Capacities {
@@ -50,8 +51,13 @@ fn histories(count: u32, pool: &mut [u8], table: &mut [u32], counts: &mut [u64])
     }
 }
 
-fn trial(pool: &mut [u8], table: &mut [u32], counts: &mut [u64]) {
-    trial_cases::cases();
+fn trial(
+    rt: &impl Print,
+    pool: &mut [u8],
+    table: &mut [u32],
+    counts: &mut [u64],
+) -> io::Result<()> {
+    trial_cases::cases(rt)?;
     trial_refusals::lengths(counts);
     trial_refusals::layouts(pool, table, counts);
     trial_refusals::last_number(counts);
@@ -59,12 +65,12 @@ fn trial(pool: &mut [u8], table: &mut [u32], counts: &mut [u64]) {
     trial_staff::keys(counts);
     trial_closing::whole::closings(counts);
     histories(20, pool, table, counts);
-    tell::report(counts);
+    tell::report(rt, counts)
 }
 
-fn main() {
+fn main(rt: HostRuntime) -> io::Result<()> {
     let mut pool = [0u8; 4096];
     let mut table = [0u32; 600];
     let mut counts = [0u64; 63];
-    trial(&mut pool, &mut table, &mut counts);
+    trial(&rt, &mut pool, &mut table, &mut counts)
 }

@@ -72,9 +72,9 @@ fn other_of(d: Dice, till: u32, notes: &[u32]) -> u32 {
         return 0;
     }
     if kind == 1 {
-        return std::num::wrapping_add_u32(last, 1);
+        return last.wrapping_add(1);
     }
-    std::num::wrapping_add_u32(d.pick(40, last), 1)
+    d.pick(40, last).wrapping_add(1)
 }
 
 // Mostly a held version.

@@ -6,6 +6,7 @@ use layout::Capacities;
 use numbers::Measures;
 use restore::Restored;
 use retire::Retired;
+use std::io;
 use tally::Tally;
 use trial_draw::images;
 use trial_report::tell;
@@ -22,16 +23,23 @@ fn capacities() -> Capacities {
 }
 
 // The bytes, the backup's number and version, the restored length, cells, records, wrong bytes.
-fn print_image(bytes: usize, given: BackedUp, back: Restored, kept: Tally, wrong: usize) {
-    tell::text(b"image");
-    tell::number(bytes as u64);
-    tell::number(given.refusal as u64);
-    tell::number(given.version as u64);
-    tell::number(back.length as u64);
-    tell::number(kept.cells as u64);
-    tell::number(kept.records as u64);
-    tell::number(wrong as u64);
-    tell::end();
+fn print_image(
+    rt: &impl Print,
+    bytes: usize,
+    given: BackedUp,
+    back: Restored,
+    kept: Tally,
+    wrong: usize,
+) -> io::Result<()> {
+    tell::text(rt, b"image")?;
+    tell::number(rt, bytes as u64)?;
+    tell::number(rt, given.refusal as u64)?;
+    tell::number(rt, given.version as u64)?;
+    tell::number(rt, back.length as u64)?;
+    tell::number(rt, kept.cells as u64)?;
+    tell::number(rt, kept.records as u64)?;
+    tell::number(rt, wrong as u64)?;
+    tell::end(rt)
 }
 
 // A fresh store gets the image.
@@ -51,80 +59,97 @@ fn wrong_in(image: &[u8], output: &[u8], bytes: usize) -> usize {
     trial_compare::wrong_bytes(image, &output[0..bytes])
 }
 
-fn image_on(pool: &mut [u8], table: &mut [u32], image: &[u8], output: &mut [u8]) {
+fn image_on(
+    rt: &impl Print,
+    pool: &mut [u8],
+    table: &mut [u32],
+    image: &[u8],
+    output: &mut [u8],
+) -> io::Result<()> {
     let given = taken(pool, table, image);
     let back = store::restore(pool, table, 0, 0, given.version, output);
     let kept = store::tally(pool, table, 0);
     let wrong = wrong_in(image, output, back.length as usize);
-    print_image(image.len(), given, back, kept, wrong);
+    print_image(rt, image.len(), given, back, kept, wrong)
 }
 
-fn image_case(image: &[u8]) {
+fn image_case(rt: &impl Print, image: &[u8]) -> io::Result<()> {
     let mut pool = [0u8; 2048];
     let mut table = [0u32; 240];
     let mut output = [0u8; 1408];
-    image_on(&mut pool, &mut table, image, &mut output);
+    image_on(rt, &mut pool, &mut table, image, &mut output)
 }
 
-fn first_bytes(image: &[u8], bytes: usize) {
+fn first_bytes(rt: &impl Print, image: &[u8], bytes: usize) -> io::Result<()> {
     if bytes <= image.len() {
-        image_case(&image[0..bytes]);
+        image_case(rt, &image[0..bytes])?;
     }
+    Ok(())
 }
 
 // The output's length, the version's, the restore's number.
-fn output_on(pool: &mut [u8], table: &mut [u32], image: &[u8], output: &mut [u8]) {
+fn output_on(
+    rt: &impl Print,
+    pool: &mut [u8],
+    table: &mut [u32],
+    image: &[u8],
+    output: &mut [u8],
+) -> io::Result<()> {
     let given = taken(pool, table, image);
     let back = store::restore(pool, table, 0, 0, given.version, output);
-    tell::text(b"output");
-    tell::number(output.len() as u64);
-    tell::number(image.len() as u64);
-    tell::number(back.refusal as u64);
-    tell::end();
+    tell::text(rt, b"output")?;
+    tell::number(rt, output.len() as u64)?;
+    tell::number(rt, image.len() as u64)?;
+    tell::number(rt, back.refusal as u64)?;
+    tell::end(rt)
 }
 
-fn output_case(image: &[u8], output: &mut [u8]) {
+fn output_case(rt: &impl Print, image: &[u8], output: &mut [u8]) -> io::Result<()> {
     let mut pool = [0u8; 2048];
     let mut table = [0u32; 240];
-    output_on(&mut pool, &mut table, image, output);
+    output_on(rt, &mut pool, &mut table, image, output)
 }
 
-fn short_output(image: &[u8], bytes: usize, output: &mut [u8]) {
+fn short_output(rt: &impl Print, image: &[u8], bytes: usize, output: &mut [u8]) -> io::Result<()> {
     if bytes <= image.len() {
-        output_case(&image[0..bytes], output);
+        output_case(rt, &image[0..bytes], output)?;
     }
+    Ok(())
 }
 
-fn images_tried(image: &[u8]) {
-    tell::text(b"image bytes refusal version length cells records wrong\n");
-    first_bytes(image, 500);
-    first_bytes(image, 0);
-    first_bytes(image, 1024);
-    first_bytes(image, 1025);
+fn images_tried(rt: &impl Print, image: &[u8]) -> io::Result<()> {
+    tell::text(
+        rt,
+        b"image bytes refusal version length cells records wrong\n",
+    )?;
+    first_bytes(rt, image, 500)?;
+    first_bytes(rt, image, 0)?;
+    first_bytes(rt, image, 1024)?;
+    first_bytes(rt, image, 1025)
 }
 
-fn outputs_tried(image: &[u8]) {
+fn outputs_tried(rt: &impl Print, image: &[u8]) -> io::Result<()> {
     let mut less = [0u8; 511];
     let mut enough = [0u8; 512];
-    tell::text(b"output bytes for refusal\n");
-    short_output(image, 512, &mut less);
-    short_output(image, 512, &mut enough);
+    tell::text(rt, b"output bytes for refusal\n")?;
+    short_output(rt, image, 512, &mut less)?;
+    short_output(rt, image, 512, &mut enough)
 }
 
 // The version, the retire's number and length, the cells left.
-fn print_retired(version: u32, gone: Retired, cells: u32) {
-    tell::text(b"retire");
-    tell::number(version as u64);
-    tell::number(gone.refusal as u64);
-    tell::number(gone.length as u64);
-    tell::number(cells as u64);
-    tell::end();
+fn print_retired(rt: &impl Print, version: u32, gone: Retired, cells: u32) -> io::Result<()> {
+    tell::text(rt, b"retire")?;
+    tell::number(rt, version as u64)?;
+    tell::number(rt, gone.refusal as u64)?;
+    tell::number(rt, gone.length as u64)?;
+    tell::number(rt, cells as u64)?;
+    tell::end(rt)
 }
 
-fn retire_one(pool: &mut [u8], table: &mut [u32], version: u32) {
+fn retire_one(rt: &impl Print, pool: &mut [u8], table: &mut [u32], version: u32) -> io::Result<()> {
     let gone = store::retire(pool, table, 0, 0, version);
     let kept = store::tally(pool, table, 0);
-    print_retired(version, gone, kept.cells);
+    print_retired(rt, version, gone, kept.cells)
 }
 
 // Cases 1 to 4.
@@ -136,51 +161,57 @@ fn four_taken(pool: &mut [u8], table: &mut [u32], first: &[u8], second: &[u8]) {
 }
 
 // From the middle, gone already, the oldest.
-fn three_retired(pool: &mut [u8], table: &mut [u32]) {
-    tell::text(b"retire version refusal length cells\n");
-    retire_one(pool, table, 3);
-    retire_one(pool, table, 3);
-    retire_one(pool, table, 1);
+fn three_retired(rt: &impl Print, pool: &mut [u8], table: &mut [u32]) -> io::Result<()> {
+    tell::text(rt, b"retire version refusal length cells\n")?;
+    retire_one(rt, pool, table, 3)?;
+    retire_one(rt, pool, table, 3)?;
+    retire_one(rt, pool, table, 1)
 }
 
-fn retires_on(pool: &mut [u8], table: &mut [u32], first: &[u8], second: &[u8]) {
+fn retires_on(
+    rt: &impl Print,
+    pool: &mut [u8],
+    table: &mut [u32],
+    first: &[u8],
+    second: &[u8],
+) -> io::Result<()> {
     four_taken(pool, table, first, second);
-    three_retired(pool, table);
+    three_retired(rt, pool, table)
 }
 
-fn retires_of(first: &mut [u8], second: &mut [u8]) {
+fn retires_of(rt: &impl Print, first: &mut [u8], second: &mut [u8]) -> io::Result<()> {
     let mut pool = [0u8; 2048];
     let mut table = [0u32; 240];
     images::spell(first, b"ABCDEFGH");
     images::spell(second, b"ABCDEFGZ");
-    retires_on(&mut pool, &mut table, first, second);
+    retires_on(rt, &mut pool, &mut table, first, second)
 }
 
-fn retires_tried() {
+fn retires_tried(rt: &impl Print) -> io::Result<()> {
     let mut first = [0u8; 512];
     let mut second = [0u8; 512];
-    retires_of(&mut first, &mut second);
+    retires_of(rt, &mut first, &mut second)
 }
 
 // Erased flash: a stored block among blank and null ones, blank blocks only, and a short last block of 255s, which is stored.
-fn erased_tried(image: &mut [u8]) {
+fn erased_tried(rt: &impl Print, image: &mut [u8]) -> io::Result<()> {
     images::spell(image, b"A\xff\xff\0B\xff\xff\xff");
-    first_bytes(image, 512);
+    first_bytes(rt, image, 512)?;
     images::spell(image, b"\xff\xff\xff\xff\xff\xff\xff\xff");
-    first_bytes(image, 512);
-    first_bytes(image, 500);
+    first_bytes(rt, image, 512)?;
+    first_bytes(rt, image, 500)
 }
 
-fn all(image: &mut [u8]) {
+fn all(rt: &impl Print, image: &mut [u8]) -> io::Result<()> {
     images::spell(image, b"ABCDEFGHIJKLMNOPQRSTUV");
-    images_tried(image);
-    outputs_tried(image);
+    images_tried(rt, image)?;
+    outputs_tried(rt, image)
 }
 
-pub fn cases() {
-    retires_tried();
+pub fn cases(rt: &impl Print) -> io::Result<()> {
+    retires_tried(rt)?;
     let mut image = [0u8; 1408];
-    all(&mut image);
+    all(rt, &mut image)?;
     let mut erased = [0u8; 512];
-    erased_tried(&mut erased);
+    erased_tried(rt, &mut erased)
 }

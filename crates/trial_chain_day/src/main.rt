@@ -4,6 +4,7 @@
 
 use layout::Capacities;
 use numbers::Measures;
+use std::io;
 use trial_draw::images;
 use trial_report::tell;
 
@@ -46,20 +47,33 @@ fn cells_of(pools: &[u8], tables: &[u32], store: u32) -> u32 {
     t.cells
 }
 
-fn print_call(store: u32, argument: u32, refusal: u32, answer: u32) {
-    tell::number(store as u64);
-    tell::number(argument as u64);
-    tell::number(refusal as u64);
-    tell::number(answer as u64);
+fn print_call(
+    rt: &impl Print,
+    store: u32,
+    argument: u32,
+    refusal: u32,
+    answer: u32,
+) -> io::Result<()> {
+    tell::number(rt, store as u64)?;
+    tell::number(rt, argument as u64)?;
+    tell::number(rt, refusal as u64)?;
+    tell::number(rt, answer as u64)
 }
 
-fn print_cells(pools: &[u8], tables: &[u32]) {
-    tell::number(cells_of(pools, tables, 0) as u64);
-    tell::number(cells_of(pools, tables, 1) as u64);
-    tell::end();
+fn print_cells(rt: &impl Print, pools: &[u8], tables: &[u32]) -> io::Result<()> {
+    tell::number(rt, cells_of(pools, tables, 0) as u64)?;
+    tell::number(rt, cells_of(pools, tables, 1) as u64)?;
+    tell::end(rt)
 }
 
-fn back_up(pools: &mut [u8], tables: &mut [u32], store: u32, limit: u32, image: &[u8]) {
+fn back_up(
+    rt: &impl Print,
+    pools: &mut [u8],
+    tables: &mut [u32],
+    store: u32,
+    limit: u32,
+    image: &[u8],
+) -> io::Result<()> {
     let pool_lengths = [1536u32; 2];
     let table_lengths = [102u32; 2];
     let r = chain_calls::backup(
@@ -73,12 +87,18 @@ fn back_up(pools: &mut [u8], tables: &mut [u32], store: u32, limit: u32, image: 
         0,
         image,
     );
-    tell::text(b"backup");
-    print_call(store, limit, r.refusal, r.version);
-    print_cells(pools, tables);
+    tell::text(rt, b"backup")?;
+    print_call(rt, store, limit, r.refusal, r.version)?;
+    print_cells(rt, pools, tables)
 }
 
-fn retire(pools: &mut [u8], tables: &mut [u32], store: u32, version: u32) {
+fn retire(
+    rt: &impl Print,
+    pools: &mut [u8],
+    tables: &mut [u32],
+    store: u32,
+    version: u32,
+) -> io::Result<()> {
     let pool_lengths = [1536u32; 2];
     let table_lengths = [102u32; 2];
     let r = chain_calls::retire(
@@ -91,9 +111,9 @@ fn retire(pools: &mut [u8], tables: &mut [u32], store: u32, version: u32) {
         0,
         version,
     );
-    tell::text(b"retire");
-    print_call(store, version, r.refusal, r.length);
-    print_cells(pools, tables);
+    tell::text(rt, b"retire")?;
+    print_call(rt, store, version, r.refusal, r.length)?;
+    print_cells(rt, pools, tables)
 }
 
 // At how many places the output and the image differ.
@@ -101,7 +121,14 @@ fn wrong_in(image: &[u8], output: &[u8]) -> usize {
     trial_compare::wrong_bytes(image, output)
 }
 
-fn restore(pools: &[u8], tables: &[u32], store: u32, version: u32, output: &mut [u8]) -> u32 {
+fn restore(
+    rt: &impl Print,
+    pools: &[u8],
+    tables: &[u32],
+    store: u32,
+    version: u32,
+    output: &mut [u8],
+) -> io::Result<u32> {
     let pool_lengths = [1536u32; 2];
     let table_lengths = [102u32; 2];
     let r = chain_calls::restore(
@@ -115,70 +142,108 @@ fn restore(pools: &[u8], tables: &[u32], store: u32, version: u32, output: &mut 
         version,
         output,
     );
-    tell::text(b"restore");
-    print_call(store, version, r.refusal, r.length);
-    r.refusal
+    tell::text(rt, b"restore")?;
+    print_call(rt, store, version, r.refusal, r.length)?;
+    Ok(r.refusal)
 }
 
-fn restored(pools: &[u8], tables: &[u32], store: u32, version: u32, image: &[u8]) {
+fn restored(
+    rt: &impl Print,
+    pools: &[u8],
+    tables: &[u32],
+    store: u32,
+    version: u32,
+    image: &[u8],
+) -> io::Result<()> {
     let mut output = [0u8; 512];
-    restore(pools, tables, store, version, &mut output);
-    tell::number(wrong_in(image, &output) as u64);
-    tell::end();
+    restore(rt, pools, tables, store, version, &mut output)?;
+    tell::number(rt, wrong_in(image, &output) as u64)?;
+    tell::end(rt)
 }
 
 // A limit just at the sum, and one below it.
-fn at_the_sum(pools: &mut [u8], tables: &mut [u32], first: &[u8]) {
-    back_up(pools, tables, 0, 8, first);
-    back_up(pools, tables, 1, 15, first);
-    back_up(pools, tables, 1, 16, first);
+fn at_the_sum(
+    rt: &impl Print,
+    pools: &mut [u8],
+    tables: &mut [u32],
+    first: &[u8],
+) -> io::Result<()> {
+    back_up(rt, pools, tables, 0, 8, first)?;
+    back_up(rt, pools, tables, 1, 15, first)?;
+    back_up(rt, pools, tables, 1, 16, first)
 }
 
 // Cells that removal frees are free: 24 are occupied in between, and 17 in the end.
-fn freed(pools: &mut [u8], tables: &mut [u32], second: &[u8]) {
-    back_up(pools, tables, 0, 16, second);
-    back_up(pools, tables, 0, 17, second);
+fn freed(rt: &impl Print, pools: &mut [u8], tables: &mut [u32], second: &[u8]) -> io::Result<()> {
+    back_up(rt, pools, tables, 0, 16, second)?;
+    back_up(rt, pools, tables, 0, 17, second)
 }
 
 // A limit below the present sum refuses what adds nothing, and no retirement, which makes room; a third store is not there.
-fn below_the_sum(pools: &mut [u8], tables: &mut [u32], first: &[u8]) {
-    back_up(pools, tables, 1, 16, first);
-    retire(pools, tables, 0, 1);
-    back_up(pools, tables, 1, 16, first);
-    back_up(pools, tables, 2, 99, first);
+fn below_the_sum(
+    rt: &impl Print,
+    pools: &mut [u8],
+    tables: &mut [u32],
+    first: &[u8],
+) -> io::Result<()> {
+    back_up(rt, pools, tables, 1, 16, first)?;
+    retire(rt, pools, tables, 0, 1)?;
+    back_up(rt, pools, tables, 1, 16, first)?;
+    back_up(rt, pools, tables, 2, 99, first)
 }
 
-fn limits(pools: &mut [u8], tables: &mut [u32], first: &[u8], second: &[u8]) {
-    at_the_sum(pools, tables, first);
-    freed(pools, tables, second);
-    below_the_sum(pools, tables, first);
+fn limits(
+    rt: &impl Print,
+    pools: &mut [u8],
+    tables: &mut [u32],
+    first: &[u8],
+    second: &[u8],
+) -> io::Result<()> {
+    at_the_sum(rt, pools, tables, first)?;
+    freed(rt, pools, tables, second)?;
+    below_the_sum(rt, pools, tables, first)
 }
 
-fn all_restored(pools: &[u8], tables: &[u32], first: &[u8], second: &[u8]) {
-    restored(pools, tables, 0, 2, second);
-    restored(pools, tables, 1, 1, first);
-    restored(pools, tables, 1, 2, first);
+fn all_restored(
+    rt: &impl Print,
+    pools: &[u8],
+    tables: &[u32],
+    first: &[u8],
+    second: &[u8],
+) -> io::Result<()> {
+    restored(rt, pools, tables, 0, 2, second)?;
+    restored(rt, pools, tables, 1, 1, first)?;
+    restored(rt, pools, tables, 1, 2, first)
 }
 
-fn disk(pools: &mut [u8], tables: &mut [u32], first: &[u8], second: &[u8]) {
-    tell::text(b"call store limit or version refusal answer cells cells\n");
+fn disk(
+    rt: &impl Print,
+    pools: &mut [u8],
+    tables: &mut [u32],
+    first: &[u8],
+    second: &[u8],
+) -> io::Result<()> {
+    tell::text(
+        rt,
+        b"call store limit or version refusal answer cells cells\n",
+    )?;
     lay_out_first(pools, tables);
     lay_out_second(pools, tables);
-    limits(pools, tables, first, second);
-    tell::text(b"call store version refusal length wrong\n");
-    all_restored(pools, tables, first, second);
+    limits(rt, pools, tables, first, second)?;
+    tell::text(rt, b"call store version refusal length wrong\n")?;
+    all_restored(rt, pools, tables, first, second)
 }
 
-fn spelled(first: &mut [u8], second: &mut [u8]) {
+fn spelled(rt: &impl Print, first: &mut [u8], second: &mut [u8]) -> io::Result<()> {
     images::spell(first, b"ABCDEFGH");
     images::spell(second, b"ABCDEFGZ");
     let mut pools = [0u8; 3072];
     let mut tables = [0u32; 204];
-    disk(&mut pools, &mut tables, first, second);
+    disk(rt, &mut pools, &mut tables, first, second)
 }
 
-fn main() {
+fn main(rt: HostRuntime) -> io::Result<()> {
     let mut first = [0u8; 512];
     let mut second = [0u8; 512];
-    spelled(&mut first, &mut second);
+    spelled(&rt, &mut first, &mut second)
 }

@@ -25,7 +25,7 @@ fn draw_one(
     let bytes = trial_choice::draw_image(c, d, &mut sent[from..]);
     trial_keeper::put_note(tills, at, trial_choice::till_of(c, d));
     trial_keeper::put_note(lengths, at, bytes as u32);
-    std::num::wrapping_add_usize(from, bytes)
+    from.wrapping_add(bytes)
 }
 
 // So many images; how many bytes they have.

@@ -229,7 +229,7 @@ fn file_at(images: &mut [u8], notes: &mut [u32], till: u32, place: u32, version:
 pub fn file(images: &mut [u8], notes: &mut [u32], till: u32, image: &[u8])
     ensures { (notes.new ≡ filed notes.old till (length image.now)) × (images.new ≡ filed_images images.old notes.old till image.now) }
 {
-    let version = std::num::wrapping_add_u32(last(notes, till), 1);
+    let version = last(notes, till).wrapping_add(1);
     let place = place_of(notes, till, 0);
     put_note(notes, till as usize * 11, version);
     if place < PLACES {
@@ -262,7 +262,7 @@ fn wrong_from(images: &[u8], at: usize, bytes: usize, output: &[u8]) -> usize
     }
     let end = at + bytes;
     let wrong = trial_compare::wrong_bytes(&images[at..end], &output[0..bytes]);
-    std::num::wrapping_add_usize(wrong, trial_compare::unmarked(&output[bytes..]))
+    wrong.wrapping_add(trial_compare::unmarked(&output[bytes..]))
 }
 
 pub fn wrong_in(images: &[u8], notes: &[u32], till: u32, version: u32, output: &[u8]) -> usize

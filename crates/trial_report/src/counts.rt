@@ -71,7 +71,7 @@ fn put(counts: &mut [u64], at: usize, n: u64)
 pub fn add(counts: &mut [u64], at: usize, n: u64)
     ensures { counts.new ≡ added counts.old at n }
 {
-    let sum = std::num::wrapping_add_u64(count_at(counts, at), n);
+    let sum = count_at(counts, at).wrapping_add(n);
     put(counts, at, sum);
 }
 

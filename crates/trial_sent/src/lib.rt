@@ -14,7 +14,7 @@ fn put(part: &[u8], out: &mut [u8], at: usize) {
     }
     let room = &mut out[at..];
     if part.len() <= room.len() {
-        bytes::copy(part, room);
+        room[..part.len()].copy_from_slice(part);
     }
 }
 
@@ -72,7 +72,7 @@ pub fn print_all(image: &[u8], width: usize, prints: &mut [u8])
     while width <= image.len() - at {
         let end = at + width;
         print_one(&image[at..end], prints, to);
-        to = std::num::wrapping_add_usize(to, 20);
+        to = to.wrapping_add(20);
         at = end;
     }
 }
@@ -98,7 +98,7 @@ fn pack_one(segment: &[u8], marks: &[u8], j: usize, out: &mut [u8], n: usize) ->
     if j < marks.len() {
         if marks[j] == 1 {
             put(segment, out, n);
-            return std::num::wrapping_add_usize(n, segment.len());
+            return n.wrapping_add(segment.len());
         }
     }
     n
@@ -114,7 +114,7 @@ fn pack(image: &[u8], width: usize, marks: &[u8], out: &mut [u8]) -> usize
     while width <= image.len() - at {
         let end = at + width;
         n = pack_one(&image[at..end], marks, j, out, n);
-        j = std::num::wrapping_add_usize(j, 1);
+        j = j.wrapping_add(1);
         at = end;
     }
     n
@@ -150,10 +150,7 @@ fn judge_marks(refusal: u32, marks: &[u8], counts: &mut [u64]) {
     }
     let had = trial_compare::others_than(0, marks) as u64;
     let sent = trial_compare::others_than(1, marks) as u64;
-    counts::expect(
-        counts,
-        std::num::wrapping_add_u64(had, sent) == marks.len() as u64,
-    );
+    counts::expect(counts, had.wrapping_add(sent) == marks.len() as u64);
     counts::add(counts, counts::HAD, had);
     counts::add(counts, counts::SENT, sent);
 }
