@@ -15,6 +15,6 @@ returns c = λ s seg e l q.
     let row = c.args.row.now in
     c.positions_let.ensures s seg e l q
     ∙ elim c.if-row-eq0.branch [
-      then-row-eq0+else-row-eq0-2 w ↦ match_blank s seg row q w.if-row-eq0.true (omega (arith, c.if-row-ne0.false)) w.if-row-eq0-2.false
-    | else-row-eq0 w ↦ match_held s seg row q w.if-row-eq0.false
+      | then-row-eq0+else-row-eq0-2 w ↦ match_blank s seg row q w.if-row-eq0.true (omega (arith, c.if-row-ne0.false)) w.if-row-eq0-2.false
+      | else-row-eq0 w ↦ match_held s seg row q w.if-row-eq0.false
     ]

@@ -1,0 +1,8 @@
+use Rattle.bill_sums.proofs.Passes.{bit_new, bit_old}
+use Rattle.bill_sums.proofs.with_bit.Goals as goal
+
+pub returns-then-mark-bit : goal.returns-then-mark-bit
+returns-then-mark-bit c = bit_new _ _ c.if-mark-bit.true
+
+pub returns : goal.returns
+returns c = bit_old _ _ c.if-mark-bit.false

@@ -1,0 +1,11 @@
+use Prim.Native.Nat.{◌-◌, ◌≤◌}
+use lib.ListN.{length, drop}
+use Rattle.stream.specs.Stream.{read_blocks}
+use Rattle.stream_laws.proofs.Steps.{Alike}
+use Rattle.stream_check.proofs.check_blocks.Given as goal
+
+abbrev pub invariant-loop-i : goal.invariant-loop-i
+invariant-loop-i l = (l.i ≤ 8) × (l.at ≤ length l.stream) × Alike (read_blocks 8 l.bits l.bytes (drop l.from l.stream)) (read_blocks (8 - l.i) l.m l.left (drop l.at l.stream))
+
+abbrev pub decreases-loop-i : goal.decreases-loop-i
+decreases-loop-i l = 8 - l.i
