@@ -2,7 +2,7 @@
 use mathlib.Core.Path.{◌≡◌, refl, sym, ap, ◌∙◌}
 use mathlib.Core.Bool.{Bool, true, false}
 use mathlib.Core.List.{List}
-use Prim.Native.Nat.{ℕ, zero, suc, ◌+◌, ◌-◌, ◌*◌, ◌/◌, ◌%◌, ◌^◌, ◌≤◌, ◌<◌}
+use Prim.Native.Nat.{ℕ, zero, suc, ◌+◌, ◌-◌, ◌%◌, ◌^◌, ◌≤◌, ◌<◌}
 use native.Mathlib.Nat.{zero-div, le_of_suc-le-suc}
 use native.Mathlib.Omega.{arith}
 use lib.Dec.{leb}
@@ -14,7 +14,7 @@ use Rattle.lists.specs.Decides.{Decides}
 use Rattle.lists.proofs.Same.{zeros_are}
 use Rattle.lists.proofs.Rows.{zeros_of, zeros_fill}
 use Rattle.model.specs.Measures.{record_words}
-use Rattle.audit_words.specs.Words.{bit_of, PositionForm, RecordForm}
+use Rattle.audit_words.specs.Words.{bit_of, RecordForm}
 
 -- no bit of 0 stands
 no_bit : (m i : ℕ) → m ≡ 0 → bit_of m i ≡ 0

@@ -1,15 +1,15 @@
 -- Parts that were lent and have come back, and a block of an image.
 use mathlib.Core.Path.{◌≡◌, refl, sym, ap, ap₂, ◌∙◌}
 use mathlib.Core.Bool.{Bool, true, false, cond}
-use mathlib.Core.List.{List, [], ◌∷◌, ◌++◌, append-nil}
+use mathlib.Core.List.{List, [], ◌∷◌, ◌++◌}
 use Prim.Native.Nat.{ℕ, ◌+◌, ◌-◌, ◌≤◌, min}
 use native.Mathlib.Omega.{arith}
 use lib.ListN.{length, replicate, take, drop, length-drop, length-append, take-append-drop}
-use lib.Seq.{length-take-le, drop-drop}
+use lib.Seq.{length-take-le}
 use borrow.Rule.Slice.PartMut.{mid_of, put_mid, Post-is, mid_len}
 use Rattle.lists.specs.Lists.{every, all_zero, same_numbers}
 use Rattle.lists.specs.Rows.{fill}
-use Rattle.lists.proofs.Slices.{drop_end, tail_all, tail_put, cut_small, cut_is}
+use Rattle.lists.proofs.Slices.{tail_all, tail_put, cut_small, cut_is}
 use Rattle.lists.proofs.Rows.{fill_all, fill_split, fill_take, fill_zeros, zero_fill}
 use Rattle.model.specs.Image.{block_from}
 use Rattle.lists.proofs.Appends.{same_append}

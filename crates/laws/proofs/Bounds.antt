@@ -7,14 +7,12 @@ use native.Mathlib.Nat.{zero-add, suc-mul, mul-le-mul, le_refl}
 use native.Mathlib.Omega.{arith}
 use lib.ListN.{length, get_or, length-append}
 use lib.Dec.{eqb}
-use borrow.Author.Tests.{leb-true}
 use Rattle.lists.specs.Lists.{all_of, count, counted, total}
-use Rattle.lists.specs.Rows.{joined, rows}
+use Rattle.lists.specs.Rows.{joined}
 use Rattle.lists.specs.Each.{Each}
 use Rattle.lists.proofs.Counts.{count_most, hit, one_hit, total_at, total_same, total_sum, total_zero}
 use Rattle.lists.proofs.Each.{each_at}
-use Rattle.lists.proofs.Tests.{clause}
-use Rattle.model.specs.Measures.{Shape, in_range, is_within}
+use Rattle.model.specs.Measures.{Shape}
 use Rattle.model.specs.State.{Pointer, null_pointer, blank_pointer, direct, indirect, null_position, Version, Till, State}
 use Rattle.model.specs.Records.{is_held, count_of}
 use Rattle.model.specs.Sound.{is_sound, leads_to, all_pointers}

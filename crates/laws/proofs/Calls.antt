@@ -1,5 +1,5 @@
 -- A sound store's calls leave a sound store, on the buffers: whatever is backed up or retired, accepted or refused.
-use mathlib.Core.Path.{◌≡◌, refl, sym, ap, ◌∙◌}
+use mathlib.Core.Path.{◌≡◌, refl}
 use mathlib.Core.Bool.{Bool, true, false, cond}
 use mathlib.Core.List.{List}
 use mathlib.Core.Option.{Option, some}
@@ -7,10 +7,10 @@ use Prim.Native.Nat.{ℕ}
 use lib.Dec.{eqb}
 use Rattle.model.specs.Measures.{Shape}
 use Rattle.model.specs.Image.{Era}
-use Rattle.model.specs.State.{Rights, State, Outcome, refused, done}
+use Rattle.model.specs.State.{State, Outcome, refused, done}
 use Rattle.model.specs.Table.{state_to_words, state_to_bytes}
 use Rattle.model.specs.Sound.{is_sound, Store, store_of}
-use Rattle.model.specs.Rights.{to_back_up, refusal_for, refusal_at, unless, backup_refusal, backup_as, set_rights, rights_answer, set_rights_in, set_rights_of}
+use Rattle.model.specs.Rights.{to_back_up, refusal_for, refusal_at, unless, backup_refusal, backup_as}
 use Rattle.model.specs.Calls.{layout_of, empty_state, backup, backup_answer, backup_in, backup_by, retire, retire_answer, retire_in, retire_of, After, state_or}
 use Rattle.laws.proofs.Fits.{Fit, range_fit}
 use Rattle.laws.proofs.Serves.{sound_valid}
@@ -18,7 +18,6 @@ use Rattle.laws.proofs.RoundTrip.{round_trip, store_found}
 use Rattle.laws.proofs.Empty.{empty_sound, layout_accepted}
 use Rattle.laws.proofs.Backup.{backup_sound}
 use Rattle.laws.proofs.Retire.{retire_sound}
-use Rattle.laws.proofs.Keys.{rights_set_lem}
 
 -- the buffers are a sound store
 pub record IsStore (pool table : List ℕ) : Type 0 where

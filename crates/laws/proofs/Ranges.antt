@@ -3,12 +3,12 @@ use mathlib.Core.Path.{◌≡◌, refl, sym, ap, ◌∙◌}
 use mathlib.Core.Bool.{Bool, true, false, cond}
 use mathlib.Core.Logic.{◌↔◌}
 use mathlib.Core.List.{[], ◌∷◌}
-use Prim.Native.Nat.{ℕ, ◌+◌, ◌*◌, ◌/◌, ◌%◌, ◌≤◌, ◌<◌}
+use Prim.Native.Nat.{ℕ, ◌*◌, ◌/◌, ◌%◌, ◌≤◌, ◌<◌}
 use native.Mathlib.Nat.{le-div_iff_mul-le, mul-le-mul}
 use native.Mathlib.Omega.{arith}
 use lib.Dec.{lit≤}
 use borrow.Author.Tests.{eqb-true, ne_eqb, leb-true}
-use Rattle.lists.specs.Lists.{all_of, every, all_zero, is_in}
+use Rattle.lists.specs.Lists.{every, all_zero, is_in}
 use Rattle.lists.proofs.Each.{each_in}
 use Rattle.lists.proofs.Tests.{clause}
 use Rattle.model.specs.Measures.{Measures, Shape, base_measures, is_base, is_within, are_measures, in_range}

@@ -1,24 +1,21 @@
 -- Laws of where the tills and the records of a state lie among its words; and of a sound store, read from its buffers.
-use mathlib.Core.Path.{◌≡◌, refl, sym, ap, ◌∙◌, subst}
+use mathlib.Core.Path.{◌≡◌, refl, sym, ap, ◌∙◌}
 use mathlib.Core.Bool.{Bool, true, false, cond, false≢true}
 use mathlib.Core.Logic.{◌⊎◌, inl, inr}
-use mathlib.Core.List.{List, [], ◌∷◌, ◌++◌, append_assoc, append-nil}
-use mathlib.Core.Option.{Option, none, some}
-use Prim.Native.Nat.{ℕ, suc, ◌+◌, ◌*◌, ◌-◌, ◌≤◌, ◌<◌}
+use mathlib.Core.List.{List, [], ◌∷◌, ◌++◌, append_assoc}
+use mathlib.Core.Option.{none, some}
+use Prim.Native.Nat.{ℕ, ◌+◌, ◌*◌, ◌-◌, ◌≤◌, ◌<◌}
 use native.Mathlib.Omega.{arith}
 use lib.ListN.{length, get_or, set, take, drop, length-append, length-take}
-use lib.Dec.{lit<, lit≤}
-use borrow.Author.Tests.{leb-true}
 use Rattle.lists.specs.Lists.{all_of, same_numbers, is_some}
 use Rattle.lists.specs.Rows.{rows}
-use Rattle.lists.proofs.Tests.{clause}
 use Rattle.lists.proofs.Rows.{wide_all, length_rows}
 use Rattle.lists.proofs.Slices.{tail_is, tail_put}
 use Rattle.lists.proofs.Parts.{Part, within, row_part, lent, returned}
-use Rattle.model.specs.Measures.{Shape, is_within, in_range, till_words, records_at, table_words}
+use Rattle.model.specs.Measures.{Shape, till_words, records_at, table_words}
 use Rattle.model.specs.State.{Block, Segment, Till, State}
 use Rattle.model.specs.Table.{record_to_words, till_to_words, header_to_words, state_to_words, shape_of, state_in}
-use Rattle.model.specs.Sound.{is_sound, if_sound, has_lengths, Store, store_as, store_of}
+use Rattle.model.specs.Sound.{is_sound, if_sound, has_lengths, store_as, store_of}
 use Rattle.model.specs.Calls.{empty_till, till_of}
 use Rattle.laws.specs.Ranges.{Ranges}
 use Rattle.laws.specs.Stores.{till_at, store_read, Sound, HeaderRanges}

@@ -1,24 +1,24 @@
 -- Removal keeps every count, every block with a count, and the cells exact.
 use mathlib.Core.Path.{◌≡◌, refl, sym, ap, ◌∙◌, subst}
 use mathlib.Core.Logic.{◌⊎◌, inl, inr}
-use mathlib.Core.Bool.{Bool, true, false, not}
+use mathlib.Core.Bool.{Bool, true, false}
 use mathlib.Core.List.{List, [], ◌∷◌, map}
 use mathlib.Core.Option.{Option, none, some}
 use Prim.Native.Nat.{ℕ, zero, suc, ◌+◌, ◌-◌, ◌*◌, ◌≤◌, ◌<◌, zero-le, suc-le-suc}
-use native.Mathlib.Nat.{suc-add, add-suc, add-zero, not-suc-le-zero, le_of_suc-le-suc, suc-ne-zero, zero-lt-suc, le_refl}
+use native.Mathlib.Nat.{suc-add, add-suc, add-zero, not-suc-le-zero, suc-ne-zero, zero-lt-suc, le_refl}
 use native.Mathlib.Omega.{arith}
 use lib.ListN.{length, get_or, set, replicate, length-set, length-map, get_or-map}
 use lib.Seq.{sets, get_or-set_same, get_or-set_other}
-use lib.Dec.{eqb, leb, ltb}
-use borrow.Author.Tests.{eqb-true, eqb-false, ltb-true, ltb-false, leb-true, leb-false}
+use lib.Dec.{eqb, ltb}
+use borrow.Author.Tests.{eqb-true, eqb-false, ltb-true, ltb-false}
 use Rattle.model.specs.Sound.{is_filled}
-use Rattle.lists.specs.Lists.{every, keep, count, all_zero, uses}
+use Rattle.lists.specs.Lists.{keep, count, uses}
 use Rattle.lists.specs.Rows.{joined}
 use Rattle.model.specs.Measures.{Measures}
 use Rattle.model.specs.State.{Block, Position, null_position, blank_position, held, removed, Segment, Storage}
 use Rattle.model.specs.Records.{free_segment, cells_of, named_cells, is_held, cell_of, count_of, cell_at}
 use Rattle.model.specs.Runs.{Run, find_run}
-use Rattle.model.specs.Sweep.{clear_cells, is_unreferenced, is_referenced, struck, moved, free_record, strike_only, compact, remove_from, sweep_record, sweep_from, sweep}
+use Rattle.model.specs.Sweep.{clear_cells, is_unreferenced, struck, moved, free_record, strike_only, compact, remove_from, sweep_record, sweep_from, sweep}
 use Rattle.laws.proofs.Uses.{named_set, clear_in, clear_out, referenced, unreferenced, uses_split, struck_cells, moved_cells, referenced_count}
 use Rattle.laws.specs.Storage.{filled_bit, Exact}
 use Rattle.laws.proofs.Runs.{RunOk, FoundOk, Free, find_ok}

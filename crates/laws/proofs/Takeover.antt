@@ -18,7 +18,7 @@ use Rattle.model.specs.Sound.{is_null, resolves, leads_to, next_pointers, has_le
 use Rattle.model.specs.Calls.{held_from, held_before, newest_pointers, with_newest_pointers, take_over, taken, close_up}
 use Rattle.laws.proofs.Counts.{pointer_counted}
 use Rattle.laws.proofs.Serves.{pointers_of}
-use Rattle.laws.proofs.Newest.{versions_append, newest_count, newest_last, with_last}
+use Rattle.laws.proofs.Newest.{versions_append, newest_count}
 use Rattle.laws.proofs.Turn.{lead_at, every_map, every_same, ends_same}
 
 -- ---- the version named, and those before it

@@ -1,8 +1,8 @@
 -- The version of a number, by its place among the held ones; a sound store's till, among the table's words.
 use mathlib.Core.Path.{◌≡◌, refl, sym, ap, ◌∙◌, subst}
-use mathlib.Core.Bool.{Bool, true, false, cond, false≢true}
+use mathlib.Core.Bool.{Bool, true, cond}
 use mathlib.Core.List.{List, [], ◌∷◌, map}
-use Prim.Native.Nat.{ℕ, zero, suc, ◌+◌, ◌*◌, ◌-◌, ◌≤◌, ◌<◌, zero-le}
+use Prim.Native.Nat.{ℕ, zero, suc, ◌+◌, ◌*◌, ◌≤◌, ◌<◌, zero-le}
 use native.Mathlib.Nat.{add-zero, mul-le-mul_right, suc-mul}
 use native.Mathlib.Omega.{arith}
 use lib.ListN.{length, get_or, take, drop, length-map, get_or-map}
@@ -10,19 +10,18 @@ use lib.Dec.{eqb, ltb, lit<}
 use Rattle.lists.proofs.Last.{last_at}
 use Rattle.lists.proofs.Tests.{by_test}
 use lib.Seq.{get_or-take, get_or-drop}
-use borrow.Author.Tests.{eqb-false, eq-eqb, ne_eqb, leb-true}
-use Rattle.lists.specs.Lists.{rises, is_in}
+use borrow.Author.Tests.{eq-eqb, ne_eqb, leb-true}
+use Rattle.lists.specs.Lists.{rises}
 use Rattle.lists.specs.Rows.{rows}
 use Rattle.lists.proofs.Tests.{clause, every_at}
 use Rattle.lists.proofs.Rows.{Wide, wide_all, length_rows, rows_below, get_d_rows, get_d_fill}
 use Rattle.lists.proofs.Rises.{rises_length}
-use Rattle.model.specs.Measures.{Shape, till_words, table_words}
-use Rattle.model.specs.State.{Version, Till, State}
-use Rattle.model.specs.Table.{version_to_words, till_to_words, state_to_words, shape_of, state_in}
-use Rattle.model.specs.Sound.{is_numbered, are_traceable, is_till}
+use Rattle.model.specs.Measures.{till_words, table_words}
+use Rattle.model.specs.State.{Version, Till}
+use Rattle.model.specs.Table.{version_to_words, till_to_words, shape_of, state_in}
+use Rattle.model.specs.Sound.{is_numbered, is_till}
 use Rattle.model.specs.Calls.{empty_till, till_of, held_from, held_before, oldest_number, newest_number, newest_day, not_held}
-use Rattle.laws.proofs.Fits.{StateFits}
-use Rattle.laws.proofs.RoundTrip.{length_version, length_till}
+use Rattle.laws.proofs.RoundTrip.{length_version}
 use Rattle.laws.specs.Stores.{till_at, Sound}
 use Rattle.laws.proofs.Stores.{till_is, found, fits, valid, long}
 

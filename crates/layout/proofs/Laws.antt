@@ -1,25 +1,23 @@
 -- Ranges test by test, the table's length within 32 bits, and the words and bytes of the empty store.
-use mathlib.Core.Path.{◌≡◌, refl, sym, ap, ap₂, ◌∙◌}
-use mathlib.Core.Bool.{Bool, true, false, not, cond, ◌&&◌, false≢true}
-use mathlib.Core.List.{List, [], ◌∷◌, ◌++◌, map}
+use mathlib.Core.Path.{◌≡◌, refl, sym, ap, ◌∙◌}
+use mathlib.Core.Bool.{Bool, true, false, cond, ◌&&◌, false≢true}
+use mathlib.Core.List.{List, [], ◌∷◌, ◌++◌}
 use Prim.Native.Nat.{ℕ, zero, suc, ◌+◌, ◌*◌, ◌/◌, ◌≤◌, ◌<◌}
 use native.Mathlib.Nat.{zero-mul, suc-mul, mul-le-mul, le-div_iff_mul-le}
 use native.Mathlib.Omega.{arith}
 use lib.ListN.{length, get_or, set, replicate, length-replicate, length-set}
-use lib.Dec.{eqb, leb, lit<}
+use lib.Dec.{eqb, leb}
 use borrow.Author.Tests.{lt-leb, le-leb, leb-true, leb-false, eqb-true, eq-eqb, ne_eqb}
 use Rattle.lists.specs.Lists.{all_of, is_in}
-use Rattle.lists.specs.Rows.{joined, rows, fill}
-use Rattle.lists.proofs.Each.{each_in}
-use Rattle.lists.proofs.Tests.{clause, all_false, all_last, cond_self}
+use Rattle.lists.specs.Rows.{joined, rows}
+use Rattle.lists.proofs.Tests.{all_false, all_last, cond_self}
 use Rattle.lists.proofs.Rows.{fill_zeros}
-use Rattle.model.specs.Measures.{Measures, Shape, is_within, are_measures, in_range, slot_words, till_words, record_words, records_at, table_words, pool_bytes}
-use Rattle.model.specs.State.{Position, null_position, Till}
+use Rattle.model.specs.Measures.{Measures, Shape, is_within, are_measures, in_range, slot_words, till_words, record_words, table_words, pool_bytes}
 use Rattle.model.specs.Image.{zero_block}
-use Rattle.model.specs.Records.{free_segment, is_held, is_removed, cell_of, count_of}
+use Rattle.model.specs.Records.{free_segment}
 use Rattle.lists.specs.Masks.{mask_of}
-use Rattle.model.specs.Table.{record_to_words, version_to_words, rights_bits, rights_word, till_to_words, measure_word, measures_in, header_to_words, shape_of, state_to_words, state_to_bytes}
-use Rattle.model.specs.Calls.{LengthAnswer, LayoutAnswer, no_rights, empty_till, empty_state, table_length_of, layout_of, layout_if}
+use Rattle.model.specs.Table.{record_to_words, rights_bits, rights_word, till_to_words, measure_word, header_to_words, shape_of, state_to_words, state_to_bytes}
+use Rattle.model.specs.Calls.{no_rights, empty_till, empty_state, table_length_of, layout_of, layout_if}
 use Rattle.numbers.specs.Measures.{measures_of}
 use Rattle.layout.specs.declared.Capacities.{Capacities}
 use Rattle.layout.specs.Layout.{shape}

@@ -1,5 +1,5 @@
 -- The capacities that the code has, as the model's; and what its answers are.
-use Rattle.std.specs.Prelude.{ℕ, ◌+◌, List, get_or}
+use Rattle.std.specs.Prelude.{ℕ, List}
 use Rattle.model.specs.Measures as measures
 use Rattle.model.specs.Calls.{LengthAnswer, LayoutAnswer}
 use Rattle.numbers.specs.Measures.{measures_of}

@@ -6,7 +6,7 @@ use Prim.Native.Nat.{ℕ, suc}
 use native.Mathlib.Nat.{suc_inj, suc-ne-zero}
 use lib.Dec.{eqb}
 use lib.ListN.{length}
-use Rattle.lists.specs.Lists.{every, all_zero, same_numbers, is_in}
+use Rattle.lists.specs.Lists.{every, same_numbers, is_in}
 
 -- ---- tests of a list in two pieces
 

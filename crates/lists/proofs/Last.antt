@@ -1,7 +1,6 @@
 -- Laws of a field of the last element.
-use mathlib.Core.Path.{◌≡◌, refl, ap, ◌∙◌}
+use mathlib.Core.Path.{◌≡◌, refl}
 use mathlib.Core.List.{List, [], ◌∷◌, ◌++◌, map}
-use Prim.Native.Nat.{ℕ}
 use lib.ListN.{length, get_or}
 use Rattle.lists.specs.Lists.{last_of}
 use Rattle.lists.specs.Each.{Each}

@@ -2,13 +2,13 @@
 use mathlib.Core.Path.{◌≡◌, refl, sym, ap, ◌∙◌}
 use mathlib.Core.Bool.{Bool, cond}
 use mathlib.Core.List.{List, [], ◌∷◌, ◌++◌, map, append_assoc, append-nil}
-use Prim.Native.Nat.{ℕ, suc, ◌+◌, ◌*◌, ◌/◌, ◌%◌, ◌≤◌, ◌<◌}
+use Prim.Native.Nat.{ℕ, suc, ◌+◌, ◌/◌, ◌%◌, ◌≤◌, ◌<◌}
 use native.Mathlib.Omega.{arith}
 use lib.ListN.{length, get_or, set, take, drop, length-set}
 use lib.Seq.{set_at, get_or_at, length-take-le, take_all}
 use Rattle.lists.specs.Walk.{walk}
 use Rattle.lists.specs.Masks.{mask_of}
-use Rattle.lists.proofs.Masks.{half, odd, mask_half, mask_odd}
+use Rattle.lists.proofs.Masks.{mask_half, mask_odd}
 use Rattle.lists.proofs.Slices.{drop_next, drop_end, take_next}
 
 -- ---- walk

@@ -3,7 +3,7 @@ use Prim.Native.Nat.{ℕ}
 use mathlib.Core.List.{List, [], ◌∷◌}
 use Rattle.model.specs.Measures.{Shape}
 use Rattle.model.specs.State.{Pointer, direct, indirect, Version}
-use Rattle.model.proofs.Steps.{Step, backup, earlier, dated, version_on, retire, slot_is, overwrite, Row, at_base, blocks}
+use Rattle.model.proofs.Steps.{backup, earlier, dated, version_on, retire, slot_is, overwrite, Row, at_base, blocks}
 
 -- 2 tills with images of one block
 unfoldable pub shop_of : ℕ → ℕ → Shape

@@ -1,14 +1,14 @@
 -- "A day at the box": the starred cases 1 to 10, rows for what the page says beside them, and rows at other measures, as lists of calls with what they answer and leave.
 -- One theorem, `day_holds`, proved by computing the calls' definitions on real blocks.
-use Prim.Native.Nat.{ℕ, ◌+◌, ◌*◌}
+use Prim.Native.Nat.{◌*◌}
 use mathlib.Core.Path.{◌≡◌, refl}
 use mathlib.Core.Bool.{true}
 use mathlib.Core.List.{List, [], ◌∷◌, ◌++◌}
-use lib.ListN.{take, drop, replicate}
+use lib.ListN.{drop, replicate}
 use Rattle.lists.specs.Lists.{counted, every, keep, count, total, is_some, first_from, all_of, same_numbers, rises, is_in, distinct, all_zero, largest, last_of}
 use Rattle.lists.specs.Rows.{joined, parts, chunks, fill}
 use Rattle.lists.specs.Masks.{mask_of}
-use Rattle.model.specs.Measures.{is_within, are_measures, in_range, parts_for, table_words, pool_bytes, is_base, Shape}
+use Rattle.model.specs.Measures.{is_within, are_measures, in_range, parts_for, table_words, pool_bytes, is_base}
 use Rattle.model.specs.Image.{zero_block, blank_block, is_blank, is_bare, block_from, blocks_from, image_blocks, segments_from, image_segments}
 use Rattle.model.specs.Records.{free_segment, is_free, cells_of, named_cells, cell_at, position_at, equals}
 use Rattle.model.specs.Runs.{free_cells, better, scan, find_run}
@@ -23,7 +23,7 @@ use Rattle.model.specs.Rights.{refusal_for, owner_refusal, backup_refusal, backu
 use Rattle.model.specs.Rights as Rights
 use Rattle.model.specs.State.{null_pointer, direct, indirect, null_position, held, removed}
 use Rattle.model.specs.Calls as Calls
-use Rattle.model.proofs.Steps.{Step, table_length, layout, backup, restore, retire, listing, tally, slot_is, record_is, pool_is, settings_are, overwrite, Row, till_at, slot_at, record_at, is_at, holds_from, holds, at_base, box, blocks, zeros, letters, ABCDEFGH, ABCDEFGZ, AIJKLMNO, ABIJKLMN, IJKLMNOP, QRSTUVWX, run8, to8, v512}
+use Rattle.model.proofs.Steps.{Step, backup, restore, retire, listing, tally, slot_is, record_is, pool_is, Row, till_at, slot_at, record_at, is_at, holds_from, holds, at_base, box, blocks, zeros, letters, ABCDEFGH, ABCDEFGZ, AIJKLMNO, ABIJKLMN, IJKLMNOP, QRSTUVWX, run8, to8, v512}
 use Rattle.model.proofs.Blanks.{version, blanks}
 use Rattle.model.proofs.Dates.{shop_of, one_block, A, B, dates}
 use Rattle.model.proofs.Rules.{rules}

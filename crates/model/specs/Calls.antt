@@ -1,7 +1,7 @@
 -- "The calls" and "Refusals". Each call answers a refusal's number, 0 for an accepted call, and its other fields, all 0 in a refusal; and it says what
 -- the lent buffers are afterwards: as they were, in a refusal. The heading of each call gives its refusals in their order. These are the calls of a user who may make
 -- them; Rights.antt has them with their users.
-use Rattle.std.specs.Prelude.{ℕ, suc, ◌+◌, ◌*◌, Bool, true, false, cond, not, ◌&&◌, ◌||◌, List, [], ◌∷◌, ◌++◌, map, length, get_or, set, take, drop, replicate, eqb, ltb, leb}
+use Rattle.std.specs.Prelude.{ℕ, suc, ◌*◌, Bool, true, false, cond, not, ◌&&◌, ◌||◌, List, [], ◌∷◌, ◌++◌, map, length, get_or, set, take, drop, replicate, eqb, ltb, leb}
 use Rattle.std.proofs.Math.Option.{Option, none, some}
 use Rattle.lists.specs.Lists.{keep, count, total, last_of}
 use Rattle.model.specs.Measures.{Shape, in_range, table_words, pool_bytes}

@@ -1,5 +1,5 @@
 -- Backup, step 2: direct pointers of the till's previous held version turn blank or indirect.
-use Rattle.std.specs.Prelude.{ℕ, Bool, true, false, cond, List, map}
+use Rattle.std.specs.Prelude.{ℕ, cond, List, map}
 use Rattle.std.proofs.Math.Option.{Option, none, some}
 use Rattle.lists.specs.Lists.{keep, first_from, same_numbers, is_some}
 use Rattle.model.specs.State.{Block, Pointer, null_pointer, blank_pointer, direct, indirect, Storage}

@@ -1,12 +1,12 @@
 -- The header's words of the measures, test by test.
-use mathlib.Core.Path.{◌≡◌, refl, sym, ◌∙◌}
+use mathlib.Core.Path.{◌≡◌, sym}
 use mathlib.Core.Bool.{true, false}
 use mathlib.Core.List.{[], ◌∷◌}
 use Prim.Native.Nat.{ℕ, ◌<◌}
 use lib.ListN.{get_or}
 use lib.Dec.{eqb}
 use borrow.Author.Tests.{eq-eqb, ne_eqb}
-use Rattle.lists.specs.Lists.{all_of, all_zero, every}
+use Rattle.lists.specs.Lists.{all_zero, every}
 use Rattle.lists.proofs.Tests.{all_false, all_last, every_not}
 use Rattle.model.specs.Measures.{Measures, base_measures, is_base}
 use Rattle.model.specs.Table.{measure_word, measures_in}

@@ -6,7 +6,7 @@ use Prim.Native.Nat.{◌%◌, ◌*◌, ◌+◌, ◌-◌, ◌/◌, suc, zero, ℕ
 use native.Mathlib.Nat.{add-zero}
 use native.Mathlib.Numerals.{add-one}
 use native.Mathlib.Omega.{arith}
-use lib.ListN.{drop, get_or, length, length-append, length-drop, length-map, length-set, replicate, set, take}
+use lib.ListN.{drop, get_or, length, length-append, length-drop, length-map, length-set, set, take}
 use lib.Seq.{length-take-le}
 use Rattle.lists.specs.Lists.{all_zero}
 use Rattle.lists.specs.Masks.{mask_of}

@@ -4,11 +4,10 @@ use mathlib.Core.Bool.{true}
 use mathlib.Core.List.{List, [], ◌∷◌, ◌++◌}
 use mathlib.Core.Option.{none}
 use Prim.Native.Nat.{ℕ}
-use lib.ListN.{take, drop, replicate}
+use lib.ListN.{drop, replicate}
 use Rattle.lists.specs.Lists.{counted, every, keep, count, total, is_some, first_from, all_of, same_numbers, is_in, all_zero, largest, last_of}
 use Rattle.lists.specs.Rows.{joined, parts, chunks, fill}
 use Rattle.model.specs.Measures.{parts_for}
-use Rattle.model.specs.State.{State}
 use Rattle.model.specs.Image.{before_blanks, with_blanks, zero_block, blank_block, is_blank, is_bare, block_from, blocks_from, image_blocks, segments_from, image_segments}
 use Rattle.model.specs.Records.{free_segment, is_free, cells_of, named_cells, cell_at, position_at, equals}
 use Rattle.model.specs.Runs.{free_cells, better, scan, find_run}
@@ -16,10 +15,10 @@ use Rattle.model.specs.Place.{bare_pointer, bare_position, pointers_to, new_posi
 use Rattle.model.specs.Turn.{turns_to, target, turn, turning}
 use Rattle.model.specs.Sweep.{change_at, change_all, release, claim, moved, clear_cells, free_record, strike_only, compact, remove_from, sweep_record, sweep_from, sweep}
 use Rattle.model.specs.Trace.{hops_via, end_via, hops, end_of, block_at, traced_block, traced_blocks, image_of, longest_chain}
-use Rattle.model.specs.Calls.{empty_till, empty_state, till_of, held_from, with_till, newest_pointers, with_newest_pointers, newest_day, day_for, till_with, file_in, place_and_file, backup, restore_refusal, restore_from, restore, BackupAnswer, held_before, first_of, not_held, look_up}
+use Rattle.model.specs.Calls.{empty_till, empty_state, till_of, held_from, with_till, newest_pointers, with_newest_pointers, newest_day, day_for, till_with, file_in, place_and_file, backup, restore_refusal, restore_from, restore, held_before, first_of, not_held, look_up}
 use Rattle.model.proofs.Steps.{blocks, zeros, letters, ABCDEFGH, AIJKLMNO, ABIJKLMN, IJKLMNOP, QRSTUVWX}
-use Rattle.sent.specs.Sent.{segment_bytes, can_match, contents, zero_segment, first_with, had, offer_fits, offer, OfferAnswer, offer_answer, offer_in, go_on, take_sent, go_on_with, take_had, gather, cut_to, assembled, sent_fits, made, backup_on, backup_sent, backup_sent_in}
-use Rattle.sent.proofs.Steps.{Step, backed, offering, sending, shows, first_byte, prints, answers, after, holds_from, Row, holds, at_base, box}
+use Rattle.sent.specs.Sent.{segment_bytes, can_match, contents, zero_segment, first_with, had, offer_fits, offer, offer_answer, offer_in, go_on, take_sent, go_on_with, take_had, gather, cut_to, assembled, sent_fits, made, backup_on, backup_sent, backup_sent_in}
+use Rattle.sent.proofs.Steps.{backed, offering, sending, shows, first_byte, prints, answers, after, holds_from, Row, holds, at_base, box}
 
 rows : List Row
 rows =

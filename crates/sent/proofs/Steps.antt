@@ -1,13 +1,13 @@
 -- Lists of calls on a state, with what they answer, and fingerprints that many segments share.
 use Prim.Native.Nat.{ℕ}
-use mathlib.Core.Bool.{Bool, true, false, ◌&&◌}
+use mathlib.Core.Bool.{Bool, true, ◌&&◌}
 use mathlib.Core.List.{List, [], ◌∷◌}
 use mathlib.Core.Option.{none}
 use lib.ListN.{get_or, replicate}
 use lib.Dec.{eqb}
 use Rattle.lists.specs.Lists.{same_numbers}
 use Rattle.lists.specs.Rows.{rows}
-use Rattle.model.specs.Measures.{Measures, Capacities, Shape, base_measures}
+use Rattle.model.specs.Measures.{Capacities, Shape, base_measures}
 use Rattle.model.specs.State.{State, Outcome, refused, done}
 use Rattle.model.specs.Image.{Era}
 use Rattle.model.specs.Calls.{After, RestoreAnswer, backup, restore}

@@ -5,16 +5,13 @@ use mathlib.Core.List.{List, [], ◌∷◌, ◌++◌}
 use mathlib.Core.Option.{Option, none, some}
 use Prim.Native.Nat.{ℕ, zero, suc, ◌+◌, ◌-◌, ◌*◌, ◌≤◌, ◌<◌}
 use native.Mathlib.Nat.{add-zero, sub-zero, zero-mul, not-suc-le-zero, le_of_suc-le-suc}
-use native.Mathlib.Numerals.{add-one}
 use native.Mathlib.Omega.{arith}
 use lib.ListN.{length, get_or, take, drop}
 use lib.Seq.{drop-drop, take-take}
-use Rattle.lists.specs.Each.{Each}
 use Rattle.lists.specs.Lists.{total, all_zero, same_numbers}
 use Rattle.lists.specs.Rows.{parts}
 use Rattle.lists.proofs.Counts.{sum_next}
 use Rattle.lists.proofs.Cuts.{parts_next}
-use Rattle.lists.proofs.Each.{each_at}
 use Rattle.lists.proofs.Places.{row_next}
 use Rattle.lists.proofs.Slices.{drop_next, drop_end}
 use Rattle.lists.proofs.Tests.{by_test}
@@ -23,7 +20,7 @@ use Rattle.model.specs.Measures.{Measures, parts_for}
 use Rattle.model.specs.State.{Storage, Outcome, refused, done}
 use Rattle.laws.proofs.Measures.{parts_enough}
 use Rattle.sent.specs.Sent.{segment_bytes, had, Gathered, go_on, take_sent, go_on_with, take_had, gather, cut_to, assembled}
-use Rattle.sent.specs.Found.{print_at, Brings, or_twenty, sent_at, source, ended, Message}
+use Rattle.sent.specs.Found.{print_at, Brings, or_twenty, sent_at, source, ended}
 use Rattle.sent_laws.proofs.Numbers.{NotZero}
 
 module _ (m : Measures) (storage : Storage) where

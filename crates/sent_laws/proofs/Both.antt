@@ -1,29 +1,29 @@
 -- Both messages in turn: what the first marks is had in the second.
-use mathlib.Core.Path.{◌≡◌, refl, sym, ap, ◌∙◌, subst}
+use mathlib.Core.Path.{◌≡◌, refl, ap, ◌∙◌, subst}
 use mathlib.Core.Logic.{◌⊎◌, inl, inr}
 use mathlib.Core.Bool.{Bool, true, false, cond, not}
 use mathlib.Core.List.{List, [], ◌∷◌, ◌++◌, map}
 use mathlib.Core.Option.{Option, none, some}
-use Prim.Native.Nat.{ℕ, zero, suc, ◌≤◌}
+use Prim.Native.Nat.{ℕ, suc, ◌≤◌}
 use native.Mathlib.Nat.{suc-ne-zero}
 use native.Mathlib.Omega.{arith}
 use lib.ListN.{length}
 use lib.Dec.{eqb, leb, lit<}
 use Rattle.lists.specs.Lists.{is_some}
-use Rattle.lists.specs.Rows.{joined, rows, chunks}
+use Rattle.lists.specs.Rows.{rows, chunks}
 use Rattle.lists.specs.Each.{Each}
 use Rattle.lists.proofs.Each.{each_map, each_all}
 use Rattle.lists.proofs.Cuts.{chunks_joined}
 use Rattle.sha1_definition.specs.Sha1.{sha1}
 use Rattle.model.specs.Measures.{Measures, Shape}
-use Rattle.model.specs.State.{Storage, State, Outcome, refused, done}
+use Rattle.model.specs.State.{Storage, State, refused, done}
 use Rattle.model.specs.Table.{shape_of, state_in}
 use Rattle.model.specs.Sound.{Store, store_of}
 use Rattle.model.specs.Calls.{backup_of}
 use Rattle.laws.specs.Stores.{store_read}
 use Rattle.laws.proofs.Stores.{read_or_none}
 use Rattle.sent.specs.Sent.{Print, segments_of, had, offer_fits, OfferAnswer, offer, offer_answer, offer_in, offer_of}
-use Rattle.sent.specs.Claims.{sent_for, known_in, NoneShare, MarksFor, lacking, OfferedIsBackup}
+use Rattle.sent.specs.Claims.{sent_for, known_in, NoneShare, lacking, OfferedIsBackup}
 use Rattle.sent_laws.proofs.Gather.{AllHad}
 use Rattle.sent_laws.proofs.Theorems.{sent_if_had, sha1_wide}
 

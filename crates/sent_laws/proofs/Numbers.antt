@@ -7,7 +7,7 @@ use Prim.Native.Nat.{ℕ, zero, suc, ◌-◌}
 use native.Mathlib.Omega.{arith}
 use lib.ListN.{length, take, drop}
 use lib.Dec.{eqb, leb}
-use Rattle.lists.specs.Lists.{every, all_zero, same_numbers}
+use Rattle.lists.specs.Lists.{all_zero, same_numbers}
 use Rattle.lists.proofs.Tests.{by_test}
 use Rattle.model.specs.Measures.{Measures, Shape}
 use Rattle.model.specs.State.{Storage, State, Outcome, refused, done}

@@ -100,8 +100,7 @@ fn check_group(stream: &[u8], at: usize, left: usize) -> Place
     check_blocks(stream, at + 1, bits, left)
 }
 
-// A reader: the stream, and how far it has come. The borrow checker covers no function over a struct that holds a reference: each is thin, its work is
-// done on the slice and the place, and it is proved by hand.
+// A reader: the stream, and how far it has come. Each function over it is thin: its work is done on the slice and the place.
 #[derive(Clone, Copy)]
 pub struct Reader<'a> {
     pub stream: &'a [u8],
@@ -122,7 +121,7 @@ pub fn next_group<'a>(r: Reader<'a>, left: usize) -> Place
     check_group(r.stream, r.at, left)
 }
 
-// The same with no reader in its signature: whoever calls it needs no proof by hand.
+// The same with no reader in its signature.
 pub fn group_at(stream: &[u8], at: usize, left: usize) -> Place
     ensures { ReadsTo (read_group left (drop at stream.now)) stream.now result }
 {

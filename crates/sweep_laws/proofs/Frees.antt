@@ -8,10 +8,10 @@ use native.Mathlib.Nat.{zero-add}
 use native.Mathlib.Omega.{arith}
 use lib.ListN.{length, get_or, length-map}
 use Rattle.lists.specs.Each.{Each}
-use Rattle.lists.specs.Lists.{is_in, all_zero, counted, uses}
+use Rattle.lists.specs.Lists.{is_in, counted, uses}
 use Rattle.lists.proofs.Counted.{counted_is}
 use Rattle.lists.proofs.Sets.{map_at}
-use Rattle.lists.proofs.Uses.{in_uses, not_in, uses_here, uses_in, each_used}
+use Rattle.lists.proofs.Uses.{in_uses, not_in, uses_in}
 use Rattle.model.specs.Records.{named_cells, cells_of, cell_of}
 use Rattle.model.specs.Runs.{free_cells, Run, scan, find_run}
 use Rattle.model.specs.State.{Block, Segment, null_position, blank_position, held, removed, Storage}

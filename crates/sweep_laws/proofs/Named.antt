@@ -1,14 +1,12 @@
 -- The cells that the records name, marked.
 use mathlib.Core.Path.{◌≡◌, refl, sym, ap, ◌∙◌}
-use mathlib.Core.Bool.{Bool, true, false, cond, not, false≢true}
+use mathlib.Core.Bool.{Bool, true, false, cond, not}
 use mathlib.Core.List.{List, [], ◌∷◌, map}
 use Prim.Native.Nat.{ℕ, zero, suc, ◌+◌, ◌*◌, ◌/◌, ◌^◌, ◌≤◌, ◌<◌}
 use native.Mathlib.Nat.{zero-mul, eq_of_mul-eq-mul_right, le_of_mul-le-mul_right, mul-div_cancel}
 use native.Mathlib.Omega.{arith}
-use lib.ListN.{length, get_or, set, take, drop, replicate, length-set, length-map, length-replicate, get_or-replicate, get_or-map}
-use lib.Seq.{ext_get_or, get_or-set_same, get_or-set_other}
-use lib.Dec.{eqb}
-use borrow.Author.Tests.{eqb-true, eqb-false}
+use lib.ListN.{length, get_or, set, take, drop, replicate, length-map, length-replicate, get_or-replicate, get_or-map}
+use lib.Seq.{ext_get_or}
 use Rattle.lists.specs.Lists.{is_in, all_zero, every}
 use Rattle.lists.specs.Marks.{marked}
 use Rattle.lists.specs.Masks.{mask_of}
@@ -21,7 +19,7 @@ use Rattle.lists.proofs.Apart.{marked_at}
 use Rattle.model.specs.Measures.{Measures, record_words}
 use Rattle.model.specs.Records.{is_held, cell_of, cells_of, named_cells}
 use Rattle.model.specs.Runs.{free_cells}
-use Rattle.model.specs.State.{null_position, blank_position, held, removed, Segment, Storage, Block}
+use Rattle.model.specs.State.{Segment, Storage, Block}
 use Rattle.model.specs.Sound.{is_filled}
 use Rattle.model.specs.Table.{storage_in, records_in}
 use Rattle.laws.specs.Storage.{Exact}

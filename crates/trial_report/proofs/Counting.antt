@@ -1,5 +1,5 @@
 -- The counters after each kind of count, case by case. Assumes nothing.
-use Rattle.std.proofs.Common.{◌≡◌, ℕ, ◌+◌, ◌%◌, ◌^◌, ◌<◌, ◌≤◌, Bool, true, false, cond, not, eqb, ltb, List, get_or, set, sym, refl, ap, ◌∙◌, le-ltb, lt-ltb}
+use Rattle.std.proofs.Common.{◌≡◌, ℕ, ◌+◌, ◌%◌, ◌^◌, ◌<◌, ◌≤◌, Bool, true, false, not, eqb, ltb, List, get_or, set, sym, refl, le-ltb, lt-ltb}
 use Rattle.trial_report.specs.Counts.{added, added_if, raised, expected, unaltered, answered_with}
 
 pub add_done : (l m : List ℕ) (at n k s : ℕ) → k ≡ get_or l at 0 → s ≡ (k + n) % 2 ^ 64 → m ≡ set l at s → m ≡ added l at n

@@ -1,5 +1,4 @@
 use mathlib.Core.Path.{sym}
-use Prim.Native.Nat.{◌-◌}
 use borrow.Author.Tests.{eq-eqb, ne_eqb}
 use lib.Seq.{set_out}
 use Rattle.audit_counts.specs.Counters.{bumped}

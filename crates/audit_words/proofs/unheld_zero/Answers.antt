@@ -1,6 +1,5 @@
 use Rattle.lists.proofs.Checkers.{same_as}
 use native.Mathlib.Omega.{arith}
-use Prim.Native.Nat.{◌-◌}
 use borrow.Author.Count.{below_none}
 use Rattle.lists.proofs.Checkers.{is_so}
 use Rattle.audit_words.proofs.Disjoint.{clear_more}

@@ -1,7 +1,6 @@
 use borrow.Author.Rules.{rules}
 use mathlib.Core.Path.{refl, sym, ap, ◌∙◌}
 use mathlib.Core.Bool.{Bool, false, cond}
-use Prim.Native.Nat.{◌-◌}
 use Rattle.lists.proofs.Tests.{cond_self, cond_never}
 use Rattle.lists.proofs.Slices.{zero_next, zero_not}
 use Rattle.lists.proofs.Answers.{zero_end}

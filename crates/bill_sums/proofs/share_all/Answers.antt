@@ -2,12 +2,12 @@ use native.Mathlib.Omega.{arith}
 use borrow.Author.Rules.{rules}
 use mathlib.Core.Path.{◌≡◌, refl, sym, ap, ◌∙◌}
 use mathlib.Core.List.{List}
-use mathlib.Core.Logic.{⊎_elim}
 use Prim.Native.Nat.{ℕ, ◌*◌, ◌-◌}
 use lib.ListN.{length, get_or}
 use Rattle.bill_sums.specs.Marks.{shared, share_all}
 use Rattle.bill_sums.proofs.Passes.{share_none, shared_most, all_turn, all_done}
 use Rattle.bill_sums.proofs.share_all.Goals as goal
+use Rattle.bill_sums.proofs.share_all.Goals.{then-mark-ne0, else-mark-ne0}
 
 pub loop-i-init : goal.loop-i-init
 loop-i-init c = (omega arith, refl, refl, λ t. omega (arith, c.requires.4 t))
@@ -21,10 +21,10 @@ loop-i-preserved c =
     let met : (length c.if-mark-ne0.sums ≡ length c.loop-i.sums)
     × (c.if-mark-ne0.sums ≡ shared c.args.price (get_or c.args.marks.now c.loop-i.i 0) c.loop-i.sums) = (let a = c.args in
     let l = c.loop-i in
-    ⊎_elim
-    (λ w. (ap length w.5 ∙ w.2.kept.1.1.0, w.5 ∙ w.2.ensures))
-    (λ w. (ap length w.1, w.1 ∙ share_none _ _ _ ∙ ap (λ (n : ℕ). shared a.price n l.sums) (sym w.0.left)))
-    c.if-mark-ne0.branch) in
+    elim c.if-mark-ne0.branch [
+      then-mark-ne0 w ↦ (ap length w.sums-is ∙ w.share.auto.sums, w.sums-is ∙ w.share.ensures)
+    | else-mark-ne0 w ↦ (ap length w.sums-is, w.sums-is ∙ share_none _ _ _ ∙ ap (λ (n : ℕ). shared a.price n l.sums) (sym w.if-mark-ne0.false))
+    ]) in
     let l = c.loop-i in
     let m = met in (
       omega arith,

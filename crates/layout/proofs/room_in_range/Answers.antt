@@ -1,6 +1,5 @@
 use native.Mathlib.Omega.{arith}
 use mathlib.Core.Path.{sym, ◌∙◌}
-use mathlib.Core.Bool.{true, false}
 use Rattle.laws.proofs.Ranges.{measures_in_lem}
 use Rattle.layout.proofs.Laws.{out_of, by_cells}
 use Rattle.layout.specs.Layout.{shape}

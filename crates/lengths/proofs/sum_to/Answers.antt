@@ -1,7 +1,6 @@
 use native.Mathlib.Omega.{arith}
 use borrow.Author.Rules.{rules}
 use mathlib.Core.Path.{◌≡◌, ap, ◌∙◌}
-use Prim.Native.Nat.{◌-◌}
 use Rattle.lists.specs.Lists.{total}
 use Rattle.lists.proofs.Lengths.{part_from, part_next}
 use Rattle.lengths.proofs.sum_to.Goals as goal

@@ -1,7 +1,7 @@
 use native.Mathlib.Omega.{arith}
 use mathlib.Core.Path.{◌∙◌, refl, sym}
 use mathlib.Core.List.{[]}
-use Prim.Native.Nat.{◌+◌, ◌-◌, ◌≤◌}
+use Prim.Native.Nat.{◌+◌, ◌≤◌}
 use lib.ListN.{get_or, length}
 use Rattle.model.specs.Table.{records_in}
 use Rattle.storage.proofs.Along.{at_few, at_length, at_next, at_room, at_row, at_sized, at_start}

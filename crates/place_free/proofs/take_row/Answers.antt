@@ -1,7 +1,6 @@
 use native.Mathlib.Omega.{arith}
 use borrow.Author.Rules.{rules}
 use mathlib.Core.Path.{refl}
-use Prim.Native.Nat.{◌-◌}
 use Rattle.place_words.proofs.Cells.{acted_end, acted_next, acted_start}
 use Rattle.place_free.specs.Free.{without_cells}
 use Rattle.place_free.proofs.Searches.{taken_append, taken_none}

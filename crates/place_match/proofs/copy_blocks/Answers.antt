@@ -1,5 +1,4 @@
 use native.Mathlib.Omega.{arith}
-use Prim.Native.Nat.{◌-◌}
 use native.Mathlib.Nat.{zero-mul}
 use Rattle.lists.proofs.Places.{row_next}
 use Rattle.place_match.proofs.Copying.{block_low, copied_end, copied_room, copied_start, copied_step}

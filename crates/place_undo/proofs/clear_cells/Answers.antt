@@ -1,7 +1,6 @@
 use native.Mathlib.Omega.{arith}
 use borrow.Author.Rules.{rules}
 use mathlib.Core.Path.{refl}
-use Prim.Native.Nat.{◌-◌}
 use Rattle.model.specs.Sweep.{clear_cells}
 use Rattle.model.specs.Table.{cells_in}
 use Rattle.place_words.proofs.Cells.{acted_end, acted_next, acted_start}

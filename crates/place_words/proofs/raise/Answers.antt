@@ -1,5 +1,5 @@
 use mathlib.Core.Path.{ap, refl}
-use Prim.Native.Nat.{◌%◌, ◌+◌, ◌-◌, ◌<◌, ℕ}
+use Prim.Native.Nat.{◌%◌, ◌+◌, ◌<◌, ℕ}
 use native.Mathlib.Omega.{arith}
 use lib.ListN.{get_or, length}
 use Rattle.lists.specs.Walk.{next_same, out_more}

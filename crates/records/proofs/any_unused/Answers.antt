@@ -1,5 +1,4 @@
 use native.Mathlib.Omega.{arith}
-use Prim.Native.Nat.{◌-◌}
 use Rattle.lists.proofs.Checkers.{is_so, is_not}
 use Rattle.records.proofs.Unreferenced.{unseen_start, seen, unseen_next, unseen_end}
 use Rattle.records.proofs.any_unused.Goals as goal

@@ -1,7 +1,6 @@
 use native.Mathlib.Omega.{arith}
 use borrow.Author.Rules.{rules}
 use mathlib.Core.Path.{refl}
-use Prim.Native.Nat.{◌-◌}
 use Rattle.lists.specs.Rows.{fill}
 use Rattle.lists.proofs.Written.{part_more}
 use Rattle.records.proofs.Words.{part_filled}

@@ -1,4 +1,4 @@
-use Rattle.std.proofs.Common.{◌≡◌, ℕ, ◌-◌, List, ◌++◌, drop, set, sym, ap, ◌∙◌, append-nil, arith, length-set, take-append-drop, drop_of_length-le, rules}
+use Rattle.std.proofs.Common.{◌≡◌, ℕ, List, ◌++◌, drop, set, sym, ap, ◌∙◌, append-nil, arith, length-set, take-append-drop, drop_of_length-le, rules}
 use Rattle.sha1_definition.specs.Sha1.{mixed, schedule}
 use Rattle.sha1_chunk.proofs.Schedule.{extend_more}
 use Rattle.sha1_chunk.proofs.extend.Goals as goal

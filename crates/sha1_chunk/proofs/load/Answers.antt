@@ -1,4 +1,4 @@
-use Rattle.std.proofs.Common.{◌≡◌, ℕ, ◌-◌, List, ◌++◌, drop, set, refl, ap, ◌∙◌, ap₂, arith, length-set, rules}
+use Rattle.std.proofs.Common.{◌≡◌, ℕ, List, ◌++◌, drop, set, refl, ap, ◌∙◌, ap₂, arith, length-set, rules}
 use Rattle.sha1_definition.specs.Sha1.{chunk_word, schedule}
 use Rattle.sha1_chunk.proofs.Schedule.{load_more}
 use Rattle.sha1_chunk.proofs.load.Goals as goal

@@ -1,4 +1,4 @@
-use Rattle.std.proofs.Common.{◌≡◌, ℕ, ◌-◌, ◌*◌, replicate, ap, ◌∙◌, arith, rules}
+use Rattle.std.proofs.Common.{◌≡◌, ℕ, ◌*◌, replicate, ap, ◌∙◌, arith, rules}
 use Rattle.sha1_definition.specs.declared.State.{State}
 use Rattle.sha1_definition.specs.Sha1.{compress, absorbed}
 use Rattle.sha1_message.proofs.Loops.{same_none, same_more}

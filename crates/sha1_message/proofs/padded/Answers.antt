@@ -1,4 +1,4 @@
-use Rattle.std.proofs.Common.{ℕ, ◌-◌, List, set, replicate, refl, ap, ◌∙◌, arith, rules}
+use Rattle.std.proofs.Common.{ℕ, List, set, replicate, refl, ap, ◌∙◌, arith, rules}
 use Rattle.lists.proofs.Copies.{copy_more, mark_end}
 use Rattle.sha1_message.proofs.padded.Goals as goal
 

@@ -1,5 +1,4 @@
 use mathlib.Core.Path.{refl, ◌∙◌}
-use Prim.Native.Nat.{◌-◌}
 use lib.ListN.{length-set}
 use borrow.Author.Fill.{fill_none, fill_more}
 use Rattle.lists.proofs.Copies.{clear_all}
