@@ -60,8 +60,8 @@
  * 13 and 15 are no longer answered: any held version can be retired, and 17 and
  * 18 tell apart why a version is not held.
  *
- * Link with target/staticlib/liblurdempos.a, which `rt staticlib lurdempos`
- * proves and builds.
+ * Link with crates/lurdempos/out/liblurdempos.a, which `rt lib`, run in
+ * crates/lurdempos, proves and builds.
  */
 #ifndef LURDEMPOS_H
 #define LURDEMPOS_H

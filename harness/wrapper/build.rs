@@ -8,13 +8,13 @@ fn main() {
     let here = env::var_os("CARGO_MANIFEST_DIR").expect("cargo sets it");
     let folder = match env::var_os("LURDEMPOS_ARCHIVE") {
         Some(folder) => PathBuf::from(folder),
-        None => Path::new(&here).join("../../target/staticlib"),
+        None => Path::new(&here).join("../../crates/lurdempos/out"),
     };
     let archive = folder.join("liblurdempos.a");
     println!("cargo::rerun-if-changed={}", archive.display());
     if !archive.is_file() {
         println!(
-            "cargo::error={} is missing: run `rt staticlib lurdempos` at the repository's root first",
+            "cargo::error={} is missing: run `rt lib` in crates/lurdempos first",
             archive.display()
         );
         return;
