@@ -12,9 +12,9 @@ loop-i-init c = refl
 
 pub loop-i-preserved : goal.loop-i-preserved
 loop-i-preserved c = elim c.if-words-i-eq256.branch [
-      then-words-i-eq256 w ↦ rw w.none-is (sym (cond_never c.loop-i.none) ∙ ap (λ (t : Bool). cond c.loop-i.none t false) (sym (none_stop _ c.loop-i.i (search rules) w.if-words-i-eq256.true)) ∙ c.loop-i.invariant)
-    | else-words-i-eq256 w ↦ rw w.none-is (ap (λ (t : Bool). cond c.loop-i.none t false) (sym (none_next _ c.loop-i.i (search rules) w.if-words-i-eq256.false)) ∙ c.loop-i.invariant)
-    ]
+  | then-words-i-eq256 w ↦ rw w.none-is (sym (cond_never c.loop-i.none) ∙ ap (λ (t : Bool). cond c.loop-i.none t false) (sym (none_stop _ c.loop-i.i (search rules) w.if-words-i-eq256.true)) ∙ c.loop-i.invariant)
+  | else-words-i-eq256 w ↦ rw w.none-is (ap (λ (t : Bool). cond c.loop-i.none t false) (sym (none_next _ c.loop-i.i (search rules) w.if-words-i-eq256.false)) ∙ c.loop-i.invariant)
+]
 
 pub returns : goal.returns
 returns c = sym (cond_self c.loop-i.none) ∙ ap (λ (t : Bool). cond c.loop-i.none t false) (sym (none_end _ c.loop-i.i (search rules))) ∙ c.loop-i.invariant

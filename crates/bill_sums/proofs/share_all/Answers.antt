@@ -22,8 +22,8 @@ loop-i-preserved c =
     × (c.if-mark-ne0.sums ≡ shared c.args.price (get_or c.args.marks.now c.loop-i.i 0) c.loop-i.sums) = (let a = c.args in
     let l = c.loop-i in
     elim c.if-mark-ne0.branch [
-      then-mark-ne0 w ↦ (ap length w.sums-is ∙ w.share.auto.sums, w.sums-is ∙ w.share.ensures)
-    | else-mark-ne0 w ↦ (ap length w.sums-is, w.sums-is ∙ share_none _ _ _ ∙ ap (λ (n : ℕ). shared a.price n l.sums) (sym w.if-mark-ne0.false))
+      | then-mark-ne0 w ↦ (ap length w.sums-is ∙ w.share.auto.sums, w.sums-is ∙ w.share.ensures)
+      | else-mark-ne0 w ↦ (ap length w.sums-is, w.sums-is ∙ share_none _ _ _ ∙ ap (λ (n : ℕ). shared a.price n l.sums) (sym w.if-mark-ne0.false))
     ]) in
     let l = c.loop-i in
     let m = met in (
