@@ -67,7 +67,7 @@ by_past : {m t : ℕ} → First m t → (cs : List ℕ) → length cs ≤ t → 
 unfolding cells_by
 by_past f [] l = refl
 by_past (here e) (c ∷ cs) l = absurd (omega arith)
-by_past (later e f) (c ∷ cs) l = rw e (by_past f cs (omega arith))
+by_past {m = m} (later e f) (c ∷ cs) l = rw e (by_past {m = m / 2} f cs (omega arith))
 
 -- ---- a loop that marks the cells of a record
 

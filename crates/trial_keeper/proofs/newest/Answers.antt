@@ -1,0 +1,16 @@
+use Rattle.std.proofs.Common.{◌≡◌, ◌-◌, refl, subst, arith, rules}
+use Rattle.lists.specs.Lists.{counted, largest}
+use Rattle.trial_keeper.specs.Notes.{number_at, numbers, newest_of}
+use Rattle.trial_keeper.proofs.Places.{from, largest_more}
+use Rattle.trial_keeper.proofs.newest.Goals as goal
+
+pub loop-place-init : goal.loop-place-init
+unfolding largest counted
+loop-place-init c = (search rules, refl)
+
+pub loop-place-preserved : goal.loop-place-preserved
+loop-place-preserved c = (search rules, largest_more (number_at c.args.notes.now c.args.till) (c.loop-place.place - 1) c.loop-place.place c.number_at.result c.loop-place.most c.larger-most.result (omega arith) (omega arith) c.number_at.ensures c.loop-place.invariant.1 c.larger-most.ensures.0 c.larger-most.ensures.1)
+
+pub returns : goal.returns
+unfolding newest_of numbers
+returns c = subst (λ k. c.loop-place.most ≡ largest (from (number_at c.args.notes.now c.args.till) k)) (omega arith) c.loop-place.invariant.1
