@@ -3,11 +3,11 @@ use mathlib.Core.Path.{◌≡◌, refl, sym, ap, ap₂, ◌∙◌}
 use mathlib.Core.Bool.{Bool, true, false, cond}
 use mathlib.Core.List.{List, [], ◌∷◌, ◌++◌, map, map-map}
 use mathlib.Core.Option.{Option, none, some}
-use Prim.Native.Nat.{ℕ, ◌+◌, ◌-◌, ◌*◌, ◌/◌, ◌≤◌, ◌<◌}
+use Prim.Native.Nat.{ℕ, ◌+◌, ◌*◌, ◌/◌, ◌≤◌, ◌<◌}
 use native.Mathlib.Omega.{arith}
-use borrow.Author.Tests.{eqb-true, eq-eqb, leb-true}
+use borrow.Author.Tests.{eqb-true, eq-eqb}
 use lib.Dec.{eqb}
-use lib.ListN.{length, get_or, take, drop, length-drop, length-map, take-append-drop}
+use lib.ListN.{length, take, drop, length-drop, length-map, take-append-drop}
 use lib.Seq.{take_at, drop_at, drop-drop, take_all, length-take-le}
 use Rattle.lists.specs.Lists.{every, count, same_numbers, is_some}
 use Rattle.lists.specs.Rows.{joined, rows, parts, chunks}
@@ -19,7 +19,7 @@ use Rattle.lists.proofs.Same.{same_refl, same_eq}
 use Rattle.lists.proofs.Rows.{length_rows, wide_all}
 use Rattle.lists.proofs.Cuts.{length_parts, each_part, part_each, chunks_parts, rows_chunks}
 use Rattle.lists.proofs.Places.{rows_few}
-use Rattle.model.specs.Measures.{Shape, is_within, in_range, till_words, record_words, records_at, table_words, pool_bytes}
+use Rattle.model.specs.Measures.{Shape, in_range, till_words, record_words, records_at, table_words, pool_bytes}
 use Rattle.model.specs.State.{Block, Pointer, Storage, Version, Till, State, Segment}
 use Rattle.model.specs.Table.{header_to_words, record_to_words, till_to_words, state_to_words, segment_in, records_in, cells_in, storage_in, till_in, tills_in, tills_part, records_part, state_in}
 use Rattle.model.specs.Sound.{is_shaped, is_free_or_holds, is_till, leads_to, all_pointers, all_counted, is_sound, if_sound, has_lengths, store_as}

@@ -1,17 +1,17 @@
 -- A till's words lent out of the table, and back with a version filed.
-use mathlib.Core.Path.{◌≡◌, refl, sym, ap, ◌∙◌, subst}
+use mathlib.Core.Path.{◌≡◌, sym, ap, ◌∙◌}
 use mathlib.Core.List.{List, ◌++◌, map}
-use Prim.Native.Nat.{ℕ, ◌+◌, ◌-◌, ◌≤◌, ◌<◌}
+use Prim.Native.Nat.{ℕ, ◌-◌, ◌<◌}
 use native.Mathlib.Omega.{arith}
-use lib.ListN.{length, set, take, drop}
+use lib.ListN.{length, take, drop}
 use borrow.Rule.Slice.PartMut.{mid_of, put_mid}
 use Rattle.model.specs.Calls.{till_of, till_with, newest_pointers}
-use Rattle.model.specs.Measures.{Shape, till_words}
-use Rattle.model.specs.State.{Pointer, Till, State}
+use Rattle.model.specs.Measures.{till_words}
+use Rattle.model.specs.State.{Pointer, Till}
 use Rattle.model.specs.Table.{till_to_words, state_to_words, pointer_word}
 use Rattle.laws.specs.Stores.{till_at}
 use Rattle.laws.proofs.Stores.{till_is, till_put}
-use Rattle.backup.specs.Backup.{FilePre, FileResult}
+use Rattle.backup.specs.Backup.{FileResult}
 
 pub filed_on : (at end b : ℕ) (turned : List ℕ) (bytes day : ℕ) (pointers table out : List ℕ)
     → ((v : ℕ) (t : Till) (ps qs : List Pointer) → length t.versions < v → mid_of at (end - at) table ≡ till_to_words v b t → turned ≡ map pointer_word ps

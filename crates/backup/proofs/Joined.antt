@@ -1,25 +1,23 @@
 -- The premises of the steps, one after the other, from what the call begins with.
 use mathlib.Core.Path.{◌≡◌, refl, sym, ap, ◌∙◌, subst}
-use mathlib.Core.List.{List, [], map}
-use Prim.Native.Nat.{ℕ, zero, suc, ◌+◌, ◌*◌, ◌-◌, ◌/◌, ◌≤◌, ◌<◌}
+use mathlib.Core.List.{List, map}
+use Prim.Native.Nat.{ℕ, zero, suc, ◌+◌, ◌*◌, ◌-◌, ◌≤◌, ◌<◌}
 use native.Mathlib.Nat.{mul_assoc, mul_comm, mul-le-mul, mul-le-mul_left, mul-le-mul_right, suc-mul, zero-mul}
 use native.Mathlib.Omega.{arith}
-use lib.ListN.{length, get_or, take, drop, length-map, length-take}
+use lib.ListN.{length, get_or, take, drop, length-take}
 use lib.Seq.{length-take-le}
-use Rattle.model.specs.Measures.{Measures, parts_for, record_words, till_words, table_words, records_at}
-use Rattle.model.specs.State.{Till, State, Pointer, Outcome, refused, done}
-use Rattle.model.specs.Place.{Placed, place_all}
-use Rattle.model.specs.Image.{image_blocks, image_segments}
-use Rattle.model.specs.Table.{shape_of, state_in, till_to_words, state_to_words, pointer_word, word_to_pointer}
-use Rattle.model.specs.Turn.{turn}
-use Rattle.model.specs.Calls.{till_of, newest_pointers, backup_dated_of}
+use Rattle.model.specs.Measures.{Measures, parts_for, record_words, table_words, records_at}
+use Rattle.model.specs.State.{Pointer, Outcome, refused, done}
+use Rattle.model.specs.Place.{Placed}
+use Rattle.model.specs.Table.{shape_of, state_in, till_to_words, pointer_word, word_to_pointer}
+use Rattle.model.specs.Calls.{till_of, backup_dated_of}
 use Rattle.laws.specs.Ranges.{Measured}
 use Rattle.laws.proofs.Image.{blocks_length}
 use Rattle.laws.proofs.Remaining.{newest_suffices}
 use Rattle.laws.specs.Storage.{Suffices}
 use Rattle.laws.proofs.Measures.{sizes, parts_enough, parts_few, parts_least}
-use Rattle.laws.specs.Stores.{Sound, HeaderRanges, till_at}
-use Rattle.laws.proofs.Stores.{till_is, header, long, fit, fits, found}
+use Rattle.laws.specs.Stores.{Sound, till_at}
+use Rattle.laws.proofs.Stores.{till_is, header, long, fit, found}
 use Rattle.laws.proofs.Tills.{there, in_words, till_words_lem}
 use Rattle.tills.specs.declared.Head.{Head}
 use Rattle.tills.specs.Answers.{HeadOf}
@@ -27,7 +25,7 @@ use Rattle.tills.proofs.Cases.{till_size}
 use Rattle.backup_accept.specs.Accept.{Accepted}
 use Rattle.place.specs.All.{segments_in}
 use Rattle.chain.specs.Limit.{within}
-use Rattle.backup.specs.Backup.{measures_on, blocks_on, limited_on, StoreInPre, swept_state, StoreInDone, StoreInResult, FilePre, FileResult}
+use Rattle.backup.specs.Backup.{measures_on, blocks_on, limited_on, StoreInPre, swept_state, StoreInResult, FilePre, FileResult}
 use Rattle.backup.specs.Call.{newest_of, BackupPre}
 use Rattle.backup.proofs.Answers.{refused_answer, filed_answer}
 use Rattle.backup.proofs.Tills.{till_room, till_left, prev_pointed}

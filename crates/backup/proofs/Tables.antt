@@ -1,17 +1,16 @@
 -- The records of a sound table: lent to the steps, and back.
 use mathlib.Core.Path.{◌≡◌, refl, sym, ap, ◌∙◌, subst}
-use mathlib.Core.Bool.{true}
-use mathlib.Core.List.{List, [], ◌∷◌, ◌++◌, map}
-use Prim.Native.Nat.{ℕ, ◌+◌, ◌*◌, ◌-◌, ◌/◌, ◌≤◌, ◌<◌}
+use mathlib.Core.List.{List, [], ◌++◌, map}
+use Prim.Native.Nat.{ℕ, ◌*◌, ◌-◌, ◌≤◌}
 use native.Mathlib.Omega.{arith}
 use lib.ListN.{length, get_or, take, drop}
 use borrow.Rule.Slice.PartMut.{mid_of, put_mid}
-use Rattle.lists.specs.Rows.{joined, rows}
+use Rattle.lists.specs.Rows.{rows}
 use Rattle.model.specs.Image.{image_blocks, image_segments, with_blanks}
 use Rattle.lists.proofs.Rows.{length_rows}
 use Rattle.model.specs.Measures.{Measures, record_words, table_words, records_at}
 use Rattle.model.specs.Place.{Placed, place_all}
-use Rattle.model.specs.State.{Block, Pointer, Segment, Storage, State, Outcome, refused, done}
+use Rattle.model.specs.State.{Pointer, Storage, State, Outcome, refused, done}
 use Rattle.model.specs.Table.{shape_of, state_in, storage_in, state_to_words, state_to_bytes, record_to_words, word_to_pointer}
 use Rattle.laws.specs.Storage.{StorageFits, Suffices}
 use Rattle.laws.specs.Stores.{Sound}

@@ -1,7 +1,7 @@
 -- A sound till's words have room for its slots, and one more where it is accepted.
-use mathlib.Core.Path.{◌≡◌, refl, sym, ap, ◌∙◌, subst}
+use mathlib.Core.Path.{◌≡◌, sym, ap, ◌∙◌, subst}
 use mathlib.Core.List.{List, map}
-use Prim.Native.Nat.{ℕ, suc, ◌+◌, ◌*◌, ◌-◌, ◌/◌, ◌≤◌, ◌<◌}
+use Prim.Native.Nat.{ℕ, ◌+◌, ◌*◌, ◌≤◌, ◌<◌}
 use native.Mathlib.Nat.{mul-le-mul_right}
 use native.Mathlib.Omega.{arith}
 use lib.ListN.{length, get_or, length-map}
@@ -9,14 +9,14 @@ use Rattle.lists.specs.Each.{Each}
 use Rattle.lists.proofs.Each.{each_at, each_weaken}
 use Rattle.model.specs.Calls.{till_of, empty_till, newest_pointers}
 use Rattle.model.specs.Measures.{Measures, record_words}
-use Rattle.model.specs.State.{Version, Till}
+use Rattle.model.specs.State.{Till}
 use Rattle.model.specs.Table.{shape_of, state_in, till_to_words, pointer_word, word_to_pointer}
 use Rattle.laws.proofs.Fits.{VersionFits, TillFits}
 use Rattle.laws.proofs.Measures.{sizes}
 use Rattle.laws.proofs.RoundTrip.{length_till, held_word, last_word}
 use Rattle.laws.specs.Stores.{Sound}
 use Rattle.laws.proofs.Stores.{header, fits, found}
-use Rattle.laws.proofs.Tills.{there, few, last_most}
+use Rattle.laws.proofs.Tills.{there, few}
 use Rattle.backup_accept.specs.Accept.{HasRoomLeft}
 use Rattle.backup_file.specs.Filing.{Room, HasFreeSlot, FewBlocks, HasPointers, VersionsFit}
 use Rattle.backup_file.proofs.Slots.{few_blocks}

@@ -1,23 +1,22 @@
 -- The refusals in their order.
 use mathlib.Core.Path.{◌≡◌, refl, sym, ap, ◌∙◌}
-use mathlib.Core.Bool.{Bool, true, false, cond, ◌||◌}
+use mathlib.Core.Bool.{Bool, true, false, cond}
 use mathlib.Core.List.{List}
-use Prim.Native.Nat.{ℕ, zero, suc, ◌*◌, ◌≤◌, ◌<◌}
+use Prim.Native.Nat.{ℕ, ◌*◌, ◌≤◌, ◌<◌}
 use native.Mathlib.Nat.{mul_comm}
 use native.Mathlib.Omega.{arith}
 use lib.ListN.{length, get_or}
 use lib.Dec.{eqb, leb, ltb}
 use borrow.Author.Tests.{le-leb, lt-leb, leb-true, leb-false, eq-eqb, ne_eqb, eqb-true, eqb-false, lt-ltb, le-ltb, ltb-true, ltb-false}
-use Rattle.model.specs.Image.{with_blanks}
-use Rattle.model.specs.Calls.{BackupAnswer, till_of, newest_day, day_for, backup, backup_answer, backup_by, backup_in, backup_dated_of, place_and_file}
+use Rattle.model.specs.Calls.{till_of, newest_day, day_for, backup, backup_answer, backup_by, backup_in, backup_dated_of}
 use Rattle.model.specs.Measures.{Measures}
-use Rattle.model.specs.State.{State, Outcome, refused, done}
+use Rattle.model.specs.State.{State}
 use Rattle.model.specs.Table.{shape_of, state_in}
 use Rattle.laws.specs.Stores.{Sound, HeaderRanges}
 use Rattle.laws.proofs.Tills.{last_most}
 use Rattle.tills.specs.declared.Head.{Head}
 use Rattle.tills.specs.Answers.{HeadOf}
-use Rattle.backup_accept.specs.Accept.{most_bytes, HasRoomLeft, Accepted, refused_backup, till_refusal, dated_refusal, AcceptResult}
+use Rattle.backup_accept.specs.Accept.{most_bytes, HasRoomLeft, refused_backup, till_refusal, dated_refusal, AcceptResult}
 
 -- ---- 11 and 12, then 28, by their tests
 

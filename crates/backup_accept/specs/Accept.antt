@@ -1,10 +1,9 @@
 -- What holds of a backup that is not refused at once.
-use Rattle.std.specs.Prelude.{◌≡◌, List, cond, ℕ, zero, suc, ◌*◌, ◌≤◌, ◌<◌, length, get_or, eqb, leb, ltb}
+use Rattle.std.specs.Prelude.{◌≡◌, List, cond, ℕ, ◌*◌, ◌≤◌, ◌<◌, length, get_or, eqb, leb, ltb}
 use Rattle.model.specs.Measures.{Shape}
 use Rattle.model.specs.State.{State}
 use Rattle.model.specs.Calls.{BackupAnswer, till_of, newest_day, backup_dated_of}
 use Rattle.model.specs.Table.{shape_of, state_in}
-use Rattle.laws.specs.Stores.{Sound}
 
 -- the longest image's bytes
 abbrev pub most_bytes : List ℕ → ℕ

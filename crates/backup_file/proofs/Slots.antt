@@ -2,23 +2,23 @@
 use mathlib.Core.Path.{◌≡◌, refl, sym, ap, ap₂, ◌∙◌, subst}
 use mathlib.Core.List.{List, [], ◌∷◌, ◌++◌, map, append-nil, append_assoc}
 use Prim.Native.Nat.{ℕ, zero, suc, ◌+◌, ◌*◌, ◌-◌, ◌≤◌, ◌<◌}
-use native.Mathlib.Nat.{mul-le-mul_right, suc-mul, add-zero, add-suc, not-suc-le-zero}
+use native.Mathlib.Nat.{mul-le-mul_right, suc-mul, not-suc-le-zero}
 use native.Mathlib.Omega.{arith}
-use lib.ListN.{length, get_or, set, take, drop, replicate, length-append, length-map, length-drop, length-take, get_or-append}
+use lib.ListN.{length, get_or, take, drop, length-append, length-map, length-drop, length-take, get_or-append}
 use lib.Seq.{take_at, drop_at, get_or-append-add, length-take-le, drop-nil, get_or-take}
 use borrow.Rule.Slice.PartMut.{mid_of, put_mid}
 use Rattle.lists.specs.Each.{Each}
 use Rattle.lists.specs.Lists.{last_of}
 use Rattle.lists.specs.Rows.{fill, rows, joined}
-use Rattle.lists.proofs.Rows.{fill_split, fill_zeros, length_fill, fill_add, length_rows, wide_all, rows_append}
-use Rattle.lists.proofs.Slices.{mid_is, mid_put, drop_same, tail_is, tail_put, none_left}
+use Rattle.lists.proofs.Rows.{fill_split, length_fill, fill_add, rows_append}
+use Rattle.lists.proofs.Slices.{mid_is, mid_put, tail_is, tail_put, none_left}
 use Rattle.lists.proofs.Filled.{over_fill, over_zeros}
 use Rattle.model.specs.Measures.{parts_for}
 use Rattle.model.specs.State.{Pointer, Version, with_pointers, Rights, Till}
 use Rattle.model.specs.Table.{pointer_word, version_to_words, rights_word, till_to_words}
 use Rattle.model.specs.Calls.{newest_pointers, with_newest_pointers, till_with}
 use Rattle.laws.proofs.Newest.{newest_last, with_last}
-use Rattle.laws.proofs.RoundTrip.{length_version, length_till, held_word, last_word}
+use Rattle.laws.proofs.RoundTrip.{held_word, last_word}
 use Rattle.slots.proofs.Slots.{Ends, ends, front, front_length, rows_length, slot_head}
 use Rattle.laws.proofs.Measures.{parts_enough}
 use Rattle.backup_file.specs.Filing.{newest_at, Room, FewBlocks, HasPointers, VersionsFit, turned_till, added_till, SameHead, HasFreeSlot}

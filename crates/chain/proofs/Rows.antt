@@ -4,7 +4,7 @@ use mathlib.Core.Path.{◌≡◌, refl}
 use mathlib.Core.Bool.{Bool, true, cond, ◌&&◌}
 use mathlib.Core.List.{List, [], ◌∷◌, ◌++◌, map}
 use mathlib.Core.Option.{none}
-use lib.ListN.{length, set, replicate}
+use lib.ListN.{set, replicate}
 use lib.Dec.{eqb}
 use Rattle.lists.specs.Lists.{counted, every, keep, count, total, is_some, first_from, all_of, same_numbers, rises, is_in, distinct, all_zero, last_of}
 use Rattle.lists.specs.Rows.{joined, parts, parts_by, chunks, fill}

@@ -1,8 +1,8 @@
 -- Demand 3 on a chain: each of its stores is the one that its calls leave of it alone, and of that the theorem about one store speaks.
-use mathlib.Core.Path.{◌≡◌, refl, sym, ap, ap₂, subst, ◌∙◌}
+use mathlib.Core.Path.{◌≡◌, refl, sym, ap, subst, ◌∙◌}
 use mathlib.Core.Bool.{Bool, true, false, cond, false≢true}
-use mathlib.Core.List.{List, [], ◌∷◌, ◌++◌}
-use mathlib.Core.Option.{Option, some}
+use mathlib.Core.List.{List, [], ◌∷◌}
+use mathlib.Core.Option.{Option}
 use Prim.Native.Nat.{ℕ, ◌+◌, ◌≤◌, ◌<◌}
 use native.Mathlib.Nat.{suc-ne-zero}
 use native.Mathlib.Omega.{arith}
@@ -14,8 +14,6 @@ use Rattle.lists.proofs.Tests.{cond_self}
 use Rattle.model.specs.Measures.{Shape, table_words, pool_bytes}
 use Rattle.model.specs.State.{State}
 use Rattle.model.specs.Image.{Era}
-use Rattle.model.specs.Table.{state_to_words, state_to_bytes}
-use Rattle.model.specs.Sound.{store_of}
 use Rattle.model.specs.Calls.{empty_state, BackupAnswer, restore_refusal, listing_refusal}
 use Rattle.model.specs.Rights.{backup_refusal, backup_as, retire_refusal, version_on_refusal, tally_refusal}
 use Rattle.stream.specs.Stream.{stream_refusal}
@@ -24,9 +22,9 @@ use Rattle.bill.specs.Bill.{bill_refused}
 use Rattle.closing.specs.Closing.{all_refused}
 use Rattle.laws.proofs.Fits.{state_fits}
 use Rattle.laws.proofs.RoundTrip.{table_length_lem, pool_length}
-use Rattle.history.specs.Calls.{Call, call_layout, call_backup, call_restore, call_retire, call_listing, call_version_on, call_tally, call_bill, call_write_stream, call_offer, call_backup_sent, call_backup_all, call_set_rights, Buffers, Answer, backed_up, backed_up_all, refusal_in, refused_layout}
+use Rattle.history.specs.Calls.{Call, call_layout, call_backup, call_restore, call_retire, call_listing, call_version_on, call_tally, call_bill, call_write_stream, call_offer, call_backup_sent, call_backup_all, call_set_rights, Buffers, backed_up, backed_up_all, refusal_in, refused_layout}
 use Rattle.history.specs.Users.{UserCall, answer_by, buffers_by, buffers_after_all, refused_layouts, state_after_all}
-use Rattle.history.specs.Demand.{Demands, laid_out_in}
+use Rattle.history.specs.Demand.{Demands}
 use Rattle.history.proofs.Steps.{Represents, left_store, left_laid}
 use Rattle.history.proofs.Users.{left_by, left_all}
 use Rattle.history.proofs.Demand.{demand_3}
@@ -34,7 +32,7 @@ use Rattle.chain.specs.Chain.{Chain, store_count, pool_at, table_at, add_up, is_
 use Rattle.chain.specs.Limit.{occupied, all_cells, other_cells, is_over, within, backup_all_within}
 use Rattle.chain.specs.Calls.{chain_backup, chain_restore, chain_retire, chain_listing, chain_version_on, chain_tally, chain_bill, chain_write_stream, chain_offer, chain_backup_sent, chain_backup_all, chain_set_rights, backup_on_chain, all_on_chain, retire_on_chain, rights_on_chain}
 use Rattle.chain_history.specs.Calls.{ChainCall, buffers_at, with_buffers, answer_on, left_on, chain_after, chain_after_all, layouts_refused, unless_over, reaches, calls_to, all_calls_to}
-use Rattle.chain_history.specs.Demand.{Fresh, FreshChain, names_store, brings_limit, StoresServe, ChainDemands, ChainDemand3}
+use Rattle.chain_history.specs.Demand.{Fresh, FreshChain, names_store, brings_limit, StoresServe, ChainDemand3}
 use Rattle.chain_history.proofs.Puts.{LengthsAddUp, put, put_outside, put_lengths, put_here, put_other, not_refused, refused_outside, cells_put}
 use Rattle.chain_history.proofs.Steps.{after_append, refused_append, step_left, step_refused}
 

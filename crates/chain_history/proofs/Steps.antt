@@ -1,11 +1,9 @@
 -- A call on a chain leaves its store as the calls that the store gets by it leave it alone.
-use mathlib.Core.Path.{◌≡◌, refl, sym, ap, ap₂, ◌∙◌}
+use mathlib.Core.Path.{◌≡◌, refl, sym, ap}
 use mathlib.Core.Bool.{Bool, true, false, cond}
 use mathlib.Core.List.{List, [], ◌∷◌, ◌++◌}
-use mathlib.Core.Option.{none}
 use Prim.Native.Nat.{ℕ}
-use Rattle.model.specs.Image.{with_blanks}
-use Rattle.model.specs.Calls.{BackupAnswer, layout_of}
+use Rattle.model.specs.Calls.{BackupAnswer}
 use Rattle.model.specs.Rights.{backup_refusal, backup_as, set_rights_of}
 use Rattle.sent.specs.Sent.{backup_sent_as}
 use Rattle.closing.specs.Closing.{TillImage, images_in, closing_fits, all_refused}

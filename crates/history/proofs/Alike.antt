@@ -13,7 +13,7 @@ use Rattle.lists.specs.Rows.{fill}
 use Rattle.lists.specs.Each.{Each}
 use Rattle.model.specs.Measures.{Shape}
 use Rattle.model.specs.Image.{with_blanks}
-use Rattle.model.specs.State.{State, Outcome, refused}
+use Rattle.model.specs.State.{State, Outcome}
 use Rattle.model.specs.Sound.{is_sound}
 use Rattle.model.specs.Calls.{backup, After, state_or, outcome_refusal}
 use Rattle.model.specs.Rights.{to_back_up}

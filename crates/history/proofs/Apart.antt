@@ -29,7 +29,7 @@ use Rattle.laws.proofs.Unless.{unless_some}
 use Rattle.history.specs.Calls.{Call, call_layout, call_backup, call_restore, call_retire, call_listing, call_version_on, call_tally, call_bill, call_write_stream, call_offer, call_backup_sent, call_backup_all, call_set_rights, Buffers, Answer, restored, retired, listed, found_on, tallied, billed, streamed, backed_up_all, refusal_in, till_named}
 use Rattle.history.proofs.Calls.{answer_in}
 use Rattle.history.specs.Users.{buffers_by, answer_by, for_user, state_by, answer_in_by}
-use Rattle.history.specs.Keeper.{itself, comes_to}
+use Rattle.history.specs.Keeper.{comes_to}
 use Rattle.history.proofs.View.{view_at}
 use Rattle.history.specs.Demand.{laid_out_in}
 use Rattle.history.specs.Apart.{Item, both, first, second, Lacks, FromTill, IsFromTill, segments_met, InBoth, Differ, SameAnswer, Agree, NonInterference}
@@ -40,7 +40,7 @@ use Rattle.history.proofs.Reach.{one_sound}
 use Rattle.history.proofs.Local.{outcome_answer, NotFull}
 use Rattle.history.proofs.Same.{unless_same, refusal_same, plain_same, set_same}
 use Rattle.history.proofs.Bullets.{number_in}
-use Rattle.history.proofs.Alike.{room_left, made_other, Off, same, off_carried, one_off}
+use Rattle.history.proofs.Alike.{room_left, made_other, Off, off_carried, one_off}
 use Rattle.history.proofs.Both.{no_layout_on, off_one, sent_other, both_alike}
 
 answer_refusal : (o o' : Outcome After) → outcome_answer o ≡ outcome_answer o' → outcome_refusal o ≡ outcome_refusal o'

@@ -16,8 +16,8 @@ use Rattle.model.specs.Image.{with_blanks}
 use Rattle.model.specs.State.{State, Outcome, refused, done}
 use Rattle.model.specs.Table.{shape_of}
 use Rattle.model.specs.Sound.{Store, store_of}
-use Rattle.model.specs.Calls.{backup, After, outcome_refusal}
-use Rattle.model.specs.Rights.{has, to_back_up, refusal_at, unless}
+use Rattle.model.specs.Calls.{After, outcome_refusal}
+use Rattle.model.specs.Rights.{to_back_up, refusal_at, unless}
 use Rattle.sent.specs.Sent.{segment_bytes, contents, zero_segment, made, backup_sent}
 use Rattle.sent.specs.Claims.{known_in, NoneShare, segments_sent}
 use Rattle.closing.specs.Closing.{TillImage, images_in, closing_fits, backup_each, AllAnswer, all_refused, all_answer, backup_all, backup_all_as}
@@ -25,7 +25,7 @@ use Rattle.history.specs.Calls.{Call, call_layout, call_backup, call_restore, ca
 use Rattle.history.specs.Users.{UserCall, answer_by, refusal_by, for_user, state_by, answer_in_by}
 use Rattle.history.specs.Keeper.{image_or, image_sent, CallMade, backup_for, backups_made, closing_made, itself, comes_to}
 use Rattle.history.proofs.View.{TillView, is_on_till, changed, IsPlain}
-use Rattle.history.specs.Apart.{both, second, IsOn, FromTill, IsFromTill, sent_with, segments_met}
+use Rattle.history.specs.Apart.{IsOn, FromTill, IsFromTill, sent_with, segments_met}
 use Rattle.history.proofs.Steps.{Represents, left_store, closing_same}
 use Rattle.history.proofs.Users.{answer_by_lem}
 use Rattle.history.proofs.Carried.{carried, carried_other, images_few, sixteen}

@@ -17,7 +17,7 @@ use Rattle.model.specs.State.{State}
 use Rattle.model.specs.Trace.{longest_chain}
 use Rattle.laws.proofs.Tills.{not_held_some}
 use Rattle.model.specs.Sound.{store_of}
-use Rattle.model.specs.Calls.{till_of, held_from, BackupAnswer, backup_by, restore_of, restore_refusal, retire_of, listing_of, listing_refusal, RestoreAnswer, ListingAnswer, retire, backup, not_held}
+use Rattle.model.specs.Calls.{till_of, held_from, BackupAnswer, backup_by, restore_of, restore_refusal, retire_of, listing_of, listing_refusal, RestoreAnswer, ListingAnswer, not_held}
 use Rattle.model.specs.Rights.{to_back_up, to_restore, user_refusal, backup_refusal, restore_as}
 use Rattle.history.specs.Calls.{Call, call_backup, call_backup_sent, call_restore, call_retire, call_listing, Buffers, Answer, laid_out, backed_up, restored, retired, listed, found_on, tallied, billed, streamed, offered, backed_up_all, rights_set, refusal_in, till_named}
 use Rattle.history.proofs.Calls.{answer_of}

@@ -15,7 +15,7 @@ use Rattle.model.specs.Measures.{Shape}
 use Rattle.model.specs.Image.{with_blanks}
 use Rattle.model.specs.State.{State, refused, done}
 use Rattle.model.specs.Sound.{is_sound, Store}
-use Rattle.model.specs.Calls.{backup, state_or, outcome_refusal}
+use Rattle.model.specs.Calls.{state_or, outcome_refusal}
 use Rattle.model.specs.Rights.{to_back_up, refusal_at}
 use Rattle.sha1_definition.specs.Sha1.{sha1}
 use Rattle.sent.specs.Sent.{backup_sent}

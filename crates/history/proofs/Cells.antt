@@ -3,25 +3,25 @@ use mathlib.Core.Path.{◌≡◌, refl, sym, ap, ap₂, ◌∙◌, subst}
 use mathlib.Core.Logic.{◌↔◌}
 use mathlib.Core.Bool.{Bool, true, false, cond, false≢true}
 use mathlib.Core.List.{List, [], ◌∷◌, map}
-use Prim.Native.Nat.{ℕ, suc, ◌-◌, ◌<◌}
+use Prim.Native.Nat.{ℕ, suc, ◌<◌}
 use native.Mathlib.Nat.{not-suc-le-zero}
 use native.Mathlib.Omega.{arith}
 use lib.ListN.{get_or}
-use lib.Dec.{eqb, ltb}
+use lib.Dec.{ltb}
 use borrow.Author.Tests.{eqb-true, ltb-true, ltb-false}
-use Rattle.lists.specs.Lists.{every, count, rises, is_in, uses}
+use Rattle.lists.specs.Lists.{every, count, rises, is_in}
 use Rattle.lists.specs.Rows.{joined}
 use Rattle.lists.proofs.Counts.{count_append}
 use Rattle.lists.proofs.Rises.{rises_first}
 use Rattle.lists.proofs.Tests.{clause, every_head, every_tail}
-use Rattle.lists.proofs.Uses.{in_uses, uses_append, uses_in}
+use Rattle.lists.proofs.Uses.{in_uses, uses_in}
 use Rattle.model.specs.Measures.{Shape}
-use Rattle.model.specs.State.{Pointer, null_pointer, blank_pointer, direct, indirect, null_position, blank_position, held, removed, Segment, Storage, Version, Till, State}
-use Rattle.model.specs.Records.{is_held, cell_of, cells_of, named_cells, position_at}
+use Rattle.model.specs.State.{Pointer, null_pointer, blank_pointer, direct, indirect, null_position, Segment, Storage, Version, Till, State}
+use Rattle.model.specs.Records.{cell_of, named_cells, position_at}
 use Rattle.model.specs.Sound.{is_sound, is_till, is_numbered, leads_to, next_pointers, all_pointers}
 use Rattle.model.specs.Calls.{empty_till, till_of, held_from}
 use Rattle.laws.proofs.Sweep.{count_in, named_one}
-use Rattle.laws.proofs.Counts.{at, held_positive}
+use Rattle.laws.proofs.Counts.{held_positive}
 use Rattle.laws.proofs.Place.{held_named}
 use Rattle.laws.proofs.Named.{record_of, position_of_lem}
 use Rattle.laws.proofs.Serves.{pointers_of, Valid, sound_valid}

@@ -2,8 +2,7 @@
 use mathlib.Core.Path.{◌≡◌, refl, sym, ap, ◌∙◌, subst}
 use mathlib.Core.Bool.{Bool, true, false, cond}
 use mathlib.Core.List.{List, [], ◌∷◌}
-use mathlib.Core.Option.{none}
-use Prim.Native.Nat.{ℕ, zero, suc, ◌-◌, ◌≤◌}
+use Prim.Native.Nat.{ℕ, zero, suc, ◌≤◌}
 use native.Mathlib.Omega.{arith}
 use lib.ListN.{length, get_or, set, replicate, length-set, length-replicate}
 use lib.Seq.{get_or-set_same, get_or-set_other, set-get_or, set_out}
@@ -18,7 +17,7 @@ use Rattle.laws.proofs.Fits.{Proper}
 use Rattle.history.specs.Calls.{Call, call_layout, call_backup, call_restore, call_retire, call_listing, call_version_on, call_tally, call_bill, call_write_stream, call_offer, call_backup_sent, call_backup_all, call_set_rights, Buffers, refusal_in, till_named}
 use Rattle.history.proofs.Calls.{state_after, answer_in, is_accepted}
 use Rattle.history.specs.Users.{UserCall, buffers_by, state_by, refused_layouts, state_after_all}
-use Rattle.history.specs.Keeper.{KeptTill, Keeper, no_till, fresh_keeper, kept_till, filed, struck_out, change, fed, CallMade, fed_each, comes_to, fed_all}
+use Rattle.history.specs.Keeper.{KeptTill, Keeper, no_till, fresh_keeper, kept_till, change, fed, CallMade, fed_each, comes_to, fed_all}
 use Rattle.history.proofs.View.{TillView, view_versions, view_of, view_at, changed, IsPlain}
 use Rattle.history.proofs.Kept.{AgreeTill, till_filed, till_struck, till_rights}
 use Rattle.history.proofs.Shown.{shown_numbers}

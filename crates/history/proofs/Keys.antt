@@ -6,9 +6,9 @@ use mathlib.Core.Option.{some, none-ne-some, some-injective}
 use Prim.Native.Nat.{ℕ, zero, suc, ◌≤◌}
 use lib.ListN.{length}
 use lib.Dec.{eqb, ltb, leb}
-use borrow.Author.Tests.{eqb-true, eq-eqb, ne_eqb, le-leb}
+use borrow.Author.Tests.{eqb-true, le-leb}
 use Rattle.model.specs.Measures.{Shape}
-use Rattle.model.specs.State.{Rights, staff, State, refused}
+use Rattle.model.specs.State.{Rights, staff, State}
 use Rattle.model.specs.Sound.{store_of}
 use Rattle.lists.specs.Rows.{fill}
 use Rattle.bill.specs.Bill.{bill, bill_refused, bill_in, bill_of, bill_as}

@@ -16,18 +16,17 @@ use Rattle.model.specs.Measures.{Shape}
 use Rattle.model.specs.Image.{with_blanks}
 use Rattle.model.specs.State.{State, Outcome, refused, done}
 use Rattle.model.specs.Calls.{till_of, outcome_refusal}
-use Rattle.model.specs.Rights.{has}
 use Rattle.sent.specs.Sent.{segment_bytes, contents, zero_segment, assembled, sent_fits, made, backup_on, backup_sent}
 use Rattle.sent.specs.Claims.{NoneShare, segments_sent}
 use Rattle.sent_laws.proofs.Alike.{assembled_alike}
 use Rattle.history.specs.Calls.{call_backup, till_named}
 use Rattle.history.proofs.Calls.{answer_in}
 use Rattle.history.proofs.View.{TillView, view_of, view_at}
-use Rattle.history.specs.Apart.{both, second, IsFromTill}
+use Rattle.history.specs.Apart.{IsFromTill}
 use Rattle.history.proofs.Shown.{views_length}
 use Rattle.history.proofs.Local.{outcome_answer}
 use Rattle.history.proofs.Same.{plain_same}
-use Rattle.history.proofs.Alike.{room_left, same}
+use Rattle.history.proofs.Alike.{room_left}
 
 -- ---- segments of which no two different ones share a fingerprint
 

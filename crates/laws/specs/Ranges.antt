@@ -1,8 +1,8 @@
--- The ranges of the eight capacities as numbers, as code needs them; `inRange` of the model tells whether they hold.
+-- The ranges of the eight capacities as numbers, as code needs them; `in_range` of the model tells whether they hold.
 use Rattle.std.specs.Prelude.{◌≡◌, ◌*◌, ◌%◌, ◌≤◌}
 use Rattle.model.specs.Measures.{Measures, Shape}
 
--- That a block's bytes are one of four and a segment's blocks one of three is told by `inRange` alone.
+-- That a block's bytes are one of four and a segment's blocks one of three is told by `in_range` alone.
 pub record Measured (m : Measures) : Type 0 where
   pub some_bytes : 64 ≤ m.block_bytes
   pub most_bytes : m.block_bytes ≤ 512

@@ -1,12 +1,12 @@
 -- The refusals of a restore, and the accepted call.
-use mathlib.Core.Path.{◌≡◌, refl, sym, ap, ◌∙◌}
+use mathlib.Core.Path.{◌≡◌, refl, sym, ◌∙◌}
 use mathlib.Core.List.{List, [], ◌∷◌}
 use Prim.Native.Nat.{ℕ, ◌≤◌, ◌<◌}
 use lib.ListN.{get_or, take, drop}
 use borrow.Author.Tests.{le-leb, lt-leb}
 use Rattle.model.specs.State.{Version}
 use Rattle.model.specs.Table.{shape_of, state_in}
-use Rattle.model.specs.Calls.{RestoreAnswer, till_of, Lookup, missing, first_of, look_up, restore_refusal, restore_from, restore, restore_in, restore_of}
+use Rattle.model.specs.Calls.{till_of, Lookup, missing, first_of, look_up, restore_refusal, restore_from, restore, restore_in, restore_of}
 use Rattle.laws.specs.Stores.{Sound}
 use Rattle.tills.specs.declared.Found.{Found}
 use Rattle.tills.specs.Answers.{LookedUp, versions_held}

@@ -1,22 +1,22 @@
 -- The records and the slots that the tracing is lent, and the accepted call.
-use mathlib.Core.Path.{◌≡◌, refl, sym, ap, ap₂, ◌∙◌, subst}
+use mathlib.Core.Path.{◌≡◌, sym, ap, ap₂, ◌∙◌, subst}
 use mathlib.Core.Bool.{Bool, true, false, cond}
 use mathlib.Core.List.{List, [], ◌∷◌, ◌++◌}
 use Prim.Native.Nat.{ℕ, zero, suc, ◌+◌, ◌*◌, ◌-◌, ◌≤◌, ◌<◌}
 use native.Mathlib.Nat.{mul-le-mul_right, add-mul, suc-mul, mul-le-mul}
 use native.Mathlib.Omega.{arith}
 use lib.ListN.{length, get_or, take, drop, length-drop}
-use lib.Seq.{drop-drop, take-take, get_or-take, get_or-drop}
+use lib.Seq.{get_or-take}
 use borrow.Author.Tests.{le-ltb, lt-ltb}
-use lib.Dec.{ltb, lit<}
+use lib.Dec.{ltb}
 use Rattle.lists.specs.Rows.{parts, rows}
 use Rattle.lists.proofs.Slices.{tail_all, part_part}
 use Rattle.model.specs.Measures.{Measures, Shape, parts_for, till_words, record_words, table_words, records_at}
-use Rattle.model.specs.State.{Storage, Version, Till, State}
-use Rattle.model.specs.Table.{shape_of, state_in, storage_in, version_in, versions_in, version_to_words, till_to_words, records_part, state_to_words, state_to_bytes}
+use Rattle.model.specs.State.{Storage, Version, State}
+use Rattle.model.specs.Table.{shape_of, state_in, storage_in, version_in, versions_in, version_to_words, till_to_words}
 use Rattle.model.specs.Sound.{is_sound}
 use Rattle.model.specs.Trace.{image_of, longest_chain}
-use Rattle.model.specs.Calls.{RestoreAnswer, empty_till, till_of, restore_refusal, restore_from, first_of}
+use Rattle.model.specs.Calls.{empty_till, till_of, restore_refusal, restore_from, first_of}
 use Rattle.laws.proofs.Measures.{parts_enough, sizes}
 use Rattle.laws.specs.Stores.{till_at, Sound}
 use Rattle.laws.proofs.Stores.{found, header, long}
@@ -27,7 +27,7 @@ use Rattle.tills.specs.Answers.{HeadOf}
 use Rattle.storage.specs.Stored.{Stored}
 use Rattle.restore.specs.Answers.{Lent}
 use Rattle.sound_laws.proofs.Storage.{words_of, sound_storage, sound_stored}
-use Rattle.sound_laws.proofs.Slots.{held_versions_lem, slots_are, slots_read, sound_traceable, sound_direct, sound_blocks}
+use Rattle.sound_laws.proofs.Slots.{slots_are, slots_read, sound_traceable, sound_direct, sound_blocks}
 
 -- ---- the first version in the slots
 

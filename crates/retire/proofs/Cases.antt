@@ -1,20 +1,20 @@
 -- A retire, step by step and case by case.
 use mathlib.Core.Path.{◌≡◌, refl, sym, ap, ap₂, ◌∙◌, subst}
 use mathlib.Core.List.{List, [], ◌∷◌, ◌++◌, map}
-use Prim.Native.Nat.{ℕ, zero, suc, ◌+◌, ◌*◌, ◌-◌, ◌^◌, ◌≤◌, ◌<◌, zero-le}
+use Prim.Native.Nat.{ℕ, suc, ◌+◌, ◌*◌, ◌-◌, ◌^◌, ◌≤◌, ◌<◌, zero-le}
 use native.Mathlib.Nat.{mul-le-mul, mul-le-mul_right}
 use native.Mathlib.Omega.{arith}
 use lib.ListN.{length, get_or, set, take, drop, replicate, length-take, length-drop, length-map, length-append, length-replicate, take-append-drop}
-use lib.Seq.{get_or-take, get_or-drop, take-take, drop-drop, take_at, length-take-le}
+use lib.Seq.{take_at, length-take-le}
 use borrow.Author.Tests.{le-leb, lt-leb}
 use Rattle.lists.specs.Lists.{last_of}
 use Rattle.lists.proofs.Last.{last_each}
 use Rattle.lists.specs.Rows.{rows}
 use Rattle.lists.specs.Each.{Each}
 use Rattle.lists.proofs.Each.{each_at, each_take}
-use Rattle.lists.proofs.Slices.{drop_end, drop_next, take_next, tail_all, part_part, part_get}
+use Rattle.lists.proofs.Slices.{drop_next, take_next, part_part, part_get}
 use Rattle.model.specs.Measures.{Measures, Shape, Capacities, parts_for, till_words, record_words, table_words, records_at}
-use Rattle.model.specs.State.{Pointer, Version, Rights, Till, Storage, State, Outcome, refused, done}
+use Rattle.model.specs.State.{Pointer, Version, Rights, Till, Storage, State}
 use Rattle.model.specs.Records.{count_of}
 use Rattle.model.specs.Sweep.{release, claim, sweep}
 use Rattle.model.specs.Table.{pointer_word, word_to_pointer, version_to_words, till_to_words, record_to_words, records_part, records_in, shape_of, state_in, storage_in, state_to_words, state_to_bytes}
@@ -30,7 +30,7 @@ use Rattle.laws.proofs.Stores.{till_is, till_put, records_put, header, found, fi
 use Rattle.laws.proofs.Tills.{there, till_words_lem, few, in_words, slot_in}
 use Rattle.sound_laws.proofs.Records.{part_is, storage_is}
 use Rattle.restore_trace.specs.Versions.{no_version}
-use Rattle.storage.specs.Stored.{Encodes, Stored, position_in}
+use Rattle.storage.specs.Stored.{Encodes, position_in}
 use Rattle.storage.specs.Fits.{WithinRecords, NamesHeld}
 use Rattle.slots.specs.Slots.{HasSlot}
 use Rattle.sound_laws.proofs.Slots as slots

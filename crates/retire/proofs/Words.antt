@@ -2,7 +2,7 @@
 use mathlib.Core.Path.{◌≡◌, refl, sym, ap, ◌∙◌}
 use mathlib.Core.Bool.{Bool, true, false, cond}
 use mathlib.Core.List.{List, [], ◌∷◌, ◌++◌, map}
-use Prim.Native.Nat.{ℕ, zero, suc, ◌+◌, ◌*◌, ◌/◌, ◌%◌, ◌≤◌, ◌<◌}
+use Prim.Native.Nat.{ℕ, zero, suc, ◌+◌, ◌*◌, ◌/◌, ◌%◌, ◌<◌}
 use native.Mathlib.Omega.{arith}
 use lib.ListN.{length, get_or, take, drop, length-map, get_or-map}
 use lib.Seq.{get_or-append-add, length-take-le, get_or-drop}
@@ -13,7 +13,6 @@ use Rattle.model.specs.State.{Pointer, null_pointer, blank_pointer, direct, indi
 use Rattle.model.specs.Table.{kind_unit, pointer_word, pointer_of, word_to_pointer}
 use Rattle.model.specs.Calls.{taken, take_over}
 use Rattle.laws.proofs.Fits.{PointerFits}
-use Rattle.laws.proofs.RoundTrip.{pointers_back}
 use Rattle.retire.specs.Answers.{taken_word, take_over_word}
 
 -- ---- what is taken

@@ -1,5 +1,5 @@
 -- What the steps of a retire require and do, and what its answer says.
-use Rattle.std.specs.Prelude.{◌≡◌, cond, List, [], map, ℕ, suc, ◌/◌, ◌%◌, ◌≤◌, ◌<◌, length, get_or, take, drop, eqb}
+use Rattle.std.specs.Prelude.{◌≡◌, cond, List, map, ℕ, suc, ◌/◌, ◌%◌, ◌≤◌, ◌<◌, length, get_or, take, drop, eqb}
 use Rattle.model.specs.Measures.{Shape, parts_for, till_words}
 use Rattle.model.specs.State.{Pointer, Version, State}
 use Rattle.model.specs.Sweep.{release, claim, sweep}

@@ -14,7 +14,7 @@ use Rattle.lists.proofs.Rows.{fill_split, Wide, wide_all, length_rows, row_appen
 use Rattle.model.specs.Measures.{Capacities, Shape, parts_for}
 use Rattle.model.specs.Sound.{is_sound}
 use Rattle.model.specs.State.{null_pointer, Pointer, Version, State}
-use Rattle.model.specs.Table.{word_to_pointer, pointer_of, pointer_word, version_to_words, version_in, till_to_words}
+use Rattle.model.specs.Table.{word_to_pointer, pointer_of, pointer_word, version_to_words, till_to_words}
 use Rattle.laws.proofs.Fits.{PointerFits, VersionFits}
 use Rattle.laws.proofs.RoundTrip.{pointers_back, length_version}
 use Rattle.restore_trace.specs.Versions.{no_version}

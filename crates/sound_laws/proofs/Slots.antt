@@ -1,6 +1,6 @@
 -- A sound till's slots are what tracing requires.
 use mathlib.Core.Path.{◌≡◌, refl, sym, ap, ◌∙◌, subst}
-use mathlib.Core.Bool.{Bool, true, not, false≢true}
+use mathlib.Core.Bool.{Bool, true}
 use mathlib.Core.List.{List, [], ◌∷◌, ◌++◌, map, append-nil}
 use Prim.Native.Nat.{ℕ, zero, suc, ◌+◌, ◌-◌, ◌*◌, ◌≤◌, ◌<◌}
 use native.Mathlib.Nat.{mul-le-mul_right}
@@ -13,16 +13,16 @@ use Rattle.lists.specs.Rows.{rows, fill, parts, joined}
 use Rattle.lists.proofs.Cuts.{parts_rows}
 use Rattle.lists.proofs.Each.{each_at, each_drop, each_weaken}
 use Rattle.lists.proofs.Places.{row_room}
-use Rattle.lists.proofs.Rows.{Wide, wide_all, length_rows, fill_split, drop_rows, row_append}
+use Rattle.lists.proofs.Rows.{Wide, wide_all, length_rows, fill_split, drop_rows}
 use Rattle.lists.proofs.Tests.{every_head, every_tail, clause, every_at}
-use Rattle.model.specs.Measures.{Capacities, Shape, parts_for, till_words, record_words, header_words}
+use Rattle.model.specs.Measures.{Capacities, Shape, parts_for, record_words}
 use Rattle.model.specs.Records.{position_at}
-use Rattle.model.specs.Sound.{next_pointers, is_null, resolves, are_traceable, is_sound, is_till}
+use Rattle.model.specs.Sound.{next_pointers, resolves, are_traceable, is_sound, is_till}
 use Rattle.model.specs.Calls.{empty_till}
 use Rattle.model.specs.State.{Storage, Version, Pointer, null_pointer, blank_pointer, direct, indirect, State, Till, Segment}
-use Rattle.model.specs.Table.{version_in, version_to_words, till_to_words, versions_in, state_to_words, header_to_words, record_to_words}
+use Rattle.model.specs.Table.{version_in, version_to_words, till_to_words, versions_in}
 use Rattle.laws.proofs.Fits.{record_in_lem, held_in, TillFits, VersionFits, pointer_in}
-use Rattle.laws.proofs.RoundTrip.{length_version, version_back, length_till}
+use Rattle.laws.proofs.RoundTrip.{length_version, version_back}
 use Rattle.storage.specs.Fits.{WithinRecords, NamesHeld}
 use Rattle.restore_trace.specs.Versions.{no_version, pointers_at, IndirectBelow, Traceable, DirectWithin}
 use Rattle.sound_laws.proofs.Storage.{fits, few_versions, few_blocks, words_of, words_length}

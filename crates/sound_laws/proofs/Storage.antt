@@ -1,16 +1,12 @@
 -- A sound state's bytes and records' words are what the sweep requires.
 use mathlib.Core.Path.{◌≡◌, refl, sym, ap, ◌∙◌, subst}
 use mathlib.Core.Bool.{true}
-use mathlib.Core.List.{List, [], ◌∷◌}
+use mathlib.Core.List.{List}
 use Prim.Native.Nat.{ℕ, ◌*◌, ◌≤◌}
 use native.Mathlib.Nat.{mul-le-mul_right}
 use native.Mathlib.Omega.{arith}
-use lib.ListN.{length, get_or}
-use lib.Dec.{leb}
-use borrow.Author.Tests.{leb-true}
-use Rattle.lists.specs.Lists.{all_of}
-use Rattle.lists.proofs.Tests.{clause}
-use Rattle.model.specs.Measures.{Capacities, Shape, record_words, is_within, in_range}
+use lib.ListN.{length}
+use Rattle.model.specs.Measures.{Capacities, Shape, record_words}
 use Rattle.model.specs.Sound.{is_sound}
 use Rattle.model.specs.State.{State, Storage}
 use Rattle.model.specs.Table.{records_part, state_to_words, state_to_bytes, storage_in}

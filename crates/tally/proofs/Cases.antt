@@ -1,7 +1,7 @@
 -- A record's tally, a row further, and the records of a sound store.
 use mathlib.Core.Path.{◌≡◌, refl, sym, ap, ◌∙◌, subst}
 use mathlib.Core.Bool.{cond, not}
-use mathlib.Core.List.{List, [], ◌∷◌, ◌++◌, map}
+use mathlib.Core.List.{List, [], ◌∷◌, map}
 use Prim.Native.Nat.{ℕ, zero, suc, ◌+◌, ◌*◌, ◌-◌, ◌/◌, ◌≤◌, ◌<◌}
 use native.Mathlib.Nat.{zero-add, add-zero, zero-mul, suc-mul, mul-le-mul, mul-le-mul_right}
 use native.Mathlib.Omega.{arith}
@@ -17,7 +17,7 @@ use Rattle.lists.proofs.Counts.{count_most, sum_map}
 use Rattle.lists.proofs.Masks.{ones_mask}
 use Rattle.lists.proofs.Places.{rows_few}
 use Rattle.lists.proofs.Slices.{drop_next, drop_end, tail_all}
-use Rattle.model.specs.Measures.{Measures, record_words, table_words, records_at}
+use Rattle.model.specs.Measures.{Measures, record_words, records_at}
 use Rattle.model.specs.State.{null_position, blank_position, held, removed, Segment}
 use Rattle.model.specs.Records.{is_held, is_removed, is_free, cell_of, cells_of, named_cells, count_of, is_blank_position}
 use Rattle.model.specs.Table.{record_to_words, segment_in, records_in, shape_of, state_in, storage_in, records_part}
@@ -25,7 +25,7 @@ use Rattle.model.specs.Calls.{TallyAnswer, tally_in, tally_of}
 use Rattle.laws.proofs.Bounds.{counts_most}
 use Rattle.laws.proofs.RoundTrip.{length_record, segment_back, records_part_lem}
 use Rattle.laws.specs.Stores.{Sound}
-use Rattle.laws.proofs.Stores.{header, found, fit, fits, long}
+use Rattle.laws.proofs.Stores.{header, found, fit, fits}
 use Rattle.storage.specs.Stored.{EncodesRecords}
 use Rattle.storage.proofs.Read.{records_length, records_count, count_at, row_at, room_at}
 use Rattle.tally.specs.declared.Tally.{Tally}

@@ -1,5 +1,5 @@
 -- What a tally counts, in a record and in all of them.
-use Rattle.std.specs.Prelude.{◌≡◌, cond, not, List, ℕ, zero, suc, ◌+◌, ◌*◌, ◌≤◌, length}
+use Rattle.std.specs.Prelude.{◌≡◌, cond, not, List, ℕ, zero, suc, ◌*◌, ◌≤◌, length}
 use Rattle.lists.specs.Lists.{count, total}
 use Rattle.model.specs.Measures.{record_words}
 use Rattle.model.specs.State.{Segment}

@@ -2,7 +2,7 @@
 use mathlib.Core.Path.{◌≡◌, refl, sym, ap, ap₂, ◌∙◌}
 use mathlib.Core.Bool.{Bool, true, false}
 use mathlib.Core.List.{List, [], ◌∷◌, map}
-use Prim.Native.Nat.{ℕ, suc, ◌+◌, ◌*◌, ◌-◌, ◌≤◌, ◌<◌}
+use Prim.Native.Nat.{ℕ, ◌+◌, ◌*◌, ◌-◌, ◌≤◌, ◌<◌}
 use native.Mathlib.Omega.{arith}
 use lib.ListN.{length, get_or, take, drop, length-drop}
 use lib.Dec.{leb}
@@ -11,7 +11,7 @@ use Rattle.lists.specs.Lists.{last_of}
 use Rattle.model.specs.Measures.{till_words}
 use Rattle.model.specs.State.{Version, Till}
 use Rattle.model.specs.Table.{shape_of, state_in}
-use Rattle.model.specs.Calls.{ListingAnswer, till_of, held_before, missing, first_of, not_held, look_up, oldest_number, newest_number, listing_refusal, list_till, listing_in, listing_of}
+use Rattle.model.specs.Calls.{till_of, held_before, missing, first_of, not_held, look_up, oldest_number, newest_number, listing_refusal, list_till, listing_in, listing_of}
 use Rattle.laws.proofs.Measures.{sizes}
 use Rattle.laws.specs.Stores.{till_at, Sound, HeaderRanges}
 use Rattle.laws.proofs.Stores.{header}

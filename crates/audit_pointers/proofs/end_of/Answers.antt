@@ -4,7 +4,6 @@ use mathlib.Core.Path.{◌≡◌, sym, ◌∙◌}
 use mathlib.Core.List.{List}
 use Prim.Native.Nat.{ℕ, ◌+◌, ◌*◌, ◌-◌, ◌≤◌}
 use lib.ListN.{length, get_or, take, drop}
-use Rattle.lists.specs.Lists.{count}
 use Rattle.model.specs.State.{null_pointer}
 use Rattle.model.specs.Table.{word_to_pointer, version_in}
 use Rattle.lists.proofs.Answers.{part_is, part_long}

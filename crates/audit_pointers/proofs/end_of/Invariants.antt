@@ -1,7 +1,6 @@
 use mathlib.Core.Path.{◌≡◌}
 use Prim.Native.Nat.{◌+◌, ◌*◌, ◌-◌}
 use lib.ListN.{drop}
-use Rattle.lists.specs.Lists.{count}
 use Rattle.model.specs.Table.{versions_in}
 use Rattle.model.specs.Trace.{end_of}
 use Rattle.audit_pointers.proofs.end_of.Given as goal

@@ -2,7 +2,6 @@ use native.Mathlib.Omega.{arith}
 use borrow.Author.Rules.{rules}
 use mathlib.Core.Path.{refl, sym, ◌∙◌}
 use mathlib.Core.List.{[]}
-use Prim.Native.Nat.{◌-◌}
 use lib.ListN.{get_or}
 use borrow.Author.Count.{below_none, below_more}
 use Rattle.lists.proofs.Answers.{every_map}
@@ -11,7 +10,6 @@ use Rattle.lists.proofs.Each.{each_at, each_of}
 use Rattle.lists.proofs.Slices.{every_next, every_end}
 use Rattle.lists.proofs.Tests.{every_at}
 use Rattle.model.specs.Table.{word_to_pointer, records_in}
-use Rattle.model.specs.Sound.{resolves}
 use Rattle.audit_words.specs.Words.{IsPointerWord}
 use Rattle.audit_counts.proofs.Counters.{bumped_le, tallied_turn, tally_done}
 use mathlib.Core.Path.{ap}

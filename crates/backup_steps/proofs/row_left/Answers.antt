@@ -1,5 +1,4 @@
 use native.Mathlib.Omega.{arith}
-use Prim.Native.Nat.{◌-◌}
 use native.Mathlib.Nat.{zero-add}
 use Rattle.backup_steps.proofs.Counting.{counting_next, counting_end, row_few}
 use Rattle.backup_steps.proofs.row_left.Goals as goal

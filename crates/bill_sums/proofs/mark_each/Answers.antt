@@ -1,7 +1,6 @@
 use native.Mathlib.Omega.{arith}
 use borrow.Author.Rules.{rules}
 use mathlib.Core.Path.{refl, sym, ap, ◌∙◌}
-use Prim.Native.Nat.{◌-◌}
 use Rattle.bill_sums.specs.Marks.{mark_words}
 use Rattle.bill_sums.proofs.Passes.{words_turn, words_done}
 use Rattle.bill_sums.proofs.mark_each.Goals as goal

@@ -1,7 +1,6 @@
 use borrow.Author.Rules.{rules}
 use mathlib.Core.Path.{refl, sym, ap, ◌∙◌}
 use mathlib.Core.Bool.{Bool, false, cond}
-use Prim.Native.Nat.{◌-◌}
 use Rattle.lists.proofs.Tests.{cond_self, cond_never}
 use Rattle.bill_sums.proofs.Passes.{none_next, none_stop, none_end}
 use Rattle.bill_sums.proofs.none_direct.Goals as goal

@@ -2,12 +2,11 @@ use native.Mathlib.Omega.{arith}
 use borrow.Author.Rules.{rules}
 use mathlib.Core.Path.{◌≡◌, sym, ap, ◌∙◌, subst}
 use mathlib.Core.List.{List, ◌++◌}
-use Prim.Native.Nat.{ℕ, ◌+◌, ◌-◌, ◌*◌, ◌≤◌, ◌<◌}
+use Prim.Native.Nat.{ℕ, ◌+◌, ◌*◌, ◌≤◌, ◌<◌}
 use lib.ListN.{length, get_or, drop}
 use Rattle.lists.proofs.Places.{row_room}
 use Rattle.model.specs.State.{Pointer}
 use Rattle.model.specs.Table.{versions_in}
-use Rattle.model.specs.Trace.{hops}
 use Rattle.laws.proofs.Measures.{parts_enough, parts_few}
 use Rattle.storage.specs.Fits.{WithinRecords}
 use Rattle.restore_trace.specs.Versions.{pointers_at}

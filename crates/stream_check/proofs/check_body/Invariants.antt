@@ -1,4 +1,4 @@
-use Prim.Native.Nat.{◌-◌, ◌≤◌}
+use Prim.Native.Nat.{◌≤◌}
 use lib.ListN.{length, drop}
 use Rattle.stream_laws.proofs.Steps.{Alike, groups_of}
 use Rattle.stream_check.proofs.check_body.Given as goal

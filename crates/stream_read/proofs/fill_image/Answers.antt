@@ -1,5 +1,4 @@
 use native.Mathlib.Omega.{arith}
-use Prim.Native.Nat.{◌-◌}
 use Rattle.stream_read.proofs.Laws.{image_start, group_ok, groups_on, image_end}
 use Rattle.stream_read.proofs.fill_image.Goals as goal
 

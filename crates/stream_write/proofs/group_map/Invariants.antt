@@ -1,5 +1,5 @@
 use mathlib.Core.Path.{◌≡◌}
-use Prim.Native.Nat.{◌-◌, ◌≤◌}
+use Prim.Native.Nat.{◌≤◌}
 use Rattle.lists.specs.Masks.{mask_of}
 use Rattle.model.specs.Sound.{is_filled}
 use Rattle.stream_write.proofs.Laws.{blocks_left}

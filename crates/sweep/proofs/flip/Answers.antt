@@ -1,6 +1,5 @@
 use borrow.Author.Rules.{rules}
 use mathlib.Core.Path.{◌∙◌, refl}
-use Prim.Native.Nat.{◌-◌}
 use lib.ListN.{length-set}
 use Rattle.sweep.proofs.Flipped.{flip_next, flip_end}
 use Rattle.sweep.proofs.flip.Goals as goal

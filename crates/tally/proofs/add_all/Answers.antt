@@ -1,5 +1,4 @@
 use native.Mathlib.Nat.{zero-add}
-use Prim.Native.Nat.{◌-◌}
 use Rattle.lists.proofs.Counts.{sum_next, sum_end}
 use borrow.Author.Rules.{rules}
 use native.Mathlib.Omega.{arith}

@@ -1,5 +1,5 @@
 use native.Mathlib.Omega.{arith}
-use Prim.Native.Nat.{◌+◌, ◌*◌, ◌-◌, ◌≤◌}
+use Prim.Native.Nat.{◌+◌, ◌*◌, ◌≤◌}
 use lib.ListN.{length}
 use Rattle.tally.proofs.Cases.{going_start, row_room, row_at_k, going_small, going_next, going_end}
 use Rattle.tally.proofs.tally_rows.Goals as goal

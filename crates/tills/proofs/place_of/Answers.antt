@@ -1,5 +1,4 @@
 use mathlib.Core.Path.{sym, ◌∙◌}
-use Prim.Native.Nat.{◌-◌}
 use native.Mathlib.Omega.{arith}
 use Rattle.tills.specs.Answers.{numbers_held}
 use Rattle.tills.proofs.Cases.{none_next, place_here, place_none}

@@ -1,6 +1,6 @@
 use native.Mathlib.Omega.{arith}
 use mathlib.Core.Path.{◌≡◌}
-use Prim.Native.Nat.{◌*◌, ◌-◌, ◌<◌}
+use Prim.Native.Nat.{◌*◌, ◌<◌}
 use borrow.Author.Count.{below_more}
 use lib.ListN.{get_or, length}
 use Rattle.lists.proofs.Places.{row_next}
