@@ -61,7 +61,7 @@ fn trial(
     trial_refusals::lengths(counts);
     trial_refusals::layouts(pool, table, counts);
     trial_refusals::last_number(counts);
-    trial_refusals::sent::messages(counts);
+    trial_refusals::sending::messages(counts);
     trial_staff::keys(counts);
     trial_closing::whole::closings(counts);
     histories(20, pool, table, counts);

@@ -1,7 +1,7 @@
 // Refusals that no drawn call meets: capacities out of range, buffers of another length, a till whose numbers have run out, messages that do not hold together.
 #![tactic(auto)]
 
-pub mod sent;
+pub mod sending;
 
 ghost use Rattle.std.specs.Prelude.{◌≤◌};
 
