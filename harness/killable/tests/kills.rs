@@ -78,9 +78,9 @@ impl Scene {
         ["refused", "over-limit"].contains(&self.name)
     }
 
-    /// The file before the run, if there is one, and after it.
-    fn old_and_new(&self) -> [Option<Vec<u8>>; 2] {
-        let bench = self.bench("whole", 0);
+    /// The file before the run, if there is one, and after it. Each test has a folder of its own for it, since tests run at the same time.
+    fn old_and_new(&self, what: &str) -> [Option<Vec<u8>>; 2] {
+        let bench = self.bench(what, 0);
         let old = self.found(&bench);
         bench.run(self.line);
         [old, self.found(&bench)]
@@ -108,7 +108,7 @@ impl Scene {
 
 /// Kills at moment after moment until a run comes through, and gives how often the old and the new file were found.
 fn killed_everywhere(scene: &Scene) -> [usize; 2] {
-    let expected = scene.old_and_new();
+    let expected = scene.old_and_new("kill");
     let mut met = [0, 0];
     for n in 1.. {
         let bench = scene.bench("kill", n);
@@ -141,7 +141,7 @@ fn killed_at_every_step() {
 #[test]
 fn failing_at_every_step() {
     for scene in SCENES {
-        let [old, new] = scene.old_and_new();
+        let [old, new] = scene.old_and_new("fail");
         for n in 1.. {
             let bench = scene.bench("fail", n);
             let run = bench.run_with(scene.line, "LURDEMPOS_FAIL_AT", n);
