@@ -29,7 +29,7 @@ fn counted_sound(
     ensures { Decides result (((t : ℕ) → t < count → TillSound m.bytes (storage_in (measures_of m) pool.now records.now) versions blocks (take (till_words versions blocks) (drop (t * till_words versions blocks) tills.now))) × CountsExact m.blocks (tills_pointers m.bytes versions blocks count tills.now) records.now) }
 {
     let mut counts = [0u32; 65536];
-    if !audit_tills::tills_sound(
+    audit_tills::tills_sound(
         pool,
         records,
         tills,
@@ -38,10 +38,7 @@ fn counted_sound(
         blocks,
         &mut counts,
         m,
-    ) {
-        return false;
-    }
-    audit_counts::records_counts(records, &counts, m.blocks)
+    ) && audit_counts::records_counts(records, &counts, m.blocks)
 }
 
 // Whether the tills' and the records' words and the pool's bytes are those of a sound store.
@@ -57,13 +54,9 @@ fn parts_sound(
     requires { Measured (measures_of m) × (count ≤ 16) × (versions ≤ 64) × (blocks ≤ 1024) × (length tills.now ≡ count * till_words versions blocks) × (length tills.now ≤ 2000000) × (length records.now ≤ 4096 * record_words m.blocks) × (length pool.now ≤ 32768 * m.bytes) }
     ensures { Decides result (Body (measures_of m) pool.now tills.now records.now count versions blocks) }
 {
-    if !audit_words::records_form(records, m.blocks) {
-        return false;
-    }
-    if !audit_cells::cells_sound(pool, records, m) {
-        return false;
-    }
-    counted_sound(pool, tills, records, count, versions, blocks, m)
+    audit_words::records_form(records, m.blocks)
+        && audit_cells::cells_sound(pool, records, m)
+        && counted_sound(pool, tills, records, count, versions, blocks, m)
 }
 
 // The same, of a table whose capacities are in range, and of buffers of their lengths.
@@ -90,9 +83,5 @@ fn body_sound(pool: &[u8], table: &[u32], m: Measures) -> bool
 pub fn sound(pool: &[u8], table: &[u32]) -> bool
     ensures { result ≡ is_some (store_of pool.now table.now) }
 {
-    if !audit_header::header(pool, table) {
-        return false;
-    }
-    let m = layout::measures_in(table);
-    body_sound(pool, table, m)
+    audit_header::header(pool, table) && body_sound(pool, table, layout::measures_in(table))
 }

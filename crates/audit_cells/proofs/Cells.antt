@@ -1,41 +1,36 @@
 -- What the marks and the bytes say of the cells is what sound asks.
 use mathlib.Core.Path.{◌≡◌, refl, sym, ap, ◌∙◌}
 use mathlib.Core.Bool.{Bool, true, false, beq}
-use mathlib.Core.List.{List, [], ◌∷◌, map}
+use mathlib.Core.List.{List, [], ◌∷◌, ◌++◌, map}
 use Prim.Native.Nat.{ℕ, zero, suc, ◌+◌, ◌*◌, ◌/◌, ◌≤◌, ◌<◌}
 use native.Mathlib.Nat.{not-suc-le-zero, le_of_suc-le-suc, zero-add, add-zero}
 use native.Mathlib.Omega.{arith}
-use lib.ListN.{length, get_or, take, drop, replicate, length-map, length-replicate, get_or-map}
+use lib.ListN.{length, get_or, take, drop, replicate, length-replicate}
 use Rattle.lists.specs.Lists.{is_in}
-use Rattle.lists.specs.Rows.{chunks}
+use Rattle.lists.specs.Rows.{joined}
 use Rattle.lists.specs.Marks.{fits, marked}
 use Rattle.lists.proofs.Checkers.{clash}
 use Rattle.lists.proofs.Tests.{clause, all_true}
-use Rattle.lists.proofs.Cuts.{length_chunks, chunk_at, length_read}
+use Rattle.lists.proofs.Cuts.{length_chunks, chunk_at}
 use Rattle.model.specs.State.{Block}
 use Rattle.model.specs.Measures.{Measures, record_words}
 use Rattle.model.specs.Records.{cells_of, named_cells}
 use Rattle.model.specs.Table.{segment_in, records_in, cells_in, storage_in}
 use Rattle.model.specs.Sound.{has_cells, are_filled, is_filled}
+use Rattle.audit_words.proofs.Chunks.{chunks_row, chunks_end}
 use Rattle.audit_cells.specs.Cells.{CellsSound}
-use Rattle.lists.proofs.Marks.{collect}
-use Rattle.lists.proofs.Apart.{collect_at, Apart, fits_apart, apart_fits, none_marked, marked_all}
+use Rattle.lists.proofs.Apart.{Apart, fits_apart, apart_fits, none_marked, marked_all}
 
--- ---- the cells named, in the code's order
+-- ---- the cells named, record by record
 
--- of record k
-abbrev pub cells_in_lem : ℕ → List ℕ → ℕ → List ℕ
-cells_in_lem n ws k = cells_of (segment_in n (take (record_words n) (drop (k * record_words n) ws)))
+-- those of the next record, and of the others
+pub named_row : (n : ℕ) (ws x rest : List ℕ) → ws ≡ x ++ rest → length x ≡ record_words n → named_cells (records_in n ws) ≡ cells_of (segment_in n x) ++ named_cells (records_in n rest)
+unfolding named_cells records_in joined
+named_row n ws x rest e l = ap (λ (rs : List (List ℕ)). named_cells (map (segment_in n) rs)) (chunks_row (record_words n) ws x rest e l (omega arith))
 
--- by record
-pub all_cells_lem : (n : ℕ) (ws : List ℕ) (c : ℕ) → c ≡ length ws / record_words n → collect (cells_in_lem n ws) 0 c ≡ named_cells (records_in n ws)
-unfolding named_cells records_in
-all_cells_lem n ws c e =
-    let l : length (map cells_of (map (segment_in n) (chunks (record_words n) ws))) ≡ length ws / record_words n = length-map (map (segment_in n) (chunks (record_words n) ws)) cells_of ∙ length_read (segment_in n) (record_words n) ws in
-    ap (collect (cells_in_lem n ws) 0) (e ∙ sym l)
-    ∙ collect_at (cells_in_lem n ws) (cells_of (segment_in n [])) (map cells_of (map (segment_in n) (chunks (record_words n) ws)))
-    (λ j h. sym (get_or-map cells_of (map (segment_in n) (chunks (record_words n) ws)) j (segment_in n []) ∙ ap cells_of (get_or-map (segment_in n) (chunks (record_words n) ws) j [])
-    ∙ ap (λ (r : List ℕ). cells_of (segment_in n r)) (chunk_at (record_words n) ws j (rw l at h))))
+pub named_end : (n : ℕ) (ws : List ℕ) → length ws < record_words n → named_cells (records_in n ws) ≡ []
+unfolding named_cells records_in joined
+named_end n ws h = ap (λ (rs : List (List ℕ)). named_cells (map (segment_in n) rs)) (chunks_end (record_words n) ws h)
 
 -- ---- are_filled
 

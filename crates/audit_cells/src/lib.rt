@@ -13,7 +13,7 @@ ghost use Rattle.laws.specs.Ranges.{Measured};
 ghost use Rattle.numbers.specs.Measures.{measures_of};
 ghost use Rattle.audit_cells.specs.Cells.{CellsSound};
 
-use numbers::{Cell, Measures};
+use numbers::Measures;
 
 // A cell is marked; false if it is no cell or marked already.
 fn mark_cell(cell: u32, cells: usize, occupied: &mut [bool]) -> bool
@@ -21,10 +21,7 @@ fn mark_cell(cell: u32, cells: usize, occupied: &mut [bool]) -> bool
     ensures { MarkResult result cells (cell ∷ []) occupied.old occupied.new }
 {
     let c = cell as usize;
-    if cells <= c {
-        return false;
-    }
-    if occupied[c] {
+    if cells <= c || occupied[c] {
         return false;
     }
     occupied[c] = true;
@@ -46,7 +43,7 @@ fn mark_record(row: &[u32], n: usize, cells: usize, occupied: &mut [bool]) -> bo
         if !mark_cell(row[3 + i], cells, occupied) {
             return false;
         }
-        m = m - (1u32 << p);
+        m -= 1u32 << p;
     }
     true
 }
@@ -57,30 +54,20 @@ fn mark_all(records: &[u32], n: usize, cells: usize, occupied: &mut [bool]) -> b
     ensures { MarkResult result cells (named_cells (records_in n records.now)) occupied.old occupied.new }
 {
     let width = numbers::row_words(n);
-    let count = numbers::parts(records.len(), width);
-    let mut k: usize = 0;
-    while k < count {
-        let at = k * width;
-        let end = at + width;
-        if !mark_record(&records[at..end], n, cells, occupied) {
+    for row in records.chunks_exact(width) {
+        if !mark_record(row, n, cells, occupied) {
             return false;
         }
-        k += 1;
     }
     true
 }
 
 // Whether a cell has a byte other than zero if and only if it is occupied.
-fn cell_matches(pool: &[u8], c: Cell, occupied: bool, bytes: usize) -> bool
-    requires { (bytes ≤ 512) × (c.0 * bytes + bytes ≤ length pool.now) × (64 ≤ bytes) × (bytes % 64 ≡ 0) }
-    ensures { Decides result (occupied ≡ is_filled (take bytes (drop (c.0 * bytes) pool.now))) }
+fn cell_matches(cell: &[u8], occupied: bool) -> bool
+    requires { (64 ≤ length cell.now) × (length cell.now % 64 ≡ 0) }
+    ensures { Decides result (occupied ≡ is_filled cell.now) }
 {
-    let at = c.byte(bytes);
-    let end = at + bytes;
-    if blocks::pieces_zero(&pool[at..end]) {
-        return !occupied;
-    }
-    occupied
+    blocks::pieces_zero(cell) != occupied
 }
 
 // Whether that holds of every cell.
@@ -88,13 +75,10 @@ fn cells_filled(pool: &[u8], occupied: &[bool], bytes: usize) -> bool
     requires { (0 < bytes) × (bytes ≤ 512) × (length pool.now / bytes ≤ length occupied.now) × (length occupied.now ≤ 32768) × (64 ≤ bytes) × (bytes % 64 ≡ 0) }
     ensures { Decides result ((c : ℕ) → c < length pool.now / bytes → get_or occupied.now c false ≡ is_filled (take bytes (drop (c * bytes) pool.now))) }
 {
-    let n = numbers::parts(pool.len(), bytes);
-    let mut c: usize = 0;
-    while c < n {
-        if !cell_matches(pool, Cell(c as u32), occupied[c], bytes) {
+    for (cell, &marked) in pool.chunks_exact(bytes).zip(occupied) {
+        if !cell_matches(cell, marked) {
             return false;
         }
-        c += 1;
     }
     true
 }

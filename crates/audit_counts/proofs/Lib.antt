@@ -2,3 +2,4 @@ pub mod Counters
 pub mod Pointers
 pub mod Counts
 pub mod Held
+pub mod Rows

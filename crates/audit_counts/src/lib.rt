@@ -15,11 +15,8 @@ pub fn bump(counts: &mut [u32], w: u32)
 {
     let kind = w / 0x100_0000;
     let at = (w % 0x100_0000) as usize;
-    if kind == 1 {
-        if at < counts.len() {
-            let n = counts[at];
-            counts[at] = n + 1;
-        }
+    if kind == 1 && at < counts.len() {
+        counts[at] += 1;
     }
 }
 
@@ -27,10 +24,7 @@ pub fn bump(counts: &mut [u32], w: u32)
 fn count_exact(word: u32, count: u32) -> bool
     ensures { Decides result ((1 ≤ word) × (word ≡ count)) }
 {
-    if word < 1 {
-        return false;
-    }
-    word == count
+    word >= 1 && word == count
 }
 
 // Whether that holds of every held position of a record, by its counters.
@@ -48,7 +42,7 @@ fn record_counts(row: &[u32], counts: &[u32], n: usize) -> bool
         if !count_exact(row[3 + n + i], counts[i]) {
             return false;
         }
-        m = m - (1u32 << p);
+        m -= 1u32 << p;
     }
     true
 }
@@ -59,16 +53,11 @@ pub fn records_counts(records: &[u32], counts: &[u32], n: usize) -> bool
     ensures { Decides result (RecordCounts n (λ p. get_or counts.now p 0) records.now) }
 {
     let width = numbers::row_words(n);
-    let count = numbers::parts(records.len(), width);
-    let mut k: usize = 0;
-    while k < count {
-        let at = k * width;
-        let end = at + width;
-        let from = k * Segment::MOST_BLOCKS;
-        if !record_counts(&records[at..end], &counts[from..], n) {
+    let counters = counts.chunks_exact(Segment::MOST_BLOCKS);
+    for (row, of_row) in records.chunks_exact(width).zip(counters) {
+        if !record_counts(row, of_row, n) {
             return false;
         }
-        k += 1;
     }
     true
 }

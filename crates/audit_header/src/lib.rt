@@ -13,13 +13,7 @@ fn measures_written(table: &[u32], m: Measures) -> bool
     requires { 8 ≤ length table.now }
     ensures { Decides result (MeasuresCanonical table.now (measures_of m)) }
 {
-    if table[5] != m.word(table[5]) {
-        return false;
-    }
-    if table[6] != m.word(table[6]) {
-        return false;
-    }
-    table[7] == m.word(table[7])
+    table[5] == m.word(table[5]) && table[6] == m.word(table[6]) && table[7] == m.word(table[7])
 }
 
 // Whether header and lengths are those of a store.
@@ -31,11 +25,5 @@ pub fn header(pool: &[u8], table: &[u32]) -> bool
     }
     let c = layout::capacities_in(table);
     let m = c.measures;
-    if !layout::in_range(c) {
-        return false;
-    }
-    if !measures_written(table, m) {
-        return false;
-    }
-    layout::lengths_fit(pool, table, c)
+    layout::in_range(c) && measures_written(table, m) && layout::lengths_fit(pool, table, c)
 }

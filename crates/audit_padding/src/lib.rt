@@ -11,45 +11,28 @@ ghost use Rattle.numbers.specs.Measures.{measures_of};
 
 use numbers::{Block, Measures, RecordNumber};
 
-// a less b; 0 if b is more.
-fn minus(a: usize, b: usize) -> usize
-    ensures { result ≡ a - b }
-{
-    if a < b {
-        return 0;
-    }
-    a - b
-}
-
 // Whether the block at a pointer that is not indirect is zero from a byte on. A blank one is from its end on only.
 fn block_zero(pool: &[u8], records: &[u32], w: u32, from: usize, m: Measures) -> bool
     requires { Measured (measures_of m) }
     ensures { result ≡ all_zero (drop from (block_at m.bytes (storage_in (measures_of m) pool.now records.now) (word_to_pointer w))) }
 {
     let kind = w / 0x100_0000;
-    if kind == 3 {
-        return m.bytes <= from;
+    match kind {
+        3 => m.bytes <= from,
+        1 => {
+            let low = w % 0x100_0000;
+            let cell = audit_pointers::cell_at(
+                records,
+                RecordNumber(low / 16),
+                (low % 16) as usize,
+                m.blocks,
+            );
+            let at = cell.byte(m.bytes);
+            let end = at + m.bytes;
+            pool.len() < end || m.bytes <= from || blocks::all_zero(&pool[at + from..end])
+        }
+        _ => true,
     }
-    if kind != 1 {
-        return true;
-    }
-    let low = w % 0x100_0000;
-    let cell = audit_pointers::cell_at(
-        records,
-        RecordNumber(low / 16),
-        (low % 16) as usize,
-        m.blocks,
-    );
-    let at = cell.byte(m.bytes);
-    let end = at + m.bytes;
-    if pool.len() < end {
-        return true;
-    }
-    if m.bytes <= from {
-        return true;
-    }
-    let start = at + from;
-    blocks::all_zero(&pool[start..end])
 }
 
 // Whether the last block of the first of some slots' versions, as traced, is zero after the version's length.
@@ -65,13 +48,11 @@ pub fn padding_zero(
     ensures { result ≡ ends_zero m.bytes (storage_in (measures_of m) pool.now records.now) (version_in m.bytes (take (3 + blocks) slots.now)) (versions_in m.bytes blocks (count - 1) (drop (3 + blocks) slots.now)) }
 {
     let width = 3 + blocks;
-    let last = minus(
-        audit_pointers::pointer_count(&slots[0..width], blocks, m.bytes),
-        1,
-    );
+    let count_of_first = audit_pointers::pointer_count(&slots[0..width], blocks, m.bytes);
+    let last = count_of_first.saturating_sub(1);
     let block = Block(last as u32);
     let length = slots[1] as usize;
-    let from = minus(length, block.byte(m.bytes));
+    let from = length.saturating_sub(block.byte(m.bytes));
     let w = audit_pointers::end_of(slots, blocks, count, block, m.bytes);
     block_zero(pool, records, w, from, m)
 }

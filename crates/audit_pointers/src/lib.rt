@@ -19,13 +19,7 @@ fn held_at(records: &[u32], k: RecordNumber, i: usize, n: usize) -> bool
     ensures { result ≡ is_held (get_or (get_or (records_in n records.now) k.0 []) i null_position) }
 {
     let at = k.word(n);
-    if records.len() < at + numbers::row_words(n) {
-        return false;
-    }
-    if n <= i {
-        return false;
-    }
-    audit_words::bit(records[at], i) == 1
+    at + numbers::row_words(n) <= records.len() && i < n && audit_words::bit(records[at], i) == 1
 }
 
 // The cell of a position of a record, of n; 0 if it is not held.
@@ -34,33 +28,25 @@ pub fn cell_at(records: &[u32], k: RecordNumber, i: usize, n: usize) -> Cell
     ensures { result.0 ≡ cell_of (get_or (get_or (records_in n records.now) k.0 []) i null_position) }
 {
     let at = k.word(n);
-    if records.len() < at + numbers::row_words(n) {
+    if records.len() < at + numbers::row_words(n)
+        || n <= i
+        || audit_words::bit(records[at], i) != 1
+    {
         return Cell(0);
     }
-    if n <= i {
-        return Cell(0);
-    }
-    if audit_words::bit(records[at], i) != 1 {
-        return Cell(0);
-    }
-    let c = records[at + 3 + i];
-    Cell(c)
+    Cell(records[at + 3 + i])
 }
 
 // Whether a block is there and its pointer not null, by a version's pointer words.
 fn not_null(words: &[u32], b: Block) -> bool
     ensures { result ≡ not (is_null (get_or (map word_to_pointer words.now) b.0 null_pointer)) }
 {
-    let n = b.0;
-    let at = n as usize;
+    let at = b.0 as usize;
     if words.len() <= at {
         return false;
     }
     let kind = words[at] / 0x100_0000;
-    if kind == 0 {
-        return false;
-    }
-    kind <= 3
+    kind != 0 && kind <= 3
 }
 
 // Whether a word is that of a pointer that leads to a held position, or to a block of the next newer version that is not null; whatever the cells.
@@ -71,17 +57,14 @@ fn pointer_sound(records: &[u32], newer: &[u32], w: u32, counts: &mut [u32], n: 
 {
     let kind = w / 0x100_0000;
     let low = w % 0x100_0000;
-    if kind == 2 {
-        return not_null(newer, Block(low));
+    match kind {
+        2 => not_null(newer, Block(low)),
+        1 => {
+            audit_counts::bump(counts, w);
+            held_at(records, RecordNumber(low / 16), (low % 16) as usize, n)
+        }
+        _ => w == Pointer::null().0 || w == Pointer::blank().0,
     }
-    if kind == 1 {
-        audit_counts::bump(counts, w);
-        return held_at(records, RecordNumber(low / 16), (low % 16) as usize, n);
-    }
-    if w == Pointer::null().0 {
-        return true;
-    }
-    w == Pointer::blank().0
 }
 
 // Whether each of some words is that of such a pointer. They are counted on the way, so that one pass serves for all.
@@ -95,12 +78,10 @@ pub fn pointers_sound(
     requires { (n ≤ 16) × ((k : ℕ) → get_or counts.old k 0 + length words.now < 2 ^ 32) }
     ensures { ((storage : Storage) → storage.records ≡ records_in n records.now → Decides result (PointersSound storage newer.now words.now)) × (result ≡ true → counts.new ≡ counts_after words.now counts.old) }
 {
-    let mut i: usize = 0;
-    while i < words.len() {
-        if !pointer_sound(records, newer, words[i], counts, n) {
+    for &w in words {
+        if !pointer_sound(records, newer, w, counts, n) {
             return false;
         }
-        i += 1;
     }
     true
 }
@@ -111,11 +92,7 @@ pub fn pointer_count(slot: &[u32], blocks: usize, bytes: usize) -> usize
     ensures { (result ≡ length (version_in bytes slot.now).pointers) × (result ≤ blocks) }
 {
     let length = slot[1] as usize;
-    let n = numbers::parts_for(bytes, length);
-    if n < blocks {
-        return n;
-    }
-    blocks
+    numbers::parts_for(bytes, length).min(blocks)
 }
 
 // The word of a slot's pointer; 0 past the last. A block is there if it begins within the length, which takes no division.
@@ -123,12 +100,8 @@ fn word_at(slot: &[u32], blocks: usize, b: Block, bytes: usize) -> u32
     requires { (blocks ≤ 1024) × (length slot.now ≡ 3 + blocks) × (0 < bytes) × (bytes ≤ 512) }
     ensures { word_to_pointer result ≡ get_or (version_in bytes slot.now).pointers b.0 null_pointer }
 {
-    let n = b.0;
-    let at = n as usize;
-    if blocks <= at {
-        return 0;
-    }
-    if slot[1] as usize <= b.byte(bytes) {
+    let at = b.0 as usize;
+    if blocks <= at || slot[1] as usize <= b.byte(bytes) {
         return 0;
     }
     slot[3 + at]
@@ -140,8 +113,7 @@ pub fn end_of(slots: &[u32], blocks: usize, count: usize, block: Block, bytes: u
     ensures { word_to_pointer result ≡ end_of (versions_in bytes blocks count slots.now) block.0 }
 {
     let mut b = block.0;
-    let mut i: usize = 0;
-    while i < count {
+    for i in 0..count {
         let at = i * (3 + blocks);
         let end = at + (3 + blocks);
         let w = word_at(&slots[at..end], blocks, Block(b), bytes);
@@ -149,7 +121,6 @@ pub fn end_of(slots: &[u32], blocks: usize, count: usize, block: Block, bytes: u
             return w;
         }
         b = w % 0x100_0000;
-        i += 1;
     }
     0
 }

@@ -20,17 +20,12 @@ fn numbers_rise(slots: &[u32], blocks: usize, count: usize, last: u32) -> bool
     ensures { result ≡ rises 0 last (numbers_in blocks count slots.now) }
 {
     let mut least: u32 = 1;
-    let mut i: usize = 0;
-    while i < count {
+    for i in 0..count {
         let number = slots[i * (3 + blocks)];
-        if number < least {
-            return false;
-        }
-        if last < number {
+        if number < least || last < number {
             return false;
         }
         least = number + 1;
-        i += 1;
     }
     true
 }
@@ -106,13 +101,11 @@ fn slots_sound(
     requires { Measured (measures_of m) × (blocks ≤ 1024) × (count ≤ 64) × (count * (3 + blocks) ≤ length slots.now) × ((k : ℕ) → get_or counts.old k 0 + count * (3 + blocks) < 2 ^ 32) }
     ensures { Decides result ((i : ℕ) → i < count → SlotSound m.bytes (storage_in (measures_of m) pool.now records.now) blocks (count - i) (drop (i * (3 + blocks)) slots.now)) × (result ≡ true → counts.new ≡ counts_after (slots_pointers m.bytes blocks count slots.now) counts.old) }
 {
-    let mut i: usize = 0;
-    while i < count {
+    for i in 0..count {
         let at = i * (3 + blocks);
         if !slot_sound(pool, records, &slots[at..], blocks, count - i, counts, m) {
             return false;
         }
-        i += 1;
     }
     true
 }
@@ -132,17 +125,8 @@ fn till_sound(
 {
     let last = till[0];
     let count = till[1] as usize;
-    if versions < count {
-        return false;
-    }
-    if 65535 < last {
-        return false;
-    }
     // Seven users have four rights each.
-    if 1u32 << 28 <= till[2] {
-        return false;
-    }
-    if till[3] != 0 {
+    if versions < count || 65535 < last || 1u32 << 28 <= till[2] || till[3] != 0 {
         return false;
     }
     if !numbers_rise(&till[4..], blocks, count, last) {
@@ -170,14 +154,12 @@ pub fn tills_sound(
     ensures { Decides result ((t : ℕ) → t < count → TillSound m.bytes (storage_in (measures_of m) pool.now records.now) versions blocks (take (till_words versions blocks) (drop (t * till_words versions blocks) tills.now))) × (result ≡ true → counts.new ≡ counts_after (tills_pointers m.bytes versions blocks count tills.now) counts.old) }
 {
     let width = 4 + versions * (3 + blocks);
-    let mut t: usize = 0;
-    while t < count {
+    for t in 0..count {
         let at = t * width;
         let end = at + width;
         if !till_sound(pool, records, &tills[at..end], versions, blocks, counts, m) {
             return false;
         }
-        t += 1;
     }
     true
 }

@@ -14,12 +14,8 @@ pub fn zeros(words: &[u32]) -> bool
     ensures { result ≡ all_zero words.now }
 {
     let mut good = true;
-    let mut i: usize = 0;
-    while i < words.len() {
-        if words[i] != 0 {
-            good = false;
-        }
-        i += 1;
+    for &word in words {
+        good &= word == 0;
     }
     good
 }
@@ -30,10 +26,7 @@ pub fn slot_frame(row: &[u32], blocks: usize, bytes: usize) -> bool
     ensures { Decides result (SlotFrame bytes blocks row.now) }
 {
     let length = row[1] as usize;
-    if length < 1 {
-        return false;
-    }
-    if bytes * blocks < length {
+    if length < 1 || bytes * blocks < length {
         return false;
     }
     let end = 3 + numbers::parts_for(bytes, length);
@@ -67,10 +60,7 @@ fn apart(a: u32, b: u32) -> bool
 fn unheld(words: u32, held: u32) -> u32
     ensures { (held ≡ 0 → result ≡ words) × ((held ≡ 0 → ⊥) → result ≡ 0) }
 {
-    if held == 0 {
-        return words;
-    }
-    0
+    if held == 0 { words } else { 0 }
 }
 
 // Whether each position that is not held has zeros for its cell and its count. No exit from the loop, so that the compiler takes many positions at a time.
@@ -80,10 +70,8 @@ fn unheld_zero(row: &[u32], n: usize) -> bool
 {
     let helds = row[0];
     let mut all: u32 = 0;
-    let mut i: usize = 0;
-    while i < n {
-        all = all | unheld(row[3 + i] | row[3 + n + i], bit(helds, i));
-        i += 1;
+    for i in 0..n {
+        all |= unheld(row[3 + i] | row[3 + n + i], bit(helds, i));
     }
     all == 0
 }
@@ -93,16 +81,7 @@ fn positions_form(row: &[u32], n: usize) -> bool
     requires { (length row.now ≡ record_words n) × (n ≤ 16) × (get_or row.now 0 0 < 2 ^ n) × (get_or row.now 1 0 < 2 ^ n) }
     ensures { Decides result ((i : ℕ) → i < n → PositionForm n row.now i) }
 {
-    if !apart(row[0], row[1]) {
-        return false;
-    }
-    if !apart(row[0], row[2]) {
-        return false;
-    }
-    if !apart(row[1], row[2]) {
-        return false;
-    }
-    unheld_zero(row, n)
+    apart(row[0], row[1]) && apart(row[0], row[2]) && apart(row[1], row[2]) && unheld_zero(row, n)
 }
 
 // Whether the words of a record that holds a position are in order.
@@ -114,16 +93,7 @@ fn held_form(row: &[u32], n: usize) -> bool
     let removeds = row[1];
     let blanks = row[2];
     let past = past_masks(n);
-    if past <= helds {
-        return false;
-    }
-    if past <= removeds {
-        return false;
-    }
-    if past <= blanks {
-        return false;
-    }
-    positions_form(row, n)
+    helds < past && removeds < past && blanks < past && positions_form(row, n)
 }
 
 // Whether a record's words are in order. One that holds no position is free: all its words are zero, which one pass tells.
@@ -132,9 +102,10 @@ fn record_form(row: &[u32], n: usize) -> bool
     ensures { Decides result (RecordForm n row.now) }
 {
     if row[0] == 0 {
-        return zeros(row);
+        zeros(row)
+    } else {
+        held_form(row, n)
     }
-    held_form(row, n)
 }
 
 // Whether the words of all records are in order.
@@ -143,15 +114,10 @@ pub fn records_form(records: &[u32], n: usize) -> bool
     ensures { Decides result (Each (RecordForm n) (chunks (record_words n) records.now)) }
 {
     let width = numbers::row_words(n);
-    let count = numbers::parts(records.len(), width);
-    let mut k: usize = 0;
-    while k < count {
-        let at = k * width;
-        let end = at + width;
-        if !record_form(&records[at..end], n) {
+    for row in records.chunks_exact(width) {
+        if !record_form(row, n) {
             return false;
         }
-        k += 1;
     }
     true
 }

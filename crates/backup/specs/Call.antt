@@ -1,15 +1,16 @@
 -- What the joined steps ask, and what the answer says, with the buffers after the call.
-use Rattle.std.specs.Prelude.{ℕ, ◌*◌, ◌≤◌, ◌≡◌, List, map, length, get_or}
+use Rattle.std.specs.Prelude.{ℕ, ◌*◌, ◌≤◌, ◌≡◌, List, map, length, get_or, Result, Ok, Err}
 use Rattle.model.specs.Measures.{Measures}
 use Rattle.model.specs.State.{Pointer}
 use Rattle.model.specs.Table.{shape_of, state_in, pointer_word}
 use Rattle.model.specs.Calls.{BackupAnswer, till_of, newest_pointers}
 use Rattle.laws.specs.Stores.{Sound}
+use Rattle.refusals.specs.declared.Refusal.{Refusal}
+use Rattle.refusals.specs.Refusals.{number_of}
 use Rattle.tills.specs.declared.Head.{Head}
 use Rattle.tills.specs.Answers.{HeadOf}
 use Rattle.backup_accept.specs.Accept.{Accepted}
 use Rattle.place.specs.All.{segments_in}
-use Rattle.backup.specs.declared.BackedUp.{BackedUp}
 
 -- the newest version's pointers
 abbrev pub newest_of : List ℕ → List ℕ → ℕ → List Pointer
@@ -24,5 +25,6 @@ pub record BackupPre (m : Measures) (pool table : List ℕ) (t : ℕ) (r : Head)
   pub short : length prev ≤ get_or table 2 0
   pub room : length words ≡ segments_in m image * m.segment_blocks
 
-abbrev pub backed_up_answer : BackedUp → List ℕ → List ℕ → BackupAnswer
-backed_up_answer r pool table = record { refusal = r.refusal; version = r.version; pool = pool; table = table }
+abbrev pub backup_result : Result ℕ Refusal → List ℕ → List ℕ → BackupAnswer
+backup_result (Ok version) pool table = record { refusal = 0; version = version; pool = pool; table = table }
+backup_result (Err e) pool table = record { refusal = number_of e; version = 0; pool = pool; table = table }

@@ -2,6 +2,7 @@
 #![tactic(auto)]
 
 ghost use Rattle.std.specs.Prelude.{◌≡◌, List, map, [], ℕ, ◌+◌, ◌*◌, ◌/◌, ◌≤◌, ◌<◌, length, get_or, take};
+ghost use Rattle.refusals.specs.Refusals.{refusal_of};
 ghost use Rattle.numbers.specs.Measures.{measures_of};
 ghost use Rattle.model.specs.Table.{shape_of, state_in, pointer_word, word_to_pointer};
 ghost use Rattle.model.specs.Calls.{backup_of, backup_dated_of};
@@ -9,10 +10,11 @@ ghost use Rattle.laws.specs.Stores.{Sound, till_at};
 ghost use Rattle.backup_accept.specs.Accept.{Accepted};
 ghost use Rattle.chain.specs.Limit.{within};
 ghost use Rattle.backup.specs.Backup.{limited_on, StoreInPre, StoreInResult, FilePre, FileResult};
-ghost use Rattle.backup.specs.Call.{newest_of, BackupPre, backed_up_answer};
+ghost use Rattle.backup.specs.Call.{newest_of, BackupPre, backup_result};
 
 use backup_steps::Limit;
 use numbers::Measures;
+use refusals::Refusal;
 use tills::Head;
 
 // Steps 1 to 3 on the table's records, which begin at `from`. A refusal alters nothing.
@@ -25,9 +27,9 @@ pub fn store_in(
     prev: &mut [u32],
     m: Measures,
     limit: Limit,
-) -> u32
+) -> Result<(), Refusal>
     requires { StoreInPre (measures_of m) image.now pool.old table.old from words.old prev.old × (limit.others ≤ 524288) }
-    ensures { StoreInResult image.now (map word_to_pointer prev.old) pool.old table.old (limited_on limit.others limit.most pool.old table.old image.now (map word_to_pointer prev.old)) result pool.new table.new words.new prev.new }
+    ensures { StoreInResult image.now (map word_to_pointer prev.old) pool.old table.old (limited_on limit.others limit.most pool.old table.old image.now (map word_to_pointer prev.old)) (refusal_of result) pool.new table.new words.new prev.new }
 {
     backup_steps::store_image(image, pool, &mut table[from..], words, prev, limit, m)
 }
@@ -47,14 +49,6 @@ pub fn file_in(
     ensures { FileResult at end b turned.now bytes day pointers.now table.old table.new }
 {
     backup_file::file_version(&mut table[at..end], b, turned, bytes, day, pointers);
-}
-
-// Refusal 0 is an accepted call.
-#[repr(C)]
-#[derive(Clone, Copy)]
-pub struct BackedUp {
-    pub refusal: u32,
-    pub version: u32,
 }
 
 // The newest version's pointer words, to the front of prev; how many.
@@ -86,20 +80,14 @@ fn store_and_file(
     words: &mut [u32],
     m: Measures,
     limit: Limit,
-) -> BackedUp
+) -> Result<u32, Refusal>
     requires { BackupPre (measures_of m) pool.old table.old till head day image.now prev.old words.old × (limit.others ≤ 524288) }
-    ensures { backed_up_answer result pool.new table.new ≡ within limit.others limit.most pool.old table.old (backup_dated_of pool.old table.old till day image.now) }
+    ensures { backup_result result pool.new table.new ≡ within limit.others limit.most pool.old table.old (backup_dated_of pool.old table.old till day image.now) }
 {
     let from = layout::records_at(table);
     let b = table[2] as usize;
     let end = head.at + layout::till_words(table);
-    let r = store_in(image, pool, table, from, words, prev, m, limit);
-    if r != 0 {
-        return BackedUp {
-            refusal: r,
-            version: 0,
-        };
-    }
+    store_in(image, pool, table, from, words, prev, m, limit)?;
     let bytes = image.len();
     let blocks = numbers::parts_for(m.bytes, bytes);
     file_in(
@@ -112,10 +100,7 @@ fn store_and_file(
         day,
         &words[..blocks],
     );
-    BackedUp {
-        refusal: 0,
-        version: head.last + 1,
-    }
+    Ok(head.last + 1)
 }
 
 // With room for the newest version's pointers and for the new ones.
@@ -129,9 +114,9 @@ fn back_up_with(
     words: &mut [u32],
     m: Measures,
     limit: Limit,
-) -> BackedUp
+) -> Result<u32, Refusal>
     requires { Sound pool.old table.old × Accepted pool.old table.old till day image.now × (length prev.old ≡ 1024) × (length words.old ≡ 1040) × (measures_of m ≡ (shape_of table.old).measures) × (limit.others ≤ 524288) }
-    ensures { backed_up_answer result pool.new table.new ≡ within limit.others limit.most pool.old table.old (backup_dated_of pool.old table.old till day image.now) }
+    ensures { backup_result result pool.new table.new ≡ within limit.others limit.most pool.old table.old (backup_dated_of pool.old table.old till day image.now) }
 {
     let head = tills::till_head(pool, table, till);
     let n = copy_newest(pool, table, till, head.at, prev, m);
@@ -158,9 +143,9 @@ fn back_up_accepted(
     day: u32,
     image: &[u8],
     limit: Limit,
-) -> BackedUp
+) -> Result<u32, Refusal>
     requires { Sound pool.old table.old × Accepted pool.old table.old till day image.now × (limit.others ≤ 524288) }
-    ensures { backed_up_answer result pool.new table.new ≡ within limit.others limit.most pool.old table.old (backup_dated_of pool.old table.old till day image.now) }
+    ensures { backup_result result pool.new table.new ≡ within limit.others limit.most pool.old table.old (backup_dated_of pool.old table.old till day image.now) }
 {
     let m = layout::measures_in(table);
     let mut prev = [0u32; 1024];
@@ -178,17 +163,11 @@ pub fn back_up_dated(
     day: u32,
     image: &[u8],
     limit: Limit,
-) -> BackedUp
+) -> Result<u32, Refusal>
     requires { Sound pool.old table.old × (limit.others ≤ 524288) }
-    ensures { backed_up_answer result pool.new table.new ≡ within limit.others limit.most pool.old table.old (backup_dated_of pool.old table.old till day image.now) }
+    ensures { backup_result result pool.new table.new ≡ within limit.others limit.most pool.old table.old (backup_dated_of pool.old table.old till day image.now) }
 {
-    let r = backup_accept::backup_refusal(pool, table, till, day, image);
-    if r != 0 {
-        return BackedUp {
-            refusal: r,
-            version: 0,
-        };
-    }
+    backup_accept::backup_refusal(pool, table, till, day, image)?;
     back_up_accepted(pool, table, till, day, image, limit)
 }
 
@@ -199,9 +178,9 @@ pub fn back_up(
     till: u32,
     image: &[u8],
     limit: Limit,
-) -> BackedUp
+) -> Result<u32, Refusal>
     requires { Sound pool.old table.old × (limit.others ≤ 524288) }
-    ensures { backed_up_answer result pool.new table.new ≡ within limit.others limit.most pool.old table.old (backup_of pool.old table.old till image.now) }
+    ensures { backup_result result pool.new table.new ≡ within limit.others limit.most pool.old table.old (backup_of pool.old table.old till image.now) }
 {
     let day = tills::newest_day(pool, table, till);
     back_up_dated(pool, table, till, day, image, limit)

@@ -2,11 +2,13 @@
 #![tactic(auto)]
 
 ghost use Rattle.std.specs.Prelude.{◌≡◌, ℕ, ◌<◌, length, get_or};
+ghost use Rattle.refusals.specs.Refusals.{refusal_of};
 ghost use Rattle.model.specs.Table.{shape_of, state_in};
 ghost use Rattle.laws.specs.Stores.{Sound, HeaderRanges};
 ghost use Rattle.backup_accept.specs.Accept.{most_bytes, till_refusal, dated_refusal, AcceptResult};
 
 use numbers::Block;
+use refusals::Refusal;
 
 // The longest image's bytes: where the block past its last one would begin.
 pub fn most_bytes(table: &[u32]) -> usize
@@ -18,50 +20,50 @@ pub fn most_bytes(table: &[u32]) -> usize
     past.byte(m.bytes)
 }
 
-// Refusals 11 and 12; 0 where there is none.
-pub fn till_refusal(pool: &[u8], table: &[u32], till: u32) -> u32
+// Whether a till has a slot and a number left.
+pub fn till_refusal(pool: &[u8], table: &[u32], till: u32) -> Result<(), Refusal>
     requires { Sound pool.now table.now × (till < get_or table.now 0 0) }
-    ensures { result ≡ till_refusal (shape_of table.now) (state_in (shape_of table.now) pool.now table.now) till }
+    ensures { refusal_of result ≡ till_refusal (shape_of table.now) (state_in (shape_of table.now) pool.now table.now) till }
 {
     let head = tills::till_head(pool, table, till);
     if table[1] <= head.held {
-        return 11;
+        return Err(Refusal::TillFull);
     }
     if head.last == 65535 {
-        return 12;
+        return Err(Refusal::NumbersSpent);
     }
-    0
+    Ok(())
 }
 
-// Refusals 11, 12 and 28, in this order; 0 where there is none.
-fn dated_refusal(pool: &[u8], table: &[u32], till: u32, day: u32) -> u32
+// The same, and then whether a day is not before that of the till's newest version.
+fn dated_refusal(pool: &[u8], table: &[u32], till: u32, day: u32) -> Result<(), Refusal>
     requires { Sound pool.now table.now × (till < get_or table.now 0 0) }
-    ensures { result ≡ dated_refusal (shape_of table.now) (state_in (shape_of table.now) pool.now table.now) till day }
+    ensures { refusal_of result ≡ dated_refusal (shape_of table.now) (state_in (shape_of table.now) pool.now table.now) till day }
 {
-    let refusal = till_refusal(pool, table, till);
-    if refusal != 0 {
-        return refusal;
-    }
+    till_refusal(pool, table, till)?;
     if day < tills::newest_day(pool, table, till) {
-        return 28;
+        return Err(Refusal::EarlierDay);
     }
-    refusal
+    Ok(())
 }
 
-// Refusals 3, 4, 11, 12 and 28, in this order; 0 where there is none.
-pub fn backup_refusal(pool: &[u8], table: &[u32], till: u32, day: u32, image: &[u8]) -> u32
+// The refusals of a backup before a segment is placed: of the till, of the image's length, then those above.
+pub fn backup_refusal(
+    pool: &[u8],
+    table: &[u32],
+    till: u32,
+    day: u32,
+    image: &[u8],
+) -> Result<(), Refusal>
     requires { Sound pool.now table.now }
-    ensures { AcceptResult pool.now table.now till day image.now result }
+    ensures { AcceptResult pool.now table.now till day image.now (refusal_of result) }
 {
     if table[0] <= till {
-        return 3;
+        return Err(Refusal::NoSuchTill);
     }
     let bytes = image.len();
-    if bytes == 0 {
-        return 4;
-    }
-    if bytes > most_bytes(table) {
-        return 4;
+    if bytes == 0 || bytes > most_bytes(table) {
+        return Err(Refusal::ImageLength);
     }
     dated_refusal(pool, table, till, day)
 }

@@ -4,7 +4,7 @@ use mathlib.Core.List.{List, [], ◌∷◌, ◌++◌, map, append-nil, append_as
 use Prim.Native.Nat.{ℕ, zero, suc, ◌+◌, ◌*◌, ◌-◌, ◌≤◌, ◌<◌}
 use native.Mathlib.Nat.{mul-le-mul_right, suc-mul, not-suc-le-zero}
 use native.Mathlib.Omega.{arith}
-use lib.ListN.{length, get_or, take, drop, length-append, length-map, length-drop, length-take, get_or-append}
+use lib.ListN.{length, get_or, take, drop, length-append, length-map, length-drop, get_or-append}
 use lib.Seq.{take_at, drop_at, get_or-append-add, length-take-le, drop-nil, get_or-take}
 use borrow.Rule.Slice.PartMut.{mid_of, put_mid}
 use Rattle.lists.specs.Each.{Each}
@@ -258,9 +258,6 @@ pub few_at : (bytes b : ℕ) (till : List ℕ) (at : ℕ) → at ≡ newest_at b
     → (get_or till (at + 1) 0 ≤ 65536) × (parts_for bytes (get_or till (at + 1) 0) ≤ b)
 few_at bytes b till at e f h =
     subst (λ (k : ℕ). (get_or till (k + 1) 0 ≤ 65536) × (parts_for bytes (get_or till (k + 1) 0) ≤ b)) (sym e) (f (positive_of (get_or till 1 0) h))
-
-pub part_short : (a n m : ℕ) (ws : List ℕ) → n ≤ m → length (take (a + n - a) (drop a ws)) ≤ m
-part_short a n m ws h = let e : a + n - a ≡ n = omega arith in rw e (omega (arith, h, length-take n (drop a ws)))
 
 -- a part put behind the head
 pub same_head : (till pws ys : List ℕ) (a k : ℕ) → a + 3 + k ≤ length till → length pws ≤ k → ys ≡ pws ++ drop (length pws) (mid_of (a + 3) (a + 3 + k - (a + 3)) till) → SameHead till (put_mid (a + 3) (a + 3 + k - (a + 3)) till ys)

@@ -26,8 +26,7 @@ pub fn newest_pointers(till: &[u32], b: usize, out: &mut [u32], bytes: usize) ->
     let at = newest_at(till, b);
     let n = numbers::parts_for(bytes, till[at + 1] as usize);
     let start = at + 3;
-    let end = start + n;
-    words::copy_in(&till[start..end], out);
+    words::copy_in(&till[start..start + n], out);
     n
 }
 
@@ -40,27 +39,7 @@ pub fn turn_newest(till: &mut [u32], b: usize, pointers: &[u32])
         return;
     }
     let start = newest_at(till, b) + 3;
-    let end = start + b;
-    words::copy_in(pointers, &mut till[start..end]);
-}
-
-// The first two words.
-fn set_two(part: &mut [u32], a: u32, b: u32)
-    requires { 2 ≤ length part.old }
-    ensures { part.new ≡ a ∷ b ∷ drop 2 part.old }
-{
-    part[0] = a;
-    part[1] = b;
-}
-
-// The first three words.
-fn set_three(part: &mut [u32], a: u32, b: u32, c: u32)
-    requires { 3 ≤ length part.old }
-    ensures { part.new ≡ a ∷ b ∷ c ∷ drop 3 part.old }
-{
-    part[0] = a;
-    part[1] = b;
-    part[2] = c;
+    words::copy_in(pointers, &mut till[start..start + b]);
 }
 
 // A slot's number, length, day and pointers.
@@ -68,7 +47,7 @@ fn put_slot(slot: &mut [u32], number: u32, bytes: u32, day: u32, pointers: &[u32
     requires { 3 + length pointers.now ≤ length slot.old }
     ensures { slot.new ≡ number ∷ bytes ∷ day ∷ (pointers.now ++ drop (length pointers.now) (drop 3 slot.old)) }
 {
-    set_three(slot, number, bytes, day);
+    slot[..3].copy_from_slice(&[number, bytes, day]);
     words::copy_in(pointers, &mut slot[3..]);
 }
 
@@ -80,9 +59,15 @@ pub fn add_version(till: &mut [u32], b: usize, bytes: u32, day: u32, pointers: &
     let last = till[0];
     let held = till[1];
     let start = 4 + held as usize * (3 + b);
-    let end = start + (3 + b);
-    put_slot(&mut till[start..end], last + 1, bytes, day, pointers);
-    set_two(till, last + 1, held + 1);
+    put_slot(
+        &mut till[start..start + (3 + b)],
+        last + 1,
+        bytes,
+        day,
+        pointers,
+    );
+    till[0] = last + 1;
+    till[1] = held + 1;
 }
 
 // The newest version's pointers turned, and a version behind it.

@@ -6,9 +6,11 @@ use Prim.Native.Nat.{ℕ, zero, suc, ◌+◌, ◌-◌, ◌*◌, ◌≤◌, ◌<�
 use native.Mathlib.Nat.{suc-mul, mul-le-mul, zero-mul}
 use native.Mathlib.Omega.{arith}
 use lib.ListN.{length, get_or, take, drop, length-map, length-drop}
-use lib.Seq.{drop_at, drop-drop}
+use lib.Seq.{drop_at, drop-drop, take_all}
 use lib.Dec.{ltb}
-use borrow.Author.Tests.{le-ltb, ltb-false, not-true}
+use borrow.Author.Tests.{ne_eqb, le-ltb, ltb-false, not-true}
+use lib.Dec.{eqb}
+use mir.Val.{bool_byte}
 use Rattle.lists.specs.Each.{Each}
 use Rattle.lists.specs.Lists.{count, total}
 use Rattle.lists.proofs.Counts.{count_most}
@@ -26,15 +28,18 @@ use Rattle.backup_steps.specs.Limit.{is_count}
 
 -- ---- one word
 
-pub one_none : (n : ℕ) → n ≡ 0 → ◌≡◌ {A = ℕ} 0 (cond (is_count n) 1 0)
-one_none zero e = refl
-one_none (suc n) e = absurd (omega (arith, e))
-
-pub one_some : (n : ℕ) → (n ≡ 0 → ⊥) → ◌≡◌ {A = ℕ} 1 (cond (is_count n) 1 0)
-one_some zero e = absurd (e refl)
-one_some (suc n) e = refl
+-- 1 for a count, 0 for none
+count_one : (n : ℕ) → ◌≡◌ {A = ℕ} (bool_byte (not (eqb n 0))) (cond (is_count n) 1 0)
+count_one zero = refl
+count_one (suc n) = rw (ne_eqb (suc n) 0 (λ e. omega arith))
 
 -- ---- one row
+
+-- the words from the k-th on, as a loop over them reads one
+pub part_count : (row : List ℕ) (k i one : ℕ) → one ≡ bool_byte (not (eqb (get_or (take (length row - k) (drop k row)) i 0) 0)) → one ≡ cond (is_count (get_or (drop k row) i 0)) 1 0
+part_count row k i one e =
+    e ∙ count_one (get_or (take (length row - k) (drop k row)) i 0)
+    ∙ ap {B = ℕ} (λ (ws : List ℕ). cond (is_count (get_or ws i 0)) 1 0) (take_all (length row - k) (drop k row) (omega (arith, length-drop k row)))
 
 -- the first i words are counted
 abbrev pub Counting : List ℕ → ℕ → ℕ → ℕ → Type 0

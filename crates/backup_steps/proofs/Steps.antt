@@ -93,13 +93,6 @@ module _ (m : Measures) (image pool ws words prev : List ℕ) (h : StorePre m im
   bs = image_blocks m.block_bytes image
 
   module _ (r : ℕ) (pool' ws' placed' words' : List ℕ) (free' : List Bool) (d : PlaceResult m image o r pool ws pool' ws' placed' words' free') where
-    pub refused_so : (prev' : List ℕ) → (r ≡ 0 → ⊥) → StoreResult m image qs (limited others most m bs qs o) r pool ws pool' ws' words' prev'
-    refused_so prev' z = go o refl d
-      where
-        go : (x : Outcome Placed) → o ≡ x → PlaceResult m image x r pool ws pool' ws' placed' words' free' → StoreResult m image qs (limited others most m bs qs x) r pool ws pool' ws' words' prev'
-        go (refused n) e q = (q.0, refusal_positive (storage_in m pool ws) (image_segments m.block_bytes m.segment_blocks image) n e, q.1, q.2)
-        go (done p) e q = absurd (z q.0)
-
     pub turnable_so : r ≡ 0 → length placed' ≡ 256 → TurnPre m image pool' ws' prev placed'
     turnable_so z l = go o refl d
       where

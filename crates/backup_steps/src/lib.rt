@@ -1,7 +1,7 @@
 // Steps 1 to 3 of a backup on the pool and the records' words: placed, turned, let go and swept; and the limit of a chain, before anything is removed.
 #![tactic(auto)]
 
-ghost use Rattle.std.specs.Prelude.{◌≡◌, cond, true, map, ◌+◌, ◌*◌, ◌≤◌, length, drop, replicate, take, ltb};
+ghost use Rattle.std.specs.Prelude.{◌≡◌, true, map, ◌+◌, ◌*◌, ◌≤◌, length, drop, replicate, take, ltb};
 ghost use Rattle.lists.specs.Lists.{count, total};
 ghost use Rattle.model.specs.Image.{image_blocks};
 ghost use Rattle.model.specs.Measures.{record_words};
@@ -11,14 +11,16 @@ ghost use Rattle.model.specs.Table.{cells_in, records_in, storage_in, word_to_po
 ghost use Rattle.numbers.specs.Measures.{measures_of};
 ghost use Rattle.place.specs.All.{placed_in};
 ghost use Rattle.place_undo.specs.Undo.{undo_upto};
+ghost use Rattle.refusals.specs.Refusals.{refusal_of};
 ghost use Rattle.storage.specs.Stored.{EncodesRecords, Encodes};
 ghost use Rattle.backup_steps.specs.Limit.{is_count, beyond, limited, TakeBackPre, RemovePre, RemoveResult};
 ghost use Rattle.backup_steps.specs.Steps.{TurnPre, TurnResult, StorePre, StoreResult};
 
 use numbers::Measures;
+use refusals::Refusal;
 
 // The cells that the other stores of a chain occupy, and the most that all of them may.
-#[derive(Clone, Copy)]
+#[derive(Clone, Copy, Debug, PartialEq, Eq)]
 pub struct Limit {
     pub others: u32,
     pub most: u32,
@@ -44,26 +46,14 @@ impl Limit {
     }
 }
 
-// 1 for a count, 0 for none.
-fn one_if(count: u32) -> u32
-    ensures { result ≡ cond (is_count count) 1 0 }
-{
-    if count == 0 {
-        return 0;
-    }
-    1
-}
-
 // How many positions of a record, of n, have a count.
 fn row_left(row: &[u32], n: usize) -> u32
     requires { (n ≤ 16) × (length row.now ≡ record_words n) }
     ensures { result ≡ count is_count (drop (3 + n) row.now) }
 {
     let mut left: u32 = 0;
-    let mut i = 3 + n;
-    while i < row.len() {
-        left = left + one_if(row[i]);
-        i = i + 1;
+    for &count in &row[3 + n..] {
+        left += u32::from(count != 0);
     }
     left
 }
@@ -76,13 +66,9 @@ fn cells_left(records: &[u32], n: usize) -> u32
     let width = numbers::row_words(n);
     let rows = numbers::rows(records.len(), n);
     let mut left: u32 = 0;
-    let mut at: usize = 0;
-    let mut k: usize = 0;
-    while k < rows {
-        let end = at + width;
-        left = left + row_left(&records[at..end], n);
-        at = end;
-        k = k + 1;
+    for k in 0..rows {
+        let at = k * width;
+        left += row_left(&records[at..at + width], n);
     }
     left
 }
@@ -92,10 +78,7 @@ fn too_many(records: &[u32], n: usize, limit: Limit) -> bool
     requires { (n ≤ 16) × EncodesRecords n records.now (records_in n records.now) × (length records.now ≤ 4096 * record_words n) × (limit.others ≤ 524288) }
     ensures { result ≡ ltb limit.most (limit.others + total (count is_referenced) (records_in n records.now)) }
 {
-    if !limit.exceeded(65536) {
-        return false;
-    }
-    limit.exceeded(cells_left(records, n))
+    limit.exceeded(65536) && limit.exceeded(cells_left(records, n))
 }
 
 // The counts rise again, and the placings are undone.
@@ -126,18 +109,18 @@ fn remove_or_take_back(
     segments: usize,
     limit: Limit,
     m: Measures,
-) -> u32
+) -> Result<(), Refusal>
     requires remove_pre { RemovePre (measures_of m) pool.old records.old out.now count placed.now segments × (limit.others ≤ 524288) }
     requires free_value { free.old ≡ free_cells (storage_in (measures_of m) pool.old records.old) }
-    ensures { let storage = storage_in (measures_of m) pool.old records.old in let gone = map word_to_pointer (take count out.now) in RemoveResult (beyond limit.others limit.most (measures_of m) storage gone) (measures_of m) storage gone (undo_upto (measures_of m) placed.now segments storage) result pool.new records.new }
+    ensures { let storage = storage_in (measures_of m) pool.old records.old in let gone = map word_to_pointer (take count out.now) in RemoveResult (beyond limit.others limit.most (measures_of m) storage gone) (measures_of m) storage gone (undo_upto (measures_of m) placed.now segments storage) (refusal_of result) pool.new records.new }
 {
     sweep_counts::release(records, &out[..count], m.blocks);
     if too_many(records, m.blocks, limit) {
         take_back(pool, records, &out[..count], placed, segments, m);
-        return 21;
+        return Err(Refusal::OverLimit);
     }
     sweep::sweep_free(pool, records, free, m);
-    0
+    Ok(())
 }
 
 // With room for the targets and for the pointers that turn.
@@ -152,10 +135,10 @@ fn turn_with(
     placed: &[u32],
     limit: Limit,
     m: Measures,
-) -> u32
+) -> Result<(), Refusal>
     requires turn_pre { TurnPre (measures_of m) image.now pool.old records.old prev.old placed.now × (length targets.old ≡ 1024) × (length out.old ≡ 1024) × (limit.others ≤ 524288) }
     requires free_value { free.old ≡ free_cells (storage_in (measures_of m) pool.old records.old) }
-    ensures { TurnResult limit.others limit.most (measures_of m) image.now (storage_in (measures_of m) pool.old records.old) (map word_to_pointer prev.old) placed.now result pool.new records.new prev.new }
+    ensures { TurnResult limit.others limit.most (measures_of m) image.now (storage_in (measures_of m) pool.old records.old) (map word_to_pointer prev.old) placed.now (refusal_of result) pool.new records.new prev.new }
 {
     let n = prev.len();
     let count = turn::turn_pointers(prev, image, pool, records, &mut targets[..n], out, m);
@@ -163,7 +146,7 @@ fn turn_with(
     remove_or_take_back(pool, records, free, out, count, placed, segments, limit, m)
 }
 
-// The previous version's pointers turn, those that did let go, and the storage is swept: 21 if that would exceed the limit.
+// The previous version's pointers turn, those that did let go, and the storage is swept: refused if that would exceed the limit.
 fn turn_and_sweep(
     image: &[u8],
     pool: &mut [u8],
@@ -173,10 +156,10 @@ fn turn_and_sweep(
     placed: &[u32],
     limit: Limit,
     m: Measures,
-) -> u32
+) -> Result<(), Refusal>
     requires turn_pre { TurnPre (measures_of m) image.now pool.old records.old prev.old placed.now × (limit.others ≤ 524288) }
     requires free_value { free.old ≡ free_cells (storage_in (measures_of m) pool.old records.old) }
-    ensures { TurnResult limit.others limit.most (measures_of m) image.now (storage_in (measures_of m) pool.old records.old) (map word_to_pointer prev.old) placed.now result pool.new records.new prev.new }
+    ensures { TurnResult limit.others limit.most (measures_of m) image.now (storage_in (measures_of m) pool.old records.old) (map word_to_pointer prev.old) placed.now (refusal_of result) pool.new records.new prev.new }
 {
     let mut targets = [0u32; 1024];
     let mut out = [0u32; 1024];
@@ -205,15 +188,12 @@ fn store_image_with(
     prev: &mut [u32],
     limit: Limit,
     m: Measures,
-) -> u32
+) -> Result<(), Refusal>
     requires store_pre { StorePre (measures_of m) image.now pool.old records.old words.old prev.old × (length placed.old ≡ 256) × (limit.others ≤ 524288) }
     requires free_value { free.old ≡ replicate (length (cells_in m.bytes pool.old)) true }
-    ensures { StoreResult (measures_of m) image.now (map word_to_pointer prev.old) (limited limit.others limit.most (measures_of m) (image_blocks m.bytes image.now) (map word_to_pointer prev.old) (placed_in (measures_of m) image.now pool.old records.old)) result pool.old records.old pool.new records.new words.new prev.new }
+    ensures { StoreResult (measures_of m) image.now (map word_to_pointer prev.old) (limited limit.others limit.most (measures_of m) (image_blocks m.bytes image.now) (map word_to_pointer prev.old) (placed_in (measures_of m) image.now pool.old records.old)) (refusal_of result) pool.old records.old pool.new records.new words.new prev.new }
 {
-    let r = place::place_all(image, pool, records, free, placed, words, m);
-    if r != 0 {
-        return r;
-    }
+    place::place_all(image, pool, records, free, placed, words, m)?;
     turn_and_sweep(image, pool, records, free, prev, placed, limit, m)
 }
 
@@ -226,9 +206,9 @@ pub fn store_image(
     prev: &mut [u32],
     limit: Limit,
     m: Measures,
-) -> u32
+) -> Result<(), Refusal>
     requires { StorePre (measures_of m) image.now pool.old records.old words.old prev.old × (limit.others ≤ 524288) }
-    ensures { StoreResult (measures_of m) image.now (map word_to_pointer prev.old) (limited limit.others limit.most (measures_of m) (image_blocks m.bytes image.now) (map word_to_pointer prev.old) (placed_in (measures_of m) image.now pool.old records.old)) result pool.old records.old pool.new records.new words.new prev.new }
+    ensures { StoreResult (measures_of m) image.now (map word_to_pointer prev.old) (limited limit.others limit.most (measures_of m) (image_blocks m.bytes image.now) (map word_to_pointer prev.old) (placed_in (measures_of m) image.now pool.old records.old)) (refusal_of result) pool.old records.old pool.new records.new words.new prev.new }
 {
     let mut free = [true; 32768];
     let mut placed = [0u32; 256];

@@ -72,27 +72,13 @@ pub words_done : (bit : ℕ) (ws : List ℕ) (i : ℕ) (marks after : List ℕ) 
 unfolding mark_words
 words_done bit ws i marks after h e = rw (drop_end ws i h) at e
 
-words_append : (bit : ℕ) (xs ys marks : List ℕ) → mark_words bit (xs ++ ys) marks ≡ mark_words bit ys (mark_words bit xs marks)
+pub words_append : (bit : ℕ) (xs ys marks : List ℕ) → mark_words bit (xs ++ ys) marks ≡ mark_words bit ys (mark_words bit xs marks)
 unfolding mark_words
 words_append bit [] ys marks = refl
 words_append bit (x ∷ xs) ys marks = words_append bit xs ys (mark_word bit x marks)
 
--- the next n words as a group of their own
-pub group_turn : (bit : ℕ) (ws : List ℕ) (i n : ℕ) (marks : List ℕ) → mark_words bit (drop i ws) marks ≡ mark_words bit (drop (i + n) ws) (mark_words bit (take n (drop i ws)) marks)
-group_turn bit ws i n marks =
-    ap (λ (l : List ℕ). mark_words bit l marks) (sym (take-append-drop n (drop i ws))) ∙ words_append bit (take n (drop i ws)) (drop n (drop i ws)) marks
-    ∙ ap (λ (l : List ℕ). mark_words bit l (mark_words bit (take n (drop i ws)) marks)) (drop-drop n i ws)
-
 -- whether a group has no direct pointer, word by word
 module _ (ws : List ℕ) (i : ℕ) where
-  pub none_next : i < length ws → (get_or ws i 0 / 65536 ≡ 256 → ⊥) → none_direct (drop i ws) ≡ none_direct (drop (i + 1) ws)
-  unfolding none_direct
-  none_next h n = every_next (λ w. not (eqb (w / 65536) 256)) ws i 0 h (ap not (ne_eqb (get_or ws i 0 / 65536) 256 n))
-
-  pub none_stop : i < length ws → get_or ws i 0 / 65536 ≡ 256 → none_direct (drop i ws) ≡ false
-  unfolding none_direct
-  none_stop h e = every_stop (λ w. not (eqb (w / 65536) 256)) ws i 0 h (ap not (eq-eqb (get_or ws i 0 / 65536) 256 e))
-
   pub none_end : length ws ≤ i → none_direct (drop i ws) ≡ true
   unfolding none_direct
   none_end h = every_end (λ w. not (eqb (w / 65536) 256)) ws i h
@@ -232,15 +218,15 @@ one_shared p m sums after e f =
     let r : p % 1 ≡ 0 = omega arith in
     rw (e, q, r) f
 
--- of the first n marks
-pub all_turn : (p n : ℕ) (marks : List ℕ) (i : ℕ) (sums : List ℕ) → n ≤ length marks → i < n
-    → share_all p (drop i (take n marks)) sums ≡ share_all p (drop (i + 1) (take n marks)) (shared p (get_or marks i 0) sums)
+-- mark after mark
+pub all_turn : (p : ℕ) (marks : List ℕ) (i : ℕ) (sums : List ℕ) → i < length marks
+    → share_all p (drop i marks) sums ≡ share_all p (drop (i + 1) marks) (shared p (get_or marks i 0) sums)
 unfolding share_all
-all_turn p n marks i sums l h = rw (drop_next (take n marks) i 0 (omega (arith, length-take n marks)), get_or-take n marks i 0 h)
+all_turn p marks i sums h = rw (drop_next marks i 0 h)
 
-pub all_done : (p n : ℕ) (marks : List ℕ) (i : ℕ) (sums after : List ℕ) → n ≤ i → share_all p (drop i (take n marks)) sums ≡ after → sums ≡ after
+pub all_done : (p : ℕ) (marks : List ℕ) (i : ℕ) (sums after : List ℕ) → length marks ≤ i → share_all p (drop i marks) sums ≡ after → sums ≡ after
 unfolding share_all
-all_done p n marks i sums after h e = rw (drop_end (take n marks) i (omega (arith, length-take n marks))) at e
+all_done p marks i sums after h e = rw (drop_end marks i h) at e
 
 -- ---- the answer
 

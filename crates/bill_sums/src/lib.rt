@@ -5,26 +5,17 @@ ghost use Rattle.std.specs.Prelude.{◌≡◌, ℕ, ◌+◌, ◌*◌, ◌-◌, �
 ghost use Rattle.laws.specs.Stores.{Sound};
 ghost use Rattle.audit_tills.specs.Sound.{pointer_words, slots_pointers, till_pointers};
 ghost use Rattle.bill.specs.Bill.{bill_of};
-ghost use Rattle.bill_sums.specs.Answers.{billed};
+ghost use Rattle.bill_sums.specs.Answers.{bill_result};
 ghost use Rattle.bill_sums.specs.Marks.{with_bit, mark_word, mark_words, none_direct, TillRows, mark_tills, part_of, share_out, shared, share_all, billed_tills};
 
-// Refusal 0 is an accepted call. The sums are tenths of a cent.
-#[repr(C)]
-#[derive(Clone, Copy)]
-pub struct Bill {
-    pub refusal: u32,
-    pub sums: [u32; 16],
-}
+use refusals::Refusal;
 
 // The tills are marked in their order, so that a mark below a till's bit is without it.
 fn with_bit(mark: u16, bit: u16) -> u16
     requires { bit ≤ 32768 }
     ensures { result ≡ with_bit bit mark }
 {
-    if mark < bit {
-        return mark + bit;
-    }
-    mark
+    if mark < bit { mark + bit } else { mark }
 }
 
 // A direct pointer puts the bit into its position's mark: the upper half of its word is 0x100, the lower the position's number.
@@ -43,12 +34,8 @@ fn none_direct(words: &[u32]) -> bool
     ensures { result ≡ none_direct words.now }
 {
     let mut none = true;
-    let mut i: usize = 0;
-    while i < words.len() {
-        if words[i] / 0x1_0000 == 0x100 {
-            none = false;
-        }
-        i += 1;
+    for &w in words {
+        none &= w / 0x1_0000 != 0x100;
     }
     none
 }
@@ -57,10 +44,8 @@ fn mark_each(words: &[u32], bit: u16, marks: &mut [u16])
     requires { (length marks.old ≡ 65536) × (bit ≤ 32768) }
     ensures { marks.new ≡ mark_words bit words.now marks.old }
 {
-    let mut i: usize = 0;
-    while i < words.len() {
-        mark_word(marks, words[i], bit);
-        i += 1;
+    for &w in words {
+        mark_word(marks, w, bit);
     }
 }
 
@@ -79,12 +64,12 @@ fn mark_words(words: &[u32], bit: u16, marks: &mut [u16])
     requires { (length marks.old ≡ 65536) × (bit ≤ 32768) }
     ensures { marks.new ≡ mark_words bit words.now marks.old }
 {
-    let mut at: usize = 0;
-    while 32 <= words.len() - at {
-        mark_group(&words[at..at + 32], bit, marks);
-        at += 32;
+    let groups = words.chunks_exact(32);
+    let rest = groups.remainder();
+    for group in groups {
+        mark_group(group, bit, marks);
     }
-    mark_group(&words[at..], bit, marks);
+    mark_group(rest, bit, marks);
 }
 
 // The pointers of one slot, for images of so many blocks of so many bytes.
@@ -102,11 +87,9 @@ fn mark_slots(slots: &[u32], bytes: usize, blocks: usize, count: usize, bit: u16
     ensures { marks.new ≡ mark_words bit (slots_pointers bytes blocks count slots.now) marks.old }
 {
     let width = 3 + blocks;
-    let mut i: usize = 0;
-    while i < count {
+    for i in 0..count {
         let at = i * width;
         mark_slot(&slots[at..at + width], bytes, blocks, bit, marks);
-        i += 1;
     }
 }
 
@@ -130,11 +113,9 @@ fn mark_tills(
     requires { (0 < bytes) × (bytes ≤ 512) × (blocks ≤ 1024) × (count ≤ 16) × TillRows width count blocks tills.now × (length marks.old ≡ 65536) }
     ensures { marks.new ≡ mark_tills bytes blocks width tills.now count marks.old }
 {
-    let mut t: usize = 0;
-    while t < count {
+    for t in 0..count {
         let at = t * width;
         mark_till(&tills[at..at + width], bytes, blocks, 1u16 << t, marks);
-        t += 1;
     }
 }
 
@@ -143,20 +124,7 @@ fn part(quotient: u32, left: u32) -> u32
     requires { quotient ≤ 10000 }
     ensures { (result ≡ part_of quotient 1 left) × (result ≤ 10001) }
 {
-    if left == 0 {
-        return quotient;
-    }
-    quotient + 1
-}
-
-// The tenths that are left after it.
-fn less(left: u32) -> u32
-    ensures { result ≡ left - 1 }
-{
-    if 0 < left {
-        return left - 1;
-    }
-    0
+    if left == 0 { quotient } else { quotient + 1 }
 }
 
 // The tills of a mark get their parts, from the lowest on.
@@ -169,9 +137,9 @@ fn share_out(mark: u32, quotient: u32, rest: u32, sums: &mut [u32])
     while m != 0 {
         let p = u32::trailing_zeros(m);
         let t = p as usize;
-        sums[t] = sums[t] + part(quotient, left);
-        left = less(left);
-        m = m - (1u32 << p);
+        sums[t] += part(quotient, left);
+        left = left.saturating_sub(1);
+        m -= 1u32 << p;
     }
 }
 
@@ -180,26 +148,24 @@ fn share(mark: u16, price: u32, sums: &mut [u32])
     requires { (0 < mark) × (price ≤ 10000) × (length sums.old ≡ 16) × ((t : ℕ) → get_or sums.old t 0 ≤ 1000000000) }
     ensures { sums.new ≡ shared price mark sums.old }
 {
-    let tills = mark as u32;
+    let tills = u32::from(mark);
     let n = u32::count_ones(tills);
     if n == 1 {
-        return share_out(tills, price, 0, sums);
+        share_out(tills, price, 0, sums);
+    } else {
+        share_out(tills, price / n, price % n, sums);
     }
-    share_out(tills, price / n, price % n, sums);
 }
 
-// The prices of the first marks. A position without a mark has no cell.
-fn share_all(marks: &[u16], count: usize, price: u32, sums: &mut [u32])
-    requires { (price ≤ 10000) × (count ≤ length marks.now) × (length marks.now ≤ 65536) × (length sums.old ≡ 16) × ((t : ℕ) → get_or sums.old t 0 ≡ 0) }
-    ensures { sums.new ≡ share_all price (take count marks.now) sums.old }
+// The prices of some marks. A position without a mark has no cell.
+fn share_all(marks: &[u16], price: u32, sums: &mut [u32])
+    requires { (price ≤ 10000) × (length marks.now ≤ 65536) × (length sums.old ≡ 16) × ((t : ℕ) → get_or sums.old t 0 ≡ 0) }
+    ensures { sums.new ≡ share_all price marks.now sums.old }
 {
-    let mut i: usize = 0;
-    while i < count {
-        let mark = marks[i];
+    for &mark in marks {
         if mark != 0 {
             share(mark, price, sums);
         }
-        i += 1;
     }
 }
 
@@ -212,36 +178,30 @@ fn bill_tills(
     blocks: usize,
     records: usize,
     price: u32,
-) -> Bill
+) -> [u32; 16]
     requires { (0 < bytes) × (bytes ≤ 512) × (blocks ≤ 1024) × (count ≤ 16) × TillRows width count blocks tills.now × (records ≤ 4096) × (price ≤ 10000) }
-    ensures { billed result ≡ billed_tills bytes blocks width tills.now count records price }
+    ensures { bill_result (Ok result) ≡ billed_tills bytes blocks width tills.now count records price }
 {
     let mut marks = [0u16; 65536];
     let mut sums = [0u32; 16];
     mark_tills(tills, width, count, bytes, blocks, &mut marks);
-    share_all(&marks, records * 16, price, &mut sums);
-    Bill {
-        refusal: 0,
-        sums: sums,
-    }
+    share_all(&marks[..records * 16], price, &mut sums);
+    sums
 }
 
-pub fn bill_store(pool: &[u8], table: &[u32], price: u32) -> Bill
+pub fn bill_store(pool: &[u8], table: &[u32], price: u32) -> Result<[u32; 16], Refusal>
     requires { Sound pool.now table.now }
-    ensures { billed result ≡ bill_of pool.now table.now price }
+    ensures { bill_result result ≡ bill_of pool.now table.now price }
 {
     if 10000 < price {
-        return Bill {
-            refusal: 30,
-            sums: [0u32; 16],
-        };
+        return Err(Refusal::HighPrice);
     }
     let m = layout::measures_in(table);
     let width = layout::till_words(table);
     let count = table[0] as usize;
     let blocks = table[2] as usize;
     let records = table[3] as usize;
-    bill_tills(
+    Ok(bill_tills(
         &table[layout::HEADER_WORDS..],
         width,
         count,
@@ -249,5 +209,5 @@ pub fn bill_store(pool: &[u8], table: &[u32], price: u32) -> Bill
         blocks,
         records,
         price,
-    )
+    ))
 }

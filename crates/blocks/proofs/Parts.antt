@@ -1,6 +1,6 @@
 -- Parts that were lent and have come back, and a block of an image.
 use mathlib.Core.Path.{◌≡◌, refl, sym, ap, ap₂, ◌∙◌}
-use mathlib.Core.Bool.{Bool, true, false, cond}
+use mathlib.Core.Bool.{Bool, false, cond}
 use mathlib.Core.List.{List, [], ◌∷◌, ◌++◌}
 use Prim.Native.Nat.{ℕ, ◌+◌, ◌-◌, ◌≤◌, min}
 use native.Mathlib.Omega.{arith}
@@ -10,10 +10,9 @@ use borrow.Rule.Slice.PartMut.{mid_of, put_mid, Post-is, mid_len}
 use Rattle.lists.specs.Lists.{every, all_zero, same_numbers}
 use Rattle.lists.specs.Rows.{fill}
 use Rattle.lists.proofs.Slices.{tail_all, tail_put, cut_small, cut_is}
-use Rattle.lists.proofs.Rows.{fill_all, fill_split, fill_take, fill_zeros, zero_fill}
+use Rattle.lists.proofs.Rows.{fill_all, fill_split, fill_take, fill_zeros}
 use Rattle.model.specs.Image.{block_from}
 use Rattle.lists.proofs.Appends.{same_append}
-use Rattle.lists.proofs.Written.{copied_part}
 
 -- the whole, whose n elements from a on were filled
 pub filled_part : (a n v : ℕ) (xs ys : List ℕ) → a + n ≤ length xs → ys ≡ replicate (length (mid_of a ((a + n) - a) xs)) v
@@ -21,15 +20,6 @@ pub filled_part : (a n v : ℕ) (xs ys : List ℕ) → a + n ≤ length xs → y
 filled_part a n v xs ys h e =
     let k : (a + n) - a ≡ n = omega arith in
     rw (e, mid_len a (a + n) xs h, Post-is a (a + n) xs (omega arith), k)
-
--- the same where s is n elements of another list, from a start on
-pub copied_block : (from n to : ℕ) (pool out ys : List ℕ) → from + n ≤ length pool → to + n ≤ length out
-    → (let s = mid_of from ((from + n) - from) pool in ys ≡ s ++ drop (length s) (mid_of to (length out - to) out))
-    → put_mid to (length out - to) out ys ≡ take to out ++ (take n (drop from pool) ++ drop (to + n) out)
-copied_block from n to pool out ys h h' e =
-    let k : (from + n) - from ≡ n = omega arith in
-    let l : length (mid_of from ((from + n) - from) pool) ≡ n = mid_len from (from + n) pool h ∙ k in
-    copied_part to out (mid_of from ((from + n) - from) pool) ys (omega arith) e ∙ rw (l, k)
 
 -- ---- a part filled up with zeros
 
@@ -45,15 +35,12 @@ padded_is p b h =
     ∙ same_append (take (length p) b) (drop (length p) b) p (replicate (length (drop (length p) b)) 0) (length-take-le (length p) b h)
     ∙ ap (λ (t : Bool). cond (same_numbers (take (length p) b) p) t false) (same_zeros (drop (length p) b))
 
-pub padded_yes : (p b : List ℕ) (r : Bool) → length p ≤ length b → same_numbers (take (length p) b) p ≡ true
-    → r ≡ all_zero (take (length b - length p) (drop (length p) b)) → r ≡ same_numbers b (fill (length b) p)
-padded_yes p b r h e f = f ∙ rw (tail_all b (length p), padded_is p b h, e)
-
-pub padded_no : (p b : List ℕ) → length p ≤ length b → same_numbers (take (length p) b) p ≡ false → false ≡ same_numbers b (fill (length b) p)
-padded_no p b h e = rw (padded_is p b h, e)
+pub padded : (p b : List ℕ) → length p ≤ length b → (front end : List ℕ) (t : Bool) → front ≡ take (length p) b → end ≡ drop (length p) b
+    → t ≡ same_numbers front p → cond t (all_zero end) false ≡ same_numbers b (fill (length b) p)
+padded p b h front end t ef ee e = rw (e, ef, ee) (sym (padded_is p b h))
 
 -- copied to the front of a list, and the rest of the list cleared
-put_filled : (p cell xs ys : List ℕ) (k n : ℕ) → length p ≡ k → k ≤ n → length cell ≡ n → xs ≡ p ++ drop (length p) cell
+pub put_filled : (p cell xs ys : List ℕ) (k n : ℕ) → length p ≡ k → k ≤ n → length cell ≡ n → xs ≡ p ++ drop (length p) cell
     → ys ≡ replicate (length (take (length xs - k) (drop k xs))) 0 → take k xs ++ (ys ++ drop (length xs - k) (drop k xs)) ≡ fill n p
 put_filled p cell xs ys k n lp h lc ex ey =
     let lx : length xs ≡ n = ap length ex ∙ length-append p (drop (length p) cell) ∙ omega (arith, length-drop (length p) cell) in
@@ -74,19 +61,6 @@ module _ (l : List ℕ) (at bytes s e : ℕ) (hs : s ≡ min (length l) at) (he 
 
   pub cut_fits : length cut ≤ bytes
   cut_fits = cut_small l at bytes s e hs he
-
-  pub cut_zero : all_zero cut ≡ all_zero (block_from bytes l at)
-  cut_zero = sym (zero_fill bytes cut cut_fits) ∙ ap all_zero cut_block
-
-  pub cut_same : (cell : List ℕ) → length cell ≡ bytes → same_numbers cell (fill (length cell) cut) ≡ same_numbers cell (block_from bytes l at)
-  cut_same cell n = ap (λ (k : ℕ). same_numbers cell (fill k cut)) n ∙ ap (same_numbers cell) cut_block
-
-  -- copied to the front of a cell, and the rest of the cell cleared
-  pub cut_put : (cell xs ys : List ℕ) → length cell ≡ bytes → xs ≡ cut ++ drop (length cut) cell → ys ≡ replicate (length (take (length xs - (e - s)) (drop (e - s) xs))) 0
-      → take (e - s) xs ++ (ys ++ drop (length xs - (e - s)) (drop (e - s) xs)) ≡ block_from bytes l at
-  cut_put cell xs ys n ex ey =
-      let lc : length cut ≡ e - s = length-take-le (e - s) (drop s l) (omega (arith, length-drop s l)) in
-      put_filled cut cell xs ys (e - s) bytes lc (omega (arith, cut_fits)) n ex ey ∙ cut_block
 
 -- a block that the image's end does not cut
 pub whole_same : (l cell : List ℕ) (at bytes : ℕ) → at + bytes ≤ length l

@@ -1,102 +1,103 @@
 -- Tests in pieces, and byte by byte with a count.
-use mathlib.Core.Path.{◌≡◌, refl, sym, ap, ap₂, ◌∙◌}
-use mathlib.Core.Bool.{Bool, true, false, cond}
-use mathlib.Core.List.{List, [], ◌∷◌, ◌++◌}
-use Prim.Native.Nat.{ℕ, zero, suc, ◌+◌, ◌≤◌, ◌<◌}
-use native.Mathlib.Omega.{arith}
+use Rattle.std.proofs.Common.{◌≡◌, refl, sym, ap, ap₂, ◌∙◌, Bool, true, false, cond, not, ◌&&◌, List, [], ◌∷◌, ℕ, zero, suc, ◌+◌, ◌*◌, ◌/◌, ◌%◌, ◌≤◌, ◌<◌, length, get_or, take, drop, replicate, eqb, length-drop, take-append-drop, arith, add-zero}
+use Rattle.std.proofs.Math.Nat.{suc-mul, zero-mul}
+use Rattle.std.proofs.Math.Seq.{length-take-le, drop-drop}
+use Rattle.std.proofs.lemmas.List.{take-replicate}
+use Rattle.std.specs.List.{list_all, zip}
+use Rattle.std.specs.Simd.{first_chunks}
+use mir.Val.{bool_byte}
 use borrow.Author.Tests.{ne_eqb}
-use lib.Dec.{eqb}
-use lib.ListN.{length, get_or, take, drop, length-drop, take-append-drop}
-use lib.Seq.{get_or-drop, length-take-le, drop-drop}
 use Rattle.lists.specs.Lists.{every, same_numbers}
 use Rattle.lists.proofs.Tests.{cond_self}
-use Rattle.lists.proofs.Slices.{drop_next, take_next, drop_end}
+use Rattle.lists.proofs.Slices.{drop_next, drop_end, take_next}
 use Rattle.lists.proofs.Appends.{every_append, same_append}
 
 -- ---- a count that is 0 just where a test holds so far
 
-pub count_hit : (c : ℕ) (p q : Bool) → eqb c 0 ≡ p → q ≡ false → eqb (c + 1) 0 ≡ cond p q false
-count_hit c p q e f = ne_eqb (c + 1) 0 (λ z. omega arith) ∙ go p
-  where
-    go : (t : Bool) → false ≡ cond t q false
-    go true = sym f
-    go false = refl
+module _ (c n : ℕ) where
+  pub count_more : (p q : Bool) → eqb c 0 ≡ p → n ≡ bool_byte (not q) → eqb (c + n) 0 ≡ cond p q false
+  count_more true true e f = rw (f, add-zero) e
+  count_more false true e f = rw (f, add-zero) e
+  count_more true false e f = rw f (ne_eqb (c + 1) 0 (λ z. omega arith))
+  count_more false false e f = rw f (ne_eqb (c + 1) 0 (λ z. omega arith))
 
-pub count_miss : (c : ℕ) (p q : Bool) → eqb c 0 ≡ p → q ≡ true → eqb c 0 ≡ cond p q false
-count_miss c p q e f = e ∙ go p
-  where
-    go : (t : Bool) → t ≡ cond t q false
-    go true = sym f
-    go false = refl
+  pub one_more : (q : Bool) → n ≡ bool_byte (not q) → n ≤ 1
+  one_more true f = omega arith
+  one_more false f = omega arith
 
--- the byte at i of what begins at `at`
-next_byte : (l : List ℕ) (at i : ℕ) → at + i < length l → take (i + 1) (drop at l) ≡ take i (drop at l) ++ (get_or l (at + i) 0 ∷ [])
-next_byte l at i h = take_next (drop at l) i 0 (omega (arith, length-drop at l)) ∙ ap (λ (x : ℕ). take i (drop at l) ++ (x ∷ [])) (get_or-drop at l i 0)
+pub same_next : (a b : List ℕ) (i : ℕ) → i < length a → i < length b
+    → same_numbers (take (i + 1) a) (take (i + 1) b) ≡ cond (same_numbers (take i a) (take i b)) (eqb (get_or a i 0) (get_or b i 0)) false
+same_next a b i h k =
+    let n : length (take i a) ≡ length (take i b) = length-take-le i a (omega arith) ∙ sym (length-take-le i b (omega arith)) in
+    ap₂ same_numbers (take_next a i 0 h) (take_next b i 0 k)
+    ∙ same_append (take i a) (get_or a i 0 ∷ []) (take i b) (get_or b i 0 ∷ []) n
+    ∙ ap (λ (t : Bool). cond (same_numbers (take i a) (take i b)) t false) (unfold same_numbers in cond_self (eqb (get_or a i 0) (get_or b i 0)))
 
--- ---- all the same byte
-
-module _ (v : ℕ) (l : List ℕ) (at : ℕ) where
-  abbrev are : List ℕ → Bool
-  are xs = every (λ x. eqb x v) xs
-
-  pub filled_more : (i : ℕ) → at + i < length l → are (take (i + 1) (drop at l)) ≡ cond (are (take i (drop at l))) (eqb (get_or l (at + i) 0) v) false
-  filled_more i h =
-      ap are (next_byte l at i h)
-      ∙ every_append (λ x. eqb x v) (take i (drop at l)) (get_or l (at + i) 0 ∷ [])
-      ∙ ap (λ (t : Bool). cond (are (take i (drop at l))) t false) (unfold every in cond_self (eqb (get_or l (at + i) 0) v))
-
-  pub filled_first : (n : ℕ) → at < length l → 0 < n → (get_or l at 0 ≡ v → ⊥) → are (take n (drop at l)) ≡ false
-  unfolding every
-  filled_first zero h z n = absurd (omega arith)
-  filled_first (suc n) h z e = rw (drop_next l at 0 h, ne_eqb (get_or l at 0) v e)
-
-  filled_piece : (n : ℕ) → are (drop at l) ≡ cond (are (take n (drop at l))) (are (drop (at + n) l)) false
-  filled_piece n =
-      ap are (sym (take-append-drop n (drop at l)))
-      ∙ every_append (λ x. eqb x v) (take n (drop at l)) (drop n (drop at l))
-      ∙ ap (λ (t : List ℕ). cond (are (take n (drop at l))) (are t) false) (drop-drop n at l)
-
-  pub filled_stop : (n : ℕ) → are (take n (drop at l)) ≡ false → are (drop at l) ≡ false
-  filled_stop n e = filled_piece n ∙ rw e
-
-  pub filled_on : (n : ℕ) → are (take n (drop at l)) ≡ true → are (drop at l) ≡ are (drop (at + n) l)
-  filled_on n e = filled_piece n ∙ rw e
-
--- ---- the same
-
-module _ (a b : List ℕ) (at : ℕ) where
-  pub same_more : (i : ℕ) → at + i < length a → at + i < length b
-      → same_numbers (take (i + 1) (drop at a)) (take (i + 1) (drop at b))
-      ≡ cond (same_numbers (take i (drop at a)) (take i (drop at b))) (eqb (get_or a (at + i) 0) (get_or b (at + i) 0)) false
-  same_more i h k =
-      let n : length (take i (drop at a)) ≡ length (take i (drop at b)) =
-      length-take-le i (drop at a) (omega (arith, length-drop at a)) ∙ sym (length-take-le i (drop at b) (omega (arith, length-drop at b))) in
-      ap₂ same_numbers (next_byte a at i h) (next_byte b at i k)
-      ∙ same_append (take i (drop at a)) (get_or a (at + i) 0 ∷ []) (take i (drop at b)) (get_or b (at + i) 0 ∷ []) n
-      ∙ ap (λ (t : Bool). cond (same_numbers (take i (drop at a)) (take i (drop at b))) t false) (unfold same_numbers in cond_self (eqb (get_or a (at + i) 0) (get_or b (at + i) 0)))
-
-  pub same_first : (n : ℕ) → at < length a → at < length b → 0 < n → (get_or a at 0 ≡ get_or b at 0 → ⊥) → same_numbers (take n (drop at a)) (take n (drop at b)) ≡ false
-  unfolding same_numbers
-  same_first zero h k z e = absurd (omega arith)
-  same_first (suc n) h k z e = rw (drop_next a at 0 h, drop_next b at 0 k, ne_eqb (get_or a at 0) (get_or b at 0) e)
-
-  same_piece : (n : ℕ) → at + n ≤ length a → at + n ≤ length b
-      → same_numbers (drop at a) (drop at b) ≡ cond (same_numbers (take n (drop at a)) (take n (drop at b))) (same_numbers (drop (at + n) a) (drop (at + n) b)) false
-  same_piece n h k =
-      let e : length (take n (drop at a)) ≡ length (take n (drop at b)) =
-      length-take-le n (drop at a) (omega (arith, length-drop at a)) ∙ sym (length-take-le n (drop at b) (omega (arith, length-drop at b))) in
-      ap₂ same_numbers (sym (take-append-drop n (drop at a))) (sym (take-append-drop n (drop at b)))
-      ∙ same_append (take n (drop at a)) (drop n (drop at a)) (take n (drop at b)) (drop n (drop at b)) e
-      ∙ ap₂ (λ (s t : List ℕ). cond (same_numbers (take n (drop at a)) (take n (drop at b))) (same_numbers s t) false) (drop-drop n at a) (drop-drop n at b)
-
-  module _ (n : ℕ) (h : at + n ≤ length a) (k : at + n ≤ length b) where
-    pub same_stop : same_numbers (take n (drop at a)) (take n (drop at b)) ≡ false → same_numbers (drop at a) (drop at b) ≡ false
-    same_stop e = same_piece n h k ∙ rw e
-
-    pub same_on : same_numbers (take n (drop at a)) (take n (drop at b)) ≡ true → same_numbers (drop at a) (drop at b) ≡ same_numbers (drop (at + n) a) (drop (at + n) b)
-    same_on e = same_piece n h k ∙ rw e
-
--- nothing left on both sides
-pub same_ended : (a b : List ℕ) (at : ℕ) → length a ≤ at → length b ≤ at → true ≡ same_numbers (drop at a) (drop at b)
+-- the first bytes settle it
+pub first_other : (a b : List ℕ) → 0 < length a → 0 < length b → (get_or a 0 0 ≡ get_or b 0 0 → ⊥) → eqb (get_or a 0 0) (get_or b 0 0) ≡ same_numbers a b
 unfolding same_numbers
-same_ended a b at h k = rw (drop_end a at h, drop_end b at k)
+first_other [] b h k e = absurd (omega arith)
+first_other (x ∷ a) [] h k e = absurd (omega arith)
+first_other (x ∷ a) (y ∷ b) h k e = rw (ne_eqb x y e)
+
+pub same_first : (a b : List ℕ) (at n : ℕ) → at < length a → at < length b → 0 < n → (get_or a at 0 ≡ get_or b at 0 → ⊥) → same_numbers (take n (drop at a)) (take n (drop at b)) ≡ false
+unfolding same_numbers
+same_first a b at zero h k z e = absurd (omega arith)
+same_first a b at (suc n) h k z e = rw (drop_next a at 0 h, drop_next b at 0 k, ne_eqb (get_or a at 0) (get_or b at 0) e)
+
+-- ---- all the same byte, as a row of it is the same
+
+pub same_row : (v : ℕ) (xs : List ℕ) → same_numbers xs (replicate (length xs) v) ≡ every (λ x. eqb x v) xs
+unfolding same_numbers every
+same_row v [] = refl
+same_row v (x ∷ xs) = rw (same_row v xs)
+
+pub same_part : (v n : ℕ) (xs : List ℕ) → length xs ≤ n → same_numbers xs (take (length xs) (replicate n v)) ≡ every (λ x. eqb x v) xs
+same_part v n xs h = rw (take-replicate (length xs) n v h) (same_row v xs)
+
+-- ---- in pieces, and what is left
+
+both : (p l e r : Bool) → cond l e false ≡ r → cond (p && l) e false ≡ cond p r false
+both true l e r h = h
+both false l e r h = refl
+
+module _ (n : ℕ) where
+  past : (k : ℕ) (xs : List ℕ) → drop (suc k * n) xs ≡ drop (k * n) (drop n xs)
+  past k xs = ap (λ (m : ℕ). drop m xs) (let e = suc-mul k n in omega (arith, e)) ∙ sym (drop-drop (k * n) n xs)
+
+  room : (k : ℕ) (xs : List ℕ) → suc k * n ≤ length xs → k * n ≤ length (drop n xs)
+  room k xs h = let e = suc-mul k n in omega (arith, e, length-drop n xs)
+
+  front : (k : ℕ) (xs : List ℕ) → suc k * n ≤ length xs → length (take n xs) ≡ n
+  front k xs h = let e = suc-mul k n in length-take-le n xs (omega (arith, e))
+
+  pub filled_pieces : (v k : ℕ) (xs : List ℕ) → k * n ≤ length xs
+      → cond (list_all (λ p. same_numbers p (replicate n v)) (first_chunks n k xs)) (every (λ x. eqb x v) (drop (k * n) xs)) false ≡ every (λ x. eqb x v) xs
+  filled_pieces v zero xs h = rw (zero-mul n) refl
+  filled_pieces v (suc k) xs h =
+      let f : Bool = every (λ x. eqb x v) (take n xs) in
+      let one : same_numbers (take n xs) (replicate n v) ≡ f = rw (front k xs h) at (same_row v (take n xs)) in
+      rw (past k xs, one) (both f _ _ _ (filled_pieces v k (drop n xs) (room k xs h)))
+      ∙ sym (ap (every (λ x. eqb x v)) (sym (take-append-drop n xs)) ∙ every_append (λ x. eqb x v) (take n xs) (drop n xs))
+
+  pub same_pieces : (k : ℕ) (a b : List ℕ) → k * n ≤ length a → k * n ≤ length b
+      → cond (list_all (λ p. same_numbers p.0 p.1) (zip (first_chunks n k a) (first_chunks n k b))) (same_numbers (drop (k * n) a) (drop (k * n) b)) false ≡ same_numbers a b
+  same_pieces zero a b h h' = rw (zero-mul n) refl
+  same_pieces (suc k) a b h h' =
+      rw (past k a, past k b) (both (same_numbers (take n a) (take n b)) _ _ _ (same_pieces k (drop n a) (drop n b) (room k a h) (room k b h')))
+      ∙ sym (ap₂ same_numbers (sym (take-append-drop n a)) (sym (take-append-drop n b))
+      ∙ same_append (take n a) (drop n a) (take n b) (drop n b) (front k a h ∙ sym (front k b h')))
+
+  module _ (pos : 0 < n) (xs : List ℕ) (pieces : List (List ℕ)) (ep : pieces ≡ first_chunks n (length xs / n) xs) where
+    pub filled_all : (v : ℕ) (rest : List ℕ) (p : Bool) → rest ≡ drop (length xs / n * n) xs → p ≡ list_all (λ q. same_numbers q (replicate n v)) pieces
+        → cond p (every (λ x. eqb x v) rest) false ≡ every (λ x. eqb x v) xs
+    filled_all v rest p er e = rw (e, ep, er) (filled_pieces v (length xs / n) xs (omega arith))
+
+    pub same_all : (ys : List ℕ) (others : List (List ℕ)) (rest end : List ℕ) (p : Bool) → length xs ≡ length ys → others ≡ first_chunks n (length ys / n) ys
+        → rest ≡ drop (length xs / n * n) xs → end ≡ drop (length ys / n * n) ys → p ≡ list_all (λ q. same_numbers q.0 q.1) (zip pieces others)
+        → cond p (same_numbers rest end) false ≡ same_numbers xs ys
+    same_all ys others rest end p l eo er ee e = rw (e, ep, eo, er, ee, ← l) (same_pieces (length xs / n) xs ys (omega arith) (omega (arith, l)))
+
+-- nothing is left
+pub whole : (n : ℕ) (xs : List ℕ) → length xs % n ≡ 0 → 0 < n → drop (length xs / n * n) xs ≡ []
+whole n xs e p = drop_end xs (length xs / n * n) (omega arith)

@@ -2,57 +2,46 @@
 #![tactic(auto)]
 
 ghost use Rattle.std.specs.Prelude.{◌≡◌, ◌++◌, ℕ, ◌+◌, ◌*◌, ◌%◌, ◌≤◌, ◌<◌, min, eqb, length, take, drop, replicate};
+ghost use Rattle.std.specs.List.{list_all, zip};
 ghost use Rattle.lists.specs.Lists.{every, all_zero, same_numbers};
 ghost use Rattle.lists.specs.Rows.{fill};
 ghost use Rattle.model.specs.Image.{block_from};
 
 use numbers::{Block, Cell};
 
-pub fn least(a: usize, b: usize) -> usize
-    ensures { result ≡ min a b }
-{
-    if a < b { a } else { b }
-}
-
-// How many of the n bytes at `at` are not a given one. No exit from the loop and a count of 8 bits, so that the compiler takes many bytes at a time.
-fn others(part: &[u8], at: usize, n: usize, byte: u8) -> u8
-    requires { (n ≤ 64) × (at + n ≤ length part.now) }
-    ensures { eqb result 0 ≡ every (λ x. eqb x byte) (take n (drop at part.now)) }
+// How many bytes differ. No exit from the loop and a count of 8 bits, so that the compiler takes many bytes at a time.
+fn differing(a: &[u8], b: &[u8]) -> u8
+    requires { (length a.now ≤ 64) × (length b.now ≡ length a.now) }
+    ensures { eqb result 0 ≡ same_numbers a.now b.now }
 {
     let mut count: u8 = 0;
-    let mut i: usize = 0;
-    while i < n {
-        if part[at + i] != byte {
-            count += 1;
-        }
-        i += 1;
+    for (i, x) in a.iter().enumerate() {
+        count += u8::from(*x != b[i]);
     }
     count
 }
 
-// Whether the 64 bytes at `at` are all the given one. The first byte settles most blocks.
-fn piece_filled(part: &[u8], at: usize, byte: u8) -> bool
-    requires { at + 64 ≤ length part.now }
-    ensures { result ≡ every (λ x. eqb x byte) (take 64 (drop at part.now)) }
+// Whether two pieces of 64 bytes are the same. The first byte settles most pairs.
+fn piece_same(a: &[u8; 64], b: &[u8; 64]) -> bool
+    ensures { result ≡ same_numbers a.now b.now }
 {
-    if part[at] != byte {
-        return false;
-    }
-    others(part, at, 64, byte) == 0
+    a[0] == b[0] && differing(a, b) == 0
+}
+
+// Whether all pieces are the same as one.
+fn pieces_are(pieces: &[[u8; 64]], row: &[u8; 64]) -> bool
+    ensures { result ≡ list_all (λ piece. same_numbers piece row.now) pieces.now }
+{
+    pieces.iter().all(|piece| piece_same(piece, row))
 }
 
 // Whether all bytes are the given one: in pieces of 64 bytes, and what is left.
 pub fn filled(part: &[u8], byte: u8) -> bool
     ensures { result ≡ every (λ x. eqb x byte) part.now }
 {
-    let mut at: usize = 0;
-    while 64 <= part.len() - at {
-        if !piece_filled(part, at, byte) {
-            return false;
-        }
-        at += 64;
-    }
-    others(part, at, part.len() - at, byte) == 0
+    let row = [byte; 64];
+    let (pieces, rest) = part.as_chunks();
+    pieces_are(pieces, &row) && differing(rest, &row[..rest.len()]) == 0
 }
 
 // The same of whole pieces: nothing is left, so that a cell of one piece is one test.
@@ -60,16 +49,8 @@ pub fn pieces_filled(part: &[u8], byte: u8) -> bool
     requires { (64 ≤ length part.now) × (length part.now % 64 ≡ 0) }
     ensures { result ≡ every (λ x. eqb x byte) part.now }
 {
-    let mut at: usize = 0;
-    loop {
-        if !piece_filled(part, at, byte) {
-            return false;
-        }
-        at += 64;
-        if part.len() <= at {
-            return true;
-        }
-    }
+    let (pieces, _) = part.as_chunks();
+    pieces_are(pieces, &[byte; 64])
 }
 
 pub fn all_zero(part: &[u8]) -> bool
@@ -85,31 +66,12 @@ pub fn pieces_zero(part: &[u8]) -> bool
     pieces_filled(part, 0)
 }
 
-// How many of the n bytes at `at` differ.
-fn differing(a: &[u8], b: &[u8], at: usize, n: usize) -> u8
-    requires { (n ≤ 64) × (at + n ≤ length a.now) × (at + n ≤ length b.now) }
-    ensures { eqb result 0 ≡ same_numbers (take n (drop at a.now)) (take n (drop at b.now)) }
+// Whether the pieces are the same, each with its like.
+fn pairs_same(a: &[[u8; 64]], b: &[[u8; 64]]) -> bool
+    requires { length a.now ≡ length b.now }
+    ensures { result ≡ list_all (λ p. same_numbers p.0 p.1) (zip a.now b.now) }
 {
-    let mut count: u8 = 0;
-    let mut i: usize = 0;
-    while i < n {
-        if a[at + i] != b[at + i] {
-            count += 1;
-        }
-        i += 1;
-    }
-    count
-}
-
-// Whether the 64 bytes at `at` are the same. The first byte settles most pairs.
-fn piece_same(a: &[u8], b: &[u8], at: usize) -> bool
-    requires { (at + 64 ≤ length a.now) × (at + 64 ≤ length b.now) }
-    ensures { result ≡ same_numbers (take 64 (drop at a.now)) (take 64 (drop at b.now)) }
-{
-    if a[at] != b[at] {
-        return false;
-    }
-    differing(a, b, at, 64) == 0
+    a.iter().zip(b).all(|(x, y)| piece_same(x, y))
 }
 
 // In pieces of 64 bytes, and what is left.
@@ -119,26 +81,9 @@ pub fn same(a: &[u8], b: &[u8]) -> bool
     if a.len() != b.len() {
         return false;
     }
-    let mut at: usize = 0;
-    while 64 <= a.len() - at {
-        if !piece_same(a, b, at) {
-            return false;
-        }
-        at += 64;
-    }
-    differing(a, b, at, a.len() - at) == 0
-}
-
-// The source's bytes to the front of the destination.
-pub fn copy_in(src: &[u8], dst: &mut [u8])
-    requires { length src.now ≤ length dst.old }
-    ensures { dst.new ≡ src.now ++ drop (length src.now) dst.old }
-{
-    let mut i: usize = 0;
-    while i < src.len() {
-        dst[i] = src[i];
-        i = i + 1;
-    }
+    let (pieces, rest) = a.as_chunks();
+    let (others, end) = b.as_chunks();
+    pairs_same(pieces, others) && differing(rest, end) == 0
 }
 
 // n bytes of the source, from `from` on, to the output, from `to` on: the output's part from there on is lent to the byte copier.
@@ -146,8 +91,7 @@ pub fn copy_part(src: &[u8], from: usize, out: &mut [u8], to: usize, n: usize)
     requires { (from + n ≤ length src.now) × (to + n ≤ length out.old) }
     ensures { out.new ≡ take to out.old ++ (take n (drop from src.now) ++ drop (to + n) out.old) }
 {
-    let end = from + n;
-    copy_in(&src[from..end], &mut out[to..]);
+    out[to..to + n].copy_from_slice(&src[from..from + n]);
 }
 
 // The first n bytes of a cell go straight to a block's place in the output.
@@ -158,30 +102,13 @@ pub fn copy_block(pool: &[u8], cell: Cell, out: &mut [u8], block: Block, n: usiz
     copy_part(pool, cell.byte(bytes), out, block.byte(bytes), n);
 }
 
-pub fn fill_with(part: &mut [u8], byte: u8)
-    ensures { part.new ≡ replicate (length part.old) byte }
-{
-    let mut i: usize = 0;
-    while i < part.len() {
-        part[i] = byte;
-        i = i + 1;
-    }
-}
-
 // The first n bytes of a block's place in the output become one byte, as of a block that has no cell.
 pub fn fill_block(out: &mut [u8], block: Block, n: usize, byte: u8, bytes: usize)
     requires { (bytes ≤ 512) × (block.0 * bytes + n ≤ length out.old) }
     ensures { out.new ≡ take (block.0 * bytes) out.old ++ (replicate n byte ++ drop (block.0 * bytes + n) out.old) }
 {
     let to = block.byte(bytes);
-    let end = to + n;
-    fill_with(&mut out[to..end], byte);
-}
-
-pub fn clear(part: &mut [u8])
-    ensures { part.new ≡ replicate (length part.old) 0 }
-{
-    fill_with(part, 0);
+    out[to..to + n].fill(byte);
 }
 
 pub fn clear_cell(pool: &mut [u8], c: Cell, bytes: usize)
@@ -189,8 +116,7 @@ pub fn clear_cell(pool: &mut [u8], c: Cell, bytes: usize)
     ensures { pool.new ≡ take (c.0 * bytes) pool.old ++ (replicate bytes 0 ++ drop (c.0 * bytes + bytes) pool.old) }
 {
     let at = c.byte(bytes);
-    let end = at + bytes;
-    clear(&mut pool[at..end]);
+    pool[at..at + bytes].fill(0);
 }
 
 // Whether a block equals a part, filled up with zeros.
@@ -198,11 +124,18 @@ pub fn same_padded(part: &[u8], block: &[u8]) -> bool
     requires { length part.now ≤ length block.now }
     ensures { result ≡ same_numbers block.now (fill (length block.now) part.now) }
 {
-    let k = part.len();
-    if same(&block[..k], part) {
-        return all_zero(&block[k..]);
-    }
-    false
+    let (front, end) = block.split_at(part.len());
+    same(front, part) && all_zero(end)
+}
+
+// The image's block at a byte, as far as the image goes.
+fn block_part(image: &[u8], at: usize, bytes: usize) -> &[u8]
+    requires { (at ≤ 131072) × (bytes ≤ 512) }
+    ensures { (length result.now ≤ bytes) × (fill bytes result.now ≡ block_from bytes image.now at) }
+{
+    let start = image.len().min(at);
+    let end = image.len().min(at + bytes);
+    &image[start..end]
 }
 
 // Whether the image's block at a byte is all zero.
@@ -210,39 +143,20 @@ pub fn block_zero(image: &[u8], at: usize, bytes: usize) -> bool
     requires { (at ≤ 131072) × (bytes ≤ 512) }
     ensures { result ≡ all_zero (block_from bytes image.now at) }
 {
-    let start = least(image.len(), at);
-    let end = least(image.len(), at + bytes);
-    all_zero(&image[start..end])
+    all_zero(block_part(image, at, bytes))
 }
 
-// Whether the image's block at a byte, which the image's end may cut, equals a cell.
-fn end_same(image: &[u8], at: usize, cell: &[u8], bytes: usize) -> bool
-    requires { (at ≤ 131072) × (bytes ≤ 512) × (length cell.now ≡ bytes) }
-    ensures { result ≡ same_numbers cell.now (block_from bytes image.now at) }
-{
-    let start = least(image.len(), at);
-    let end = least(image.len(), at + bytes);
-    same_padded(&image[start..end], cell)
-}
-
-// Whether two whole blocks are the same, piece by piece. There is a first piece, so the end is tested behind each.
+// Whether two whole blocks are the same, piece by piece.
 fn pieces_same(a: &[u8], b: &[u8]) -> bool
     requires { (length a.now ≡ length b.now) × (64 ≤ length a.now) × (length a.now % 64 ≡ 0) }
     ensures { result ≡ same_numbers a.now b.now }
 {
-    let mut at: usize = 0;
-    loop {
-        if !piece_same(a, b, at) {
-            return false;
-        }
-        at += 64;
-        if a.len() <= at {
-            return true;
-        }
-    }
+    let (pieces, _) = a.as_chunks();
+    let (others, _) = b.as_chunks();
+    pairs_same(pieces, others)
 }
 
-// Whether the image's block at a byte equals a cell. Most blocks are not cut.
+// Whether the image's block at a byte, which the image's end may cut, equals a cell. Most blocks are not cut.
 pub fn block_same(image: &[u8], at: usize, cell: &[u8], bytes: usize) -> bool
     requires { (at ≤ 131072) × (64 ≤ bytes) × (bytes ≤ 512) × (bytes % 64 ≡ 0) × (length cell.now ≡ bytes) }
     ensures { result ≡ same_numbers cell.now (block_from bytes image.now at) }
@@ -251,7 +165,7 @@ pub fn block_same(image: &[u8], at: usize, cell: &[u8], bytes: usize) -> bool
     if end <= image.len() {
         return pieces_same(cell, &image[at..end]);
     }
-    end_same(image, at, cell, bytes)
+    same_padded(block_part(image, at, bytes), cell)
 }
 
 // The image's block at a byte goes into a cell.
@@ -259,9 +173,8 @@ pub fn put_block(image: &[u8], at: usize, cell: &mut [u8], bytes: usize)
     requires { (at ≤ 131072) × (bytes ≤ 512) × (length cell.old ≡ bytes) }
     ensures { cell.new ≡ block_from bytes image.now at }
 {
-    let start = least(image.len(), at);
-    let end = least(image.len(), at + bytes);
-    let k = end - start;
-    copy_in(&image[start..end], cell);
-    clear(&mut cell[k..]);
+    let part = block_part(image, at, bytes);
+    let k = part.len();
+    cell[..k].copy_from_slice(part);
+    cell[k..].fill(0);
 }

@@ -8,27 +8,25 @@ ghost use Rattle.model.specs.Image.{with_blanks};
 ghost use Rattle.chain.specs.Chain.{chain_of, chain_refusal};
 ghost use Rattle.chain.specs.Limit.{other_cells};
 ghost use Rattle.chain.specs.Calls.{chain_backup, chain_restore, chain_retire, chain_listing, chain_version_on, chain_tally, chain_bill, chain_write_stream, chain_offer, chain_backup_sent, chain_backup_all, chain_set_rights};
-ghost use Rattle.backup.specs.Call.{backed_up_answer};
-ghost use Rattle.tills.specs.Answers.{listing_answer, version_found};
-ghost use Rattle.restore.specs.Answers.{restore_answer};
-ghost use Rattle.retire.specs.Answers.{retired_answer};
-ghost use Rattle.tally.specs.Answers.{tally_answer};
-ghost use Rattle.stream_write.specs.Answers.{stream_written};
+ghost use Rattle.refusals.specs.Refusals.{refusal_of};
+ghost use Rattle.backup.specs.Call.{backup_result};
+ghost use Rattle.tills.specs.Answers.{listing_result, version_on_result};
+ghost use Rattle.restore.specs.Answers.{restore_result};
+ghost use Rattle.retire.specs.Answers.{retire_result};
+ghost use Rattle.tally.specs.Answers.{tally_result};
+ghost use Rattle.stream_write.specs.Answers.{write_result};
 ghost use Rattle.sent_offer.specs.Offer.{offered};
-ghost use Rattle.closing_backup.specs.Answers.{all_backed_up};
-ghost use Rattle.bill_sums.specs.Answers.{billed};
+ghost use Rattle.closing_backup.specs.Answers.{closing_result};
+ghost use Rattle.bill_sums.specs.Answers.{bill_result};
 ghost use Rattle.rights.specs.Answers.{rights_given, rights_answered};
 
-use backup::BackedUp;
 use backup_steps::Limit;
-use bill_sums::Bill;
-use closing_backup::AllBackedUp;
-use restore::Restored;
-use retire::Retired;
+use closing_backup::Each;
+use refusals::Refusal;
+use restore::Image;
 use rights::Rights;
-use stream_write::StreamWritten;
-use tally::Tally;
-use tills::{Listing, VersionFound};
+use tally::Tallied;
+use tills::Listed;
 
 // What the other stores of a chain occupy, and how much all of them may.
 fn limit_beside(
@@ -43,10 +41,7 @@ fn limit_beside(
     ensures { (result.others ≡ other_cells (chain_of pools.now tables.now pool_lengths.now table_lengths.now) store) × (result.others ≤ 524288) × (result.most ≡ most) }
 {
     let others = chain_check::other_cells(pools, tables, pool_lengths, table_lengths, store);
-    Limit {
-        others: others,
-        most: most,
-    }
+    Limit { others, most }
 }
 
 pub fn backup(
@@ -59,25 +54,14 @@ pub fn backup(
     user: u32,
     till: u32,
     image: &[u8],
-) -> BackedUp
-    ensures { backed_up_answer result pools.new tables.new ≡ chain_backup with_blanks (chain_of pools.old tables.old pool_lengths.now table_lengths.now) store limit user till none image.now }
+) -> Result<u32, Refusal>
+    ensures { backup_result result pools.new tables.new ≡ chain_backup with_blanks (chain_of pools.old tables.old pool_lengths.now table_lengths.now) store limit user till none image.now }
 {
-    let p = chain_check::find_store(pools, tables, pool_lengths, table_lengths, store);
-    let refusal = p.refusal;
-    if refusal != 0 {
-        return BackedUp {
-            refusal: refusal,
-            version: 0,
-        };
-    }
+    let p = chain_check::find_store(pools, tables, pool_lengths, table_lengths, store)?;
     let limited = limit_beside(pools, tables, pool_lengths, table_lengths, store, limit);
-    let from = p.from;
-    let end = p.end;
-    let at = p.at;
-    let stop = p.stop;
     user_calls::backup(
-        &mut pools[from..end],
-        &mut tables[at..stop],
+        &mut pools[p.from..p.end],
+        &mut tables[p.at..p.stop],
         user,
         till,
         image,
@@ -97,25 +81,14 @@ pub fn backup_dated(
     till: u32,
     day: u32,
     image: &[u8],
-) -> BackedUp
-    ensures { backed_up_answer result pools.new tables.new ≡ chain_backup with_blanks (chain_of pools.old tables.old pool_lengths.now table_lengths.now) store limit user till (some day) image.now }
+) -> Result<u32, Refusal>
+    ensures { backup_result result pools.new tables.new ≡ chain_backup with_blanks (chain_of pools.old tables.old pool_lengths.now table_lengths.now) store limit user till (some day) image.now }
 {
-    let p = chain_check::find_store(pools, tables, pool_lengths, table_lengths, store);
-    let refusal = p.refusal;
-    if refusal != 0 {
-        return BackedUp {
-            refusal: refusal,
-            version: 0,
-        };
-    }
+    let p = chain_check::find_store(pools, tables, pool_lengths, table_lengths, store)?;
     let limited = limit_beside(pools, tables, pool_lengths, table_lengths, store, limit);
-    let from = p.from;
-    let end = p.end;
-    let at = p.at;
-    let stop = p.stop;
     user_calls::backup_dated(
-        &mut pools[from..end],
-        &mut tables[at..stop],
+        &mut pools[p.from..p.end],
+        &mut tables[p.at..p.stop],
         user,
         till,
         day,
@@ -134,25 +107,13 @@ pub fn restore(
     till: u32,
     version: u32,
     output: &mut [u8],
-) -> Restored
-    ensures { restore_answer result output.new ≡ chain_restore (chain_of pools.now tables.now pool_lengths.now table_lengths.now) store user till version output.old }
+) -> Result<Image, Refusal>
+    ensures { restore_result result output.new ≡ chain_restore (chain_of pools.now tables.now pool_lengths.now table_lengths.now) store user till version output.old }
 {
-    let p = chain_check::find_store(pools, tables, pool_lengths, table_lengths, store);
-    let refusal = p.refusal;
-    if refusal != 0 {
-        return Restored {
-            refusal: refusal,
-            length: 0,
-            hops: 0,
-        };
-    }
-    let from = p.from;
-    let end = p.end;
-    let at = p.at;
-    let stop = p.stop;
+    let p = chain_check::find_store(pools, tables, pool_lengths, table_lengths, store)?;
     user_calls::restore(
-        &pools[from..end],
-        &tables[at..stop],
+        &pools[p.from..p.end],
+        &tables[p.at..p.stop],
         user,
         till,
         version,
@@ -170,24 +131,13 @@ pub fn retire(
     user: u32,
     till: u32,
     version: u32,
-) -> Retired
-    ensures { retired_answer result pools.new tables.new ≡ chain_retire (chain_of pools.old tables.old pool_lengths.now table_lengths.now) store user till version }
+) -> Result<u32, Refusal>
+    ensures { retire_result result pools.new tables.new ≡ chain_retire (chain_of pools.old tables.old pool_lengths.now table_lengths.now) store user till version }
 {
-    let p = chain_check::find_store(pools, tables, pool_lengths, table_lengths, store);
-    let refusal = p.refusal;
-    if refusal != 0 {
-        return Retired {
-            refusal: refusal,
-            length: 0,
-        };
-    }
-    let from = p.from;
-    let end = p.end;
-    let at = p.at;
-    let stop = p.stop;
+    let p = chain_check::find_store(pools, tables, pool_lengths, table_lengths, store)?;
     user_calls::retire(
-        &mut pools[from..end],
-        &mut tables[at..stop],
+        &mut pools[p.from..p.end],
+        &mut tables[p.at..p.stop],
         user,
         till,
         version,
@@ -202,24 +152,11 @@ pub fn listing(
     store: u32,
     user: u32,
     till: u32,
-) -> Listing
-    ensures { listing_answer result ≡ chain_listing (chain_of pools.now tables.now pool_lengths.now table_lengths.now) store user till }
+) -> Result<Listed, Refusal>
+    ensures { listing_result result ≡ chain_listing (chain_of pools.now tables.now pool_lengths.now table_lengths.now) store user till }
 {
-    let p = chain_check::find_store(pools, tables, pool_lengths, table_lengths, store);
-    let refusal = p.refusal;
-    if refusal != 0 {
-        return Listing {
-            refusal: refusal,
-            oldest: 0,
-            newest: 0,
-            last: 0,
-        };
-    }
-    let from = p.from;
-    let end = p.end;
-    let at = p.at;
-    let stop = p.stop;
-    user_calls::listing(&pools[from..end], &tables[at..stop], user, till)
+    let p = chain_check::find_store(pools, tables, pool_lengths, table_lengths, store)?;
+    user_calls::listing(&pools[p.from..p.end], &tables[p.at..p.stop], user, till)
 }
 
 // The version of a day: the newest one held that is not after it.
@@ -232,22 +169,17 @@ pub fn version_on(
     user: u32,
     till: u32,
     day: u32,
-) -> VersionFound
-    ensures { version_found result ≡ chain_version_on (chain_of pools.now tables.now pool_lengths.now table_lengths.now) store user till day }
+) -> Result<u32, Refusal>
+    ensures { version_on_result result ≡ chain_version_on (chain_of pools.now tables.now pool_lengths.now table_lengths.now) store user till day }
 {
-    let p = chain_check::find_store(pools, tables, pool_lengths, table_lengths, store);
-    let refusal = p.refusal;
-    if refusal != 0 {
-        return VersionFound {
-            refusal: refusal,
-            version: 0,
-        };
-    }
-    let from = p.from;
-    let end = p.end;
-    let at = p.at;
-    let stop = p.stop;
-    user_calls::version_on(&pools[from..end], &tables[at..stop], user, till, day)
+    let p = chain_check::find_store(pools, tables, pool_lengths, table_lengths, store)?;
+    user_calls::version_on(
+        &pools[p.from..p.end],
+        &tables[p.at..p.stop],
+        user,
+        till,
+        day,
+    )
 }
 
 // The owner's only.
@@ -258,24 +190,11 @@ pub fn tally(
     table_lengths: &[u32],
     store: u32,
     user: u32,
-) -> Tally
-    ensures { tally_answer result ≡ chain_tally (chain_of pools.now tables.now pool_lengths.now table_lengths.now) store user }
+) -> Result<Tallied, Refusal>
+    ensures { tally_result result ≡ chain_tally (chain_of pools.now tables.now pool_lengths.now table_lengths.now) store user }
 {
-    let p = chain_check::find_store(pools, tables, pool_lengths, table_lengths, store);
-    let refusal = p.refusal;
-    if refusal != 0 {
-        return Tally {
-            refusal: refusal,
-            cells: 0,
-            records: 0,
-            counts: 0,
-        };
-    }
-    let from = p.from;
-    let end = p.end;
-    let at = p.at;
-    let stop = p.stop;
-    user_calls::tally(&pools[from..end], &tables[at..stop], user)
+    let p = chain_check::find_store(pools, tables, pool_lengths, table_lengths, store)?;
+    user_calls::tally(&pools[p.from..p.end], &tables[p.at..p.stop], user)
 }
 
 // What each till has to pay for the occupied cells; the owner's only.
@@ -287,22 +206,11 @@ pub fn bill(
     store: u32,
     user: u32,
     price: u32,
-) -> Bill
-    ensures { billed result ≡ chain_bill (chain_of pools.now tables.now pool_lengths.now table_lengths.now) store user price }
+) -> Result<[u32; 16], Refusal>
+    ensures { bill_result result ≡ chain_bill (chain_of pools.now tables.now pool_lengths.now table_lengths.now) store user price }
 {
-    let p = chain_check::find_store(pools, tables, pool_lengths, table_lengths, store);
-    let refusal = p.refusal;
-    if refusal != 0 {
-        return Bill {
-            refusal: refusal,
-            sums: [0u32; 16],
-        };
-    }
-    let from = p.from;
-    let end = p.end;
-    let at = p.at;
-    let stop = p.stop;
-    user_calls::bill(&pools[from..end], &tables[at..stop], user, price)
+    let p = chain_check::find_store(pools, tables, pool_lengths, table_lengths, store)?;
+    user_calls::bill(&pools[p.from..p.end], &tables[p.at..p.stop], user, price)
 }
 
 // A version as a stream.
@@ -316,24 +224,13 @@ pub fn write_stream(
     till: u32,
     version: u32,
     output: &mut [u8],
-) -> StreamWritten
-    ensures { stream_written result output.new ≡ chain_write_stream (chain_of pools.now tables.now pool_lengths.now table_lengths.now) store user till version output.old }
+) -> Result<u32, Refusal>
+    ensures { write_result result output.new ≡ chain_write_stream (chain_of pools.now tables.now pool_lengths.now table_lengths.now) store user till version output.old }
 {
-    let p = chain_check::find_store(pools, tables, pool_lengths, table_lengths, store);
-    let refusal = p.refusal;
-    if refusal != 0 {
-        return StreamWritten {
-            refusal: refusal,
-            length: 0,
-        };
-    }
-    let from = p.from;
-    let end = p.end;
-    let at = p.at;
-    let stop = p.stop;
+    let p = chain_check::find_store(pools, tables, pool_lengths, table_lengths, store)?;
     user_calls::write_stream(
-        &pools[from..end],
-        &tables[at..stop],
+        &pools[p.from..p.end],
+        &tables[p.at..p.stop],
         user,
         till,
         version,
@@ -341,7 +238,7 @@ pub fn write_stream(
     )
 }
 
-// The first message of a till that sends only what the box lacks. The answer is the refusal, or 0.
+// The first message of a till that sends only what the box lacks.
 pub fn offer(
     pools: &[u8],
     tables: &[u32],
@@ -352,21 +249,13 @@ pub fn offer(
     till: u32,
     fingerprints: &[u8],
     marks: &mut [u8],
-) -> u32
-    ensures { offered result marks.new ≡ chain_offer (chain_of pools.now tables.now pool_lengths.now table_lengths.now) store user till fingerprints.now marks.old }
+) -> Result<(), Refusal>
+    ensures { offered (refusal_of result) marks.new ≡ chain_offer (chain_of pools.now tables.now pool_lengths.now table_lengths.now) store user till fingerprints.now marks.old }
 {
-    let p = chain_check::find_store(pools, tables, pool_lengths, table_lengths, store);
-    let refusal = p.refusal;
-    if refusal != 0 {
-        return refusal;
-    }
-    let from = p.from;
-    let end = p.end;
-    let at = p.at;
-    let stop = p.stop;
+    let p = chain_check::find_store(pools, tables, pool_lengths, table_lengths, store)?;
     user_calls::offer(
-        &pools[from..end],
-        &tables[at..stop],
+        &pools[p.from..p.end],
+        &tables[p.at..p.stop],
         user,
         till,
         fingerprints,
@@ -388,25 +277,14 @@ pub fn backup_sent(
     fingerprints: &[u8],
     marks: &[u8],
     segments: &[u8],
-) -> BackedUp
-    ensures { backed_up_answer result pools.new tables.new ≡ chain_backup_sent (chain_of pools.old tables.old pool_lengths.now table_lengths.now) store limit user till length fingerprints.now marks.now segments.now }
+) -> Result<u32, Refusal>
+    ensures { backup_result result pools.new tables.new ≡ chain_backup_sent (chain_of pools.old tables.old pool_lengths.now table_lengths.now) store limit user till length fingerprints.now marks.now segments.now }
 {
-    let p = chain_check::find_store(pools, tables, pool_lengths, table_lengths, store);
-    let refusal = p.refusal;
-    if refusal != 0 {
-        return BackedUp {
-            refusal: refusal,
-            version: 0,
-        };
-    }
+    let p = chain_check::find_store(pools, tables, pool_lengths, table_lengths, store)?;
     let limited = limit_beside(pools, tables, pool_lengths, table_lengths, store, limit);
-    let from = p.from;
-    let end = p.end;
-    let at = p.at;
-    let stop = p.stop;
     user_calls::backup_sent(
-        &mut pools[from..end],
-        &mut tables[at..stop],
+        &mut pools[p.from..p.end],
+        &mut tables[p.at..p.stop],
         user,
         till,
         length,
@@ -429,26 +307,14 @@ pub fn backup_all(
     tills: &[u32],
     lengths: &[u32],
     images: &[u8],
-) -> AllBackedUp
-    ensures { all_backed_up result pools.new tables.new ≡ chain_backup_all (chain_of pools.old tables.old pool_lengths.now table_lengths.now) store limit user tills.now lengths.now images.now }
+) -> Result<Each, Refusal>
+    ensures { closing_result result pools.new tables.new ≡ chain_backup_all (chain_of pools.old tables.old pool_lengths.now table_lengths.now) store limit user tills.now lengths.now images.now }
 {
-    let p = chain_check::find_store(pools, tables, pool_lengths, table_lengths, store);
-    let refusal = p.refusal;
-    if refusal != 0 {
-        return AllBackedUp {
-            refusal: refusal,
-            refusals: [0u32; 16],
-            versions: [0u32; 16],
-        };
-    }
+    let p = chain_check::find_store(pools, tables, pool_lengths, table_lengths, store)?;
     let limited = limit_beside(pools, tables, pool_lengths, table_lengths, store, limit);
-    let from = p.from;
-    let end = p.end;
-    let at = p.at;
-    let stop = p.stop;
     closing_backup::back_up_all(
-        &mut pools[from..end],
-        &mut tables[at..stop],
+        &mut pools[p.from..p.end],
+        &mut tables[p.at..p.stop],
         user,
         tills,
         lengths,
@@ -457,7 +323,7 @@ pub fn backup_all(
     )
 }
 
-// The owner sets what another user may do with a till. The answer is the refusal, or 0.
+// The owner sets what another user may do with a till.
 pub fn set_rights(
     pools: &[u8],
     tables: &mut [u32],
@@ -468,21 +334,13 @@ pub fn set_rights(
     subject: u32,
     till: u32,
     rights: Rights,
-) -> u32
-    ensures { rights_answered result tables.new ≡ chain_set_rights (chain_of pools.now tables.old pool_lengths.now table_lengths.now) store user subject till (rights_given rights) }
+) -> Result<(), Refusal>
+    ensures { rights_answered (refusal_of result) tables.new ≡ chain_set_rights (chain_of pools.now tables.old pool_lengths.now table_lengths.now) store user subject till (rights_given rights) }
 {
-    let p = chain_check::find_store(pools, tables, pool_lengths, table_lengths, store);
-    let refusal = p.refusal;
-    if refusal != 0 {
-        return refusal;
-    }
-    let from = p.from;
-    let end = p.end;
-    let at = p.at;
-    let stop = p.stop;
+    let p = chain_check::find_store(pools, tables, pool_lengths, table_lengths, store)?;
     rights::set_rights(
-        &pools[from..end],
-        &mut tables[at..stop],
+        &pools[p.from..p.end],
+        &mut tables[p.at..p.stop],
         user,
         subject,
         till,

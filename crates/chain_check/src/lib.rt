@@ -1,17 +1,19 @@
 // The refusals of a chain, which come first: 1, 10 and 3. And of a chain that is not refused: where a store's parts lie, and the cells of the others.
 #![tactic(auto)]
 
-ghost use Rattle.std.specs.Prelude.{◌≡◌, cond, [], ◌≤◌, ◌<◌, length, eqb};
+ghost use Rattle.std.specs.Prelude.{◌≡◌, cond, [], ◌≤◌, ◌<◌, length, eqb, IfOk};
 ghost use Rattle.lists.specs.Lists.{counted, every, total};
 ghost use Rattle.lists.specs.Decides.{Decides};
 ghost use Rattle.chain.specs.Chain.{chain_of, store_count, pool_at, table_at, is_chain, is_store_at, chain_refusal};
 ghost use Rattle.chain.specs.Limit.{occupied, other_cells};
+ghost use Rattle.refusals.specs.Refusals.{refusal_of};
 ghost use Rattle.chain_check.specs.Places.{Lengths, SoundChain, Inside, Lies};
 
-// Where a store's pool (from, end) and its table (at, stop) lie in the chain's buffers. Refusal 0 is a store that is there.
-#[derive(Clone, Copy)]
+use refusals::Refusal;
+
+// Where a store's pool (from, end) and its table (at, stop) lie in the chain's buffers.
+#[derive(Clone, Copy, Debug, PartialEq, Eq)]
 pub struct Place {
-    pub refusal: u32,
     pub from: usize,
     pub end: usize,
     pub at: usize,
@@ -51,18 +53,17 @@ fn place_of(
     store: usize,
 ) -> Place
     requires { Lengths (chain_of pools.now tables.now pool_lengths.now table_lengths.now) × (store < length pool_lengths.now) }
-    ensures { (result.refusal ≡ 0) × Inside (chain_of pools.now tables.now pool_lengths.now table_lengths.now) result × Lies (chain_of pools.now tables.now pool_lengths.now table_lengths.now) store result }
+    ensures { Inside (chain_of pools.now tables.now pool_lengths.now table_lengths.now) result × Lies (chain_of pools.now tables.now pool_lengths.now table_lengths.now) store result }
 {
     let from = lengths::sum_to(pool_lengths, store);
     let end = lengths::sum_to(pool_lengths, store + 1);
     let at = lengths::sum_to(table_lengths, store);
     let stop = lengths::sum_to(table_lengths, store + 1);
     Place {
-        refusal: 0,
-        from: from,
-        end: end,
-        at: at,
-        stop: stop,
+        from,
+        end,
+        at,
+        stop,
     }
 }
 
@@ -77,11 +78,7 @@ fn store_sound(
     ensures { result ≡ is_store_at (chain_of pools.now tables.now pool_lengths.now table_lengths.now) store }
 {
     let p = place_of(pools, tables, pool_lengths, table_lengths, store);
-    let from = p.from;
-    let end = p.end;
-    let at = p.at;
-    let stop = p.stop;
-    audit::sound(&pools[from..end], &tables[at..stop])
+    audit::sound(&pools[p.from..p.end], &tables[p.at..p.stop])
 }
 
 // Whether every store is sound.
@@ -89,62 +86,52 @@ fn stores_sound(pools: &[u8], tables: &[u32], pool_lengths: &[u32], table_length
     requires { Lengths (chain_of pools.now tables.now pool_lengths.now table_lengths.now) }
     ensures { result ≡ every (is_store_at (chain_of pools.now tables.now pool_lengths.now table_lengths.now)) (counted (λ i. i) 0 (length pool_lengths.now)) }
 {
-    let mut i: usize = 0;
-    while i < pool_lengths.len() {
+    for i in 0..pool_lengths.len() {
         if !store_sound(pools, tables, pool_lengths, table_lengths, i) {
             return false;
         }
-        i += 1;
     }
     true
 }
 
-// Of a call that names that store; 0 if there is none.
+// Of a call that names that store.
 pub fn refusal(
     pools: &[u8],
     tables: &[u32],
     pool_lengths: &[u32],
     table_lengths: &[u32],
     store: u32,
-) -> u32
-    ensures { result ≡ chain_refusal (chain_of pools.now tables.now pool_lengths.now table_lengths.now) store }
+) -> Result<(), Refusal>
+    ensures { refusal_of result ≡ chain_refusal (chain_of pools.now tables.now pool_lengths.now table_lengths.now) store }
 {
     if !is_chain(pool_lengths, table_lengths) {
-        return 1;
+        return Err(Refusal::Capacity);
     }
     if !add_up(pools, tables, pool_lengths, table_lengths) {
-        return 10;
+        return Err(Refusal::Unsound);
     }
     if !stores_sound(pools, tables, pool_lengths, table_lengths) {
-        return 10;
+        return Err(Refusal::Unsound);
     }
     if store as usize >= pool_lengths.len() {
-        return 3;
+        return Err(Refusal::NoSuchTill);
     }
-    0
+    Ok(())
 }
 
-// The refusal, and where the store's parts lie if there is none.
+// The refusal, or where the store's parts lie.
 pub fn find_store(
     pools: &[u8],
     tables: &[u32],
     pool_lengths: &[u32],
     table_lengths: &[u32],
     store: u32,
-) -> Place
-    ensures { (result.refusal ≡ chain_refusal (chain_of pools.now tables.now pool_lengths.now table_lengths.now) store) × Inside (chain_of pools.now tables.now pool_lengths.now table_lengths.now) result × (result.refusal ≡ 0 → Lies (chain_of pools.now tables.now pool_lengths.now table_lengths.now) store result) }
+) -> Result<Place, Refusal>
+    ensures refused { refusal_of result ≡ chain_refusal (chain_of pools.now tables.now pool_lengths.now table_lengths.now) store }
+    ensures place { IfOk result (λ p. Inside (chain_of pools.now tables.now pool_lengths.now table_lengths.now) p × Lies (chain_of pools.now tables.now pool_lengths.now table_lengths.now) store p) }
 {
-    let refused = refusal(pools, tables, pool_lengths, table_lengths, store);
-    if refused != 0 {
-        return Place {
-            refusal: refused,
-            from: 0,
-            end: 0,
-            at: 0,
-            stop: 0,
-        };
-    }
-    place_of(pools, tables, pool_lengths, table_lengths, store as usize)
+    refusal(pools, tables, pool_lengths, table_lengths, store)?;
+    Ok(place_of(pools, tables, pool_lengths, table_lengths, store as usize))
 }
 
 // The cells that a store occupies, or 0 for the store that is named.
@@ -163,11 +150,7 @@ fn cells_beside(
         return 0;
     }
     let p = place_of(pools, tables, pool_lengths, table_lengths, store);
-    let from = p.from;
-    let end = p.end;
-    let at = p.at;
-    let stop = p.stop;
-    tally::occupied_cells(&pools[from..end], &tables[at..stop])
+    tally::occupied_cells(&pools[p.from..p.end], &tables[p.at..p.stop])
 }
 
 // The cells that the other stores occupy.
@@ -183,10 +166,8 @@ pub fn other_cells(
 {
     let named = store as usize;
     let mut cells: u32 = 0;
-    let mut j: usize = 0;
-    while j < pool_lengths.len() {
+    for j in 0..pool_lengths.len() {
         cells += cells_beside(pools, tables, pool_lengths, table_lengths, named, j);
-        j += 1;
     }
     cells
 }

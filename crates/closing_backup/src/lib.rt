@@ -7,15 +7,14 @@ ghost use Rattle.laws.specs.Stores.{Sound};
 ghost use Rattle.chain.specs.Limit.{image_within, backup_all_within};
 ghost use Rattle.closing.specs.Closing.{images_in, closing_fits};
 ghost use Rattle.closing.specs.Singly.{made_each, answer_to};
-ghost use Rattle.closing_backup.specs.Answers.{all_answered, all_backed_up};
+ghost use Rattle.closing_backup.specs.Answers.{all_answered, closing_result};
 
 use backup_steps::Limit;
+use refusals::{Refusal, answered};
 
-// Refusal 0 is a call that is not refused whole. The images' own refusals and versions stand in their order, 0 past the last image.
-#[repr(C)]
-#[derive(Clone, Copy)]
-pub struct AllBackedUp {
-    pub refusal: u32,
+// The images' own refusals and versions in their order, 0 past the last image.
+#[derive(Clone, Copy, Debug, PartialEq, Eq)]
+pub struct Each {
     pub refusals: [u32; 16],
     pub versions: [u32; 16],
 }
@@ -48,15 +47,13 @@ fn back_up_each(
     requires { Sound pool.old table.old × (closing_fits tills.now lengths.now images.now ≡ true) × (refusals.old ≡ replicate 16 0) × (versions.old ≡ replicate 16 0) × (limit.others ≤ 524288) }
     ensures { all_answered refusals.new versions.new pool.new table.new ≡ answer_to (made_each (image_within limit.others limit.most user) pool.old table.old (images_in tills.now lengths.now images.now)) }
 {
-    let mut from: usize = 0;
-    let mut i: usize = 0;
-    while i < tills.len() {
+    let mut from = 0;
+    for i in 0..tills.len() {
         let end = from + lengths[i] as usize;
         let r = user_calls::backup(pool, table, user, tills[i], &images[from..end], limit);
-        refusals[i] = r.refusal;
-        versions[i] = r.version;
+        refusals[i] = answered(&r);
+        versions[i] = r.unwrap_or(0);
         from = end;
-        i += 1;
     }
 }
 
@@ -68,19 +65,15 @@ pub fn back_up_all(
     lengths: &[u32],
     images: &[u8],
     limit: Limit,
-) -> AllBackedUp
+) -> Result<Each, Refusal>
     requires { Sound pool.old table.old × (limit.others ≤ 524288) }
-    ensures { all_backed_up result pool.new table.new ≡ backup_all_within limit.others limit.most pool.old table.old user tills.now lengths.now images.now }
+    ensures { closing_result result pool.new table.new ≡ backup_all_within limit.others limit.most pool.old table.old user tills.now lengths.now images.now }
 {
+    if !lists_fit(tills, lengths, images) {
+        return Err(Refusal::ImageLength);
+    }
     let mut refusals = [0u32; 16];
     let mut versions = [0u32; 16];
-    if !lists_fit(tills, lengths, images) {
-        return AllBackedUp {
-            refusal: 4,
-            refusals: refusals,
-            versions: versions,
-        };
-    }
     back_up_each(
         pool,
         table,
@@ -92,9 +85,5 @@ pub fn back_up_all(
         &mut versions,
         limit,
     );
-    AllBackedUp {
-        refusal: 0,
-        refusals: refusals,
-        versions: versions,
-    }
+    Ok(Each { refusals, versions })
 }

@@ -7,7 +7,7 @@ ghost use Rattle.dispatcher.specs.Turns.{is_turn, next_till, turn_for, served_tu
 
 // The turn record: the tills present, the mask of those waiting (bit t for till t) and the till served last.
 #[repr(C)]
-#[derive(Clone, Copy)]
+#[derive(Clone, Copy, Debug, PartialEq, Eq)]
 pub struct Turn {
     pub tills: u32,
     pub waiting: u32,
@@ -15,8 +15,9 @@ pub struct Turn {
 }
 
 // What a turn answers: a refusal or 0, whether a till is served, and which; 0 where none is.
+// Kept: a promise that may not change: turn_of is a definition over this struct, which C has too.
 #[repr(C)]
-#[derive(Clone, Copy)]
+#[derive(Clone, Copy, Debug, PartialEq, Eq)]
 pub struct Served {
     pub refusal: u32,
     pub served: bool,
@@ -25,7 +26,7 @@ pub struct Served {
 
 // The answer and the turn record after it.
 #[repr(C)]
-#[derive(Clone, Copy)]
+#[derive(Clone, Copy, Debug, PartialEq, Eq)]
 pub struct Stepped {
     pub answer: Served,
     pub turn: Turn,
@@ -72,17 +73,14 @@ fn serve(turn: Turn, till: u32) -> Stepped
     let answer = Served {
         refusal: 0,
         served: true,
-        till: till,
+        till,
     };
     let next = Turn {
         tills: turn.tills,
         waiting: turn.waiting - (1u32 << till),
         last: till,
     };
-    Stepped {
-        answer: answer,
-        turn: next,
-    }
+    Stepped { answer, turn: next }
 }
 
 // A turn of a record that is one.
@@ -96,10 +94,7 @@ fn accept(turn: Turn) -> Stepped
             served: false,
             till: 0,
         };
-        return Stepped {
-            answer: answer,
-            turn: turn,
-        };
+        return Stepped { answer, turn };
     }
     let till = next_till(turn);
     serve(turn, till)
@@ -117,10 +112,7 @@ pub fn step(turn: Turn) -> Stepped
         served: false,
         till: 0,
     };
-    Stepped {
-        answer: answer,
-        turn: turn,
-    }
+    Stepped { answer, turn }
 }
 
 // A turn of the record that a dispatcher keeps and lends.

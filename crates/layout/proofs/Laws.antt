@@ -51,18 +51,6 @@ by_product bytes n b h = go (leb n (65536 / bytes)) refl (leb (n * bytes) 65536)
         let q : 65536 / bytes < n = leb-false n (65536 / bytes) e in
         absurd (omega (arith, p, q))
 
-pub size_of : (n x : ℕ) (xs : List ℕ) → n ≡ x → true ≡ is_in n (x ∷ xs)
-unfolding is_in
-size_of n x xs e = rw (eq-eqb n x e)
-
-pub not_size : (n x : ℕ) (xs : List ℕ) (b : Bool) → (n ≡ x → ⊥) → b ≡ is_in n xs → b ≡ is_in n (x ∷ xs)
-unfolding is_in
-not_size n x xs b e h = rw (ne_eqb n x e) h
-
-pub last_size : (n x : ℕ) → eqb n x ≡ is_in n (x ∷ [])
-unfolding is_in
-last_size n x = sym (cond_self (eqb n x))
-
 -- ---- ranges of all
 
 module _ (m : Measures) where

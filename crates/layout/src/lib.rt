@@ -9,15 +9,17 @@ ghost use Rattle.model.specs.Calls.{table_length_of, layout_of, empty_state};
 ghost use Rattle.laws.specs.Ranges.{Ranges};
 ghost use Rattle.laws.specs.Stores.{HeaderRanges};
 ghost use Rattle.numbers.specs.Measures.{measures_of};
-ghost use Rattle.layout.specs.Layout.{shape, length_answer, layout_answer};
+ghost use Rattle.refusals.specs.Refusals.{refusal_of};
+ghost use Rattle.layout.specs.Layout.{shape, length_result, layout_answer};
 
 use numbers::Measures;
+use refusals::Refusal;
 
 // The table's first words, with the capacities and the measures.
 pub const HEADER_WORDS: usize = 8;
 
 // The eight of a store.
-#[derive(Clone, Copy)]
+#[derive(Clone, Copy, Debug, PartialEq, Eq)]
 pub struct Capacities {
     pub tills: u32,
     pub versions: u32,
@@ -25,14 +27,6 @@ pub struct Capacities {
     pub records: u32,
     pub cells: u32,
     pub measures: Measures,
-}
-
-// The answer of table length: a refusal's number, or 0 and the words.
-#[repr(C)]
-#[derive(Clone, Copy)]
-pub struct TableLength {
-    pub refusal: u32,
-    pub words: u32,
 }
 
 // The measures that a table's header gives.
@@ -77,49 +71,25 @@ pub fn records_at(table: &[u32]) -> usize
 fn within(low: u32, high: u32, n: u32) -> bool
     ensures { result ≡ is_within low high n }
 {
-    if n < low {
-        return false;
-    }
-    n <= high
+    low <= n && n <= high
 }
 
 fn is_block_size(bytes: usize) -> bool
     ensures { result ≡ is_in bytes (64 ∷ 128 ∷ 256 ∷ 512 ∷ []) }
 {
-    if bytes == 64 {
-        return true;
-    }
-    if bytes == 128 {
-        return true;
-    }
-    if bytes == 256 {
-        return true;
-    }
-    bytes == 512
+    matches!(bytes, 64 | 128 | 256 | 512)
 }
 
 fn is_segment_size(blocks: usize) -> bool
     ensures { result ≡ is_in blocks (4 ∷ 8 ∷ 16 ∷ []) }
 {
-    if blocks == 4 {
-        return true;
-    }
-    if blocks == 8 {
-        return true;
-    }
-    blocks == 16
+    matches!(blocks, 4 | 8 | 16)
 }
 
 fn are_measures(m: Measures) -> bool
     ensures { result ≡ are_measures (measures_of m) }
 {
-    if !is_block_size(m.bytes) {
-        return false;
-    }
-    if !is_segment_size(m.blocks) {
-        return false;
-    }
-    m.percent <= 100
+    is_block_size(m.bytes) && is_segment_size(m.blocks) && m.percent <= 100
 }
 
 // Whether an image may have so many blocks of so many bytes: at most 65,536 bytes, which takes no division.
@@ -127,10 +97,7 @@ fn blocks_within(bytes: usize, blocks: u32) -> bool
     requires { (0 < bytes) × (bytes ≤ 512) }
     ensures { result ≡ is_within 1 (65536 / bytes) blocks }
 {
-    if blocks < 1 {
-        return false;
-    }
-    blocks as usize * bytes <= 65536
+    1 <= blocks && blocks as usize * bytes <= 65536
 }
 
 // Whether all are in range, of measures that are.
@@ -138,30 +105,17 @@ fn room_in_range(c: Capacities) -> bool
     requires { are_measures (measures_of c.measures) ≡ true }
     ensures { result ≡ in_range (shape c) }
 {
-    let m = c.measures;
-    if !within(1, 16, c.tills) {
-        return false;
-    }
-    if !within(1, 64, c.versions) {
-        return false;
-    }
-    if !blocks_within(m.bytes, c.blocks) {
-        return false;
-    }
-    if !within(1, 4096, c.records) {
-        return false;
-    }
-    within(1, 32768, c.cells)
+    within(1, 16, c.tills)
+        && within(1, 64, c.versions)
+        && blocks_within(c.measures.bytes, c.blocks)
+        && within(1, 4096, c.records)
+        && within(1, 32768, c.cells)
 }
 
 pub fn in_range(c: Capacities) -> bool
     ensures { result ≡ in_range (shape c) }
 {
-    let m = c.measures;
-    if !are_measures(m) {
-        return false;
-    }
-    room_in_range(c)
+    are_measures(c.measures) && room_in_range(c)
 }
 
 fn table_words(c: Capacities) -> usize
@@ -175,26 +129,13 @@ fn table_words(c: Capacities) -> usize
     HEADER_WORDS + c.tills as usize * till + c.records as usize * record
 }
 
-fn length_in_range(c: Capacities) -> TableLength
-    requires { in_range (shape c) ≡ true }
-    ensures { length_answer result ≡ table_length_of (shape c) }
-{
-    TableLength {
-        refusal: 0,
-        words: table_words(c) as u32,
-    }
-}
-
-pub fn table_length(c: Capacities) -> TableLength
-    ensures { length_answer result ≡ table_length_of (shape c) }
+pub fn table_length(c: Capacities) -> Result<u32, Refusal>
+    ensures { length_result result ≡ table_length_of (shape c) }
 {
     if !in_range(c) {
-        return TableLength {
-            refusal: 1,
-            words: 0,
-        };
+        return Err(Refusal::Capacity);
     }
-    length_in_range(c)
+    Ok(table_words(c) as u32)
 }
 
 // Whether the buffers have the lengths needed.
@@ -202,13 +143,7 @@ pub fn lengths_fit(pool: &[u8], table: &[u32], c: Capacities) -> bool
     requires { in_range (shape c) ≡ true }
     ensures { result ≡ (eqb (length pool.now) (pool_bytes (shape c)) && eqb (length table.now) (table_words (shape c))) }
 {
-    let m = c.measures;
-    let words = table_words(c);
-    let bytes = c.cells as usize * m.bytes;
-    if pool.len() != bytes {
-        return false;
-    }
-    table.len() == words
+    pool.len() == c.cells as usize * c.measures.bytes && table.len() == table_words(c)
 }
 
 fn write_room(table: &mut [u32], c: Capacities)
@@ -240,21 +175,21 @@ fn write_empty(pool: &mut [u8], table: &mut [u32], c: Capacities)
     let bytes = m.word(m.bytes as u32);
     let positions = m.word(m.blocks as u32);
     let percent = m.word(m.percent);
-    blocks::clear(pool);
-    words::clear(table);
+    pool.fill(0);
+    table.fill(0);
     write_room(table, c);
     write_measures(table, bytes, positions, percent);
 }
 
-pub fn lay_out(pool: &mut [u8], table: &mut [u32], c: Capacities) -> u32
-    ensures { layout_answer result pool.new table.new ≡ layout_of (shape c) pool.old table.old }
+pub fn lay_out(pool: &mut [u8], table: &mut [u32], c: Capacities) -> Result<(), Refusal>
+    ensures { layout_answer (refusal_of result) pool.new table.new ≡ layout_of (shape c) pool.old table.old }
 {
     if !in_range(c) {
-        return 1;
+        return Err(Refusal::Capacity);
     }
     if !lengths_fit(pool, table, c) {
-        return 2;
+        return Err(Refusal::Lengths);
     }
     write_empty(pool, table, c);
-    0
+    Ok(())
 }

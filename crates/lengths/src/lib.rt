@@ -10,10 +10,8 @@ pub fn sum_to(lengths: &[u32], count: usize) -> usize
     ensures { (result ≡ total (λ n. n) (take count lengths.now)) × (result ≤ 68719476720) }
 {
     let mut sum: usize = 0;
-    let mut j: usize = 0;
-    while j < count {
-        sum += lengths[j] as usize;
-        j += 1;
+    for n in &lengths[..count] {
+        sum += *n as usize;
     }
     sum
 }

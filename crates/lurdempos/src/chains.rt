@@ -2,30 +2,18 @@
 ghost use Rattle.std.specs.Prelude.{◌≡◌};
 ghost use Rattle.std.proofs.Math.Option.{none, some};
 ghost use Rattle.model.specs.Image.{with_blanks};
-ghost use Rattle.backup.specs.Call.{backed_up_answer};
-ghost use Rattle.tills.specs.Answers.{listing_answer, version_found};
-ghost use Rattle.restore.specs.Answers.{restore_answer};
-ghost use Rattle.retire.specs.Answers.{retired_answer};
-ghost use Rattle.tally.specs.Answers.{tally_answer};
-ghost use Rattle.stream_write.specs.Answers.{stream_written};
 ghost use Rattle.sent_offer.specs.Offer.{offered};
-ghost use Rattle.closing_backup.specs.Answers.{all_backed_up};
-ghost use Rattle.bill_sums.specs.Answers.{billed};
 ghost use Rattle.rights.specs.Answers.{rights_answered};
 ghost use Rattle.chain.specs.Chain.{chain_of};
 ghost use Rattle.chain.specs.Calls.{chain_backup, chain_restore, chain_retire, chain_listing, chain_version_on, chain_tally, chain_bill, chain_write_stream, chain_offer, chain_backup_sent, chain_backup_all, chain_set_rights};
 ghost use Rattle.lurdempos.specs.Boundary.{the_four};
+ghost use Rattle.answers.specs.Answers.{backed_up_answer, restore_answer, retired_answer, listing_answer, version_found, tally_answer, billed, stream_written, all_backed_up};
 
-use crate::{Offered, RightsSet};
-use backup::BackedUp;
-use bill_sums::Bill;
-use closing_backup::AllBackedUp;
-use restore::Restored;
-use retire::Retired;
+use answers::{
+    AllBackedUp, BackedUp, Bill, Listing, Offered, Restored, Retired, RightsSet, StreamWritten,
+    Tally, VersionFound,
+};
 use rights::Rights;
-use stream_write::StreamWritten;
-use tally::Tally;
-use tills::{Listing, VersionFound};
 
 #[unsafe(no_mangle)]
 pub extern "C" fn lurdempos_chain_backup(
@@ -52,6 +40,7 @@ pub extern "C" fn lurdempos_chain_backup(
         till,
         image,
     )
+    .into()
 }
 
 #[unsafe(no_mangle)]
@@ -81,6 +70,7 @@ pub extern "C" fn lurdempos_chain_backup_dated(
         day,
         image,
     )
+    .into()
 }
 
 #[unsafe(no_mangle)]
@@ -108,6 +98,7 @@ pub extern "C" fn lurdempos_chain_restore(
         version,
         output,
     )
+    .into()
 }
 
 #[unsafe(no_mangle)]
@@ -133,6 +124,7 @@ pub extern "C" fn lurdempos_chain_retire(
         till,
         version,
     )
+    .into()
 }
 
 #[unsafe(no_mangle)]
@@ -156,6 +148,7 @@ pub extern "C" fn lurdempos_chain_listing(
         user,
         till,
     )
+    .into()
 }
 
 #[unsafe(no_mangle)]
@@ -181,6 +174,7 @@ pub extern "C" fn lurdempos_chain_version_on(
         till,
         day,
     )
+    .into()
 }
 
 #[unsafe(no_mangle)]
@@ -194,7 +188,7 @@ pub extern "C" fn lurdempos_chain_tally(
 ) -> Tally
     ensures { tally_answer result ≡ chain_tally (chain_of pools.now tables.now pool_lengths.now table_lengths.now) store user }
 {
-    chain_calls::tally(pools, tables, pool_lengths, table_lengths, store, user)
+    chain_calls::tally(pools, tables, pool_lengths, table_lengths, store, user).into()
 }
 
 #[unsafe(no_mangle)]
@@ -218,6 +212,7 @@ pub extern "C" fn lurdempos_chain_bill(
         user,
         price,
     )
+    .into()
 }
 
 #[unsafe(no_mangle)]
@@ -245,6 +240,7 @@ pub extern "C" fn lurdempos_chain_write_stream(
         version,
         output,
     )
+    .into()
 }
 
 #[unsafe(no_mangle)]
@@ -261,7 +257,7 @@ pub extern "C" fn lurdempos_chain_offer(
 ) -> Offered
     ensures { offered result.refusal marks.new ≡ chain_offer (chain_of pools.now tables.now pool_lengths.now table_lengths.now) store user till fingerprints.now marks.old }
 {
-    let refusal = chain_calls::offer(
+    chain_calls::offer(
         pools,
         tables,
         pool_lengths,
@@ -271,8 +267,8 @@ pub extern "C" fn lurdempos_chain_offer(
         till,
         fingerprints,
         marks,
-    );
-    Offered { refusal: refusal }
+    )
+    .into()
 }
 
 #[unsafe(no_mangle)]
@@ -306,6 +302,7 @@ pub extern "C" fn lurdempos_chain_backup_sent(
         marks,
         segments,
     )
+    .into()
 }
 
 #[unsafe(no_mangle)]
@@ -335,6 +332,7 @@ pub extern "C" fn lurdempos_chain_backup_all(
         lengths,
         images,
     )
+    .into()
 }
 
 #[unsafe(no_mangle)]
@@ -354,7 +352,7 @@ pub extern "C" fn lurdempos_chain_set_rights(
 ) -> RightsSet
     ensures { rights_answered result.refusal tables.new ≡ chain_set_rights (chain_of pools.now tables.old pool_lengths.now table_lengths.now) store user subject till (the_four list back_up restore retire) }
 {
-    let refusal = chain_calls::set_rights(
+    chain_calls::set_rights(
         pools,
         tables,
         pool_lengths,
@@ -364,11 +362,11 @@ pub extern "C" fn lurdempos_chain_set_rights(
         subject,
         till,
         Rights {
-            list: list,
-            back_up: back_up,
-            restore: restore,
-            retire: retire,
+            list,
+            back_up,
+            restore,
+            retire,
         },
-    );
-    RightsSet { refusal: refusal }
+    )
+    .into()
 }

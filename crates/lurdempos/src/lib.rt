@@ -8,59 +8,28 @@ ghost use Rattle.std.proofs.Math.Option.{none, some};
 ghost use Rattle.model.specs.Image.{with_blanks};
 ghost use Rattle.model.specs.Calls.{table_length_of, layout_of};
 ghost use Rattle.model.specs.Rights.{backup_as, restore_as, retire_as, listing_as, version_on_as, tally_as, set_rights_of};
-ghost use Rattle.layout.specs.Layout.{length_answer, layout_answer};
-ghost use Rattle.backup.specs.Call.{backed_up_answer};
-ghost use Rattle.tills.specs.Answers.{listing_answer, version_found};
-ghost use Rattle.restore.specs.Answers.{restore_answer};
-ghost use Rattle.retire.specs.Answers.{retired_answer};
-ghost use Rattle.tally.specs.Answers.{tally_answer};
 ghost use Rattle.stream.specs.Stream.{read_stream};
 ghost use Rattle.stream.specs.Version.{write_stream_as};
-ghost use Rattle.stream_write.specs.Answers.{stream_written};
-ghost use Rattle.stream_read.specs.Answers.{stream_read};
 ghost use Rattle.sha1_definition.specs.Sha1.{digest};
 ghost use Rattle.sent.specs.Sent.{offer_as, backup_sent_as};
 ghost use Rattle.sent_offer.specs.Offer.{offered};
 ghost use Rattle.closing.specs.Closing.{backup_all_as};
-ghost use Rattle.closing_backup.specs.Answers.{all_backed_up};
 ghost use Rattle.bill.specs.Bill.{bill_as};
-ghost use Rattle.bill_sums.specs.Answers.{billed};
 ghost use Rattle.rights.specs.Answers.{rights_answered};
 ghost use Rattle.dispatcher.specs.Turns.{turn_of};
+ghost use Rattle.layout.specs.Layout.{layout_answer};
 ghost use Rattle.lurdempos.specs.Boundary.{the_eight, the_four};
+ghost use Rattle.answers.specs.Answers.{length_answer, backed_up_answer, restore_answer, retired_answer, listing_answer, version_found, tally_answer, billed, stream_written, stream_read, all_backed_up};
 
-use backup::BackedUp;
-use bill_sums::Bill;
-use closing_backup::AllBackedUp;
+use answers::{
+    AllBackedUp, BackedUp, Bill, LaidOut, Listing, Offered, Restored, Retired, RightsSet,
+    StreamRead, StreamWritten, TableLength, Tally, VersionFound,
+};
 use dispatcher::{Stepped, Turn};
-use layout::{Capacities, TableLength};
+use layout::Capacities;
 use numbers::Measures;
-use restore::Restored;
-use retire::Retired;
 use rights::Rights;
 use sha1_definition::Digest;
-use stream_read::StreamRead;
-use stream_write::StreamWritten;
-use tally::Tally;
-use tills::{Listing, VersionFound};
-
-#[repr(C)]
-#[derive(Clone, Copy)]
-pub struct LaidOut {
-    pub refusal: u32,
-}
-
-#[repr(C)]
-#[derive(Clone, Copy)]
-pub struct Offered {
-    pub refusal: u32,
-}
-
-#[repr(C)]
-#[derive(Clone, Copy)]
-pub struct RightsSet {
-    pub refusal: u32,
-}
 
 #[unsafe(no_mangle)]
 pub extern "C" fn lurdempos_table_length(
@@ -76,17 +45,18 @@ pub extern "C" fn lurdempos_table_length(
     ensures { length_answer result ≡ table_length_of (the_eight tills versions blocks records cells block_bytes segment_blocks rebuild_percent) }
 {
     store::table_length(Capacities {
-        tills: tills,
-        versions: versions,
-        blocks: blocks,
-        records: records,
-        cells: cells,
+        tills,
+        versions,
+        blocks,
+        records,
+        cells,
         measures: Measures {
             bytes: block_bytes as usize,
             blocks: segment_blocks as usize,
             percent: rebuild_percent,
         },
     })
+    .into()
 }
 
 #[unsafe(no_mangle)]
@@ -104,23 +74,23 @@ pub extern "C" fn lurdempos_lay_out(
 ) -> LaidOut
     ensures { layout_answer result.refusal pool.new table.new ≡ layout_of (the_eight tills versions blocks records cells block_bytes segment_blocks rebuild_percent) pool.old table.old }
 {
-    let refusal = store::lay_out(
+    store::lay_out(
         pool,
         table,
         Capacities {
-            tills: tills,
-            versions: versions,
-            blocks: blocks,
-            records: records,
-            cells: cells,
+            tills,
+            versions,
+            blocks,
+            records,
+            cells,
             measures: Measures {
                 bytes: block_bytes as usize,
                 blocks: segment_blocks as usize,
                 percent: rebuild_percent,
             },
         },
-    );
-    LaidOut { refusal: refusal }
+    )
+    .into()
 }
 
 #[unsafe(no_mangle)]
@@ -133,7 +103,7 @@ pub extern "C" fn lurdempos_backup(
 ) -> BackedUp
     ensures { backed_up_answer result pool.new table.new ≡ backup_as with_blanks pool.old table.old user till none image.now }
 {
-    store::backup(pool, table, user, till, image)
+    store::backup(pool, table, user, till, image).into()
 }
 
 #[unsafe(no_mangle)]
@@ -147,7 +117,7 @@ pub extern "C" fn lurdempos_backup_dated(
 ) -> BackedUp
     ensures { backed_up_answer result pool.new table.new ≡ backup_as with_blanks pool.old table.old user till (some day) image.now }
 {
-    store::backup_dated(pool, table, user, till, day, image)
+    store::backup_dated(pool, table, user, till, day, image).into()
 }
 
 #[unsafe(no_mangle)]
@@ -161,7 +131,7 @@ pub extern "C" fn lurdempos_restore(
 ) -> Restored
     ensures { restore_answer result output.new ≡ restore_as pool.now table.now user till version output.old }
 {
-    store::restore(pool, table, user, till, version, output)
+    store::restore(pool, table, user, till, version, output).into()
 }
 
 #[unsafe(no_mangle)]
@@ -174,14 +144,14 @@ pub extern "C" fn lurdempos_retire(
 ) -> Retired
     ensures { retired_answer result pool.new table.new ≡ retire_as pool.old table.old user till version }
 {
-    store::retire(pool, table, user, till, version)
+    store::retire(pool, table, user, till, version).into()
 }
 
 #[unsafe(no_mangle)]
 pub extern "C" fn lurdempos_listing(pool: &[u8], table: &[u32], user: u32, till: u32) -> Listing
     ensures { listing_answer result ≡ listing_as pool.now table.now user till }
 {
-    store::listing(pool, table, user, till)
+    store::listing(pool, table, user, till).into()
 }
 
 #[unsafe(no_mangle)]
@@ -194,21 +164,21 @@ pub extern "C" fn lurdempos_version_on(
 ) -> VersionFound
     ensures { version_found result ≡ version_on_as pool.now table.now user till day }
 {
-    store::version_on(pool, table, user, till, day)
+    store::version_on(pool, table, user, till, day).into()
 }
 
 #[unsafe(no_mangle)]
 pub extern "C" fn lurdempos_tally(pool: &[u8], table: &[u32], user: u32) -> Tally
     ensures { tally_answer result ≡ tally_as pool.now table.now user }
 {
-    store::tally(pool, table, user)
+    store::tally(pool, table, user).into()
 }
 
 #[unsafe(no_mangle)]
 pub extern "C" fn lurdempos_bill(pool: &[u8], table: &[u32], user: u32, price: u32) -> Bill
     ensures { billed result ≡ bill_as pool.now table.now user price }
 {
-    store::bill(pool, table, user, price)
+    store::bill(pool, table, user, price).into()
 }
 
 #[unsafe(no_mangle)]
@@ -222,14 +192,14 @@ pub extern "C" fn lurdempos_write_stream(
 ) -> StreamWritten
     ensures { stream_written result output.new ≡ write_stream_as pool.now table.now user till version output.old }
 {
-    store::write_stream(pool, table, user, till, version, output)
+    store::write_stream(pool, table, user, till, version, output).into()
 }
 
 #[unsafe(no_mangle)]
 pub extern "C" fn lurdempos_read_stream(stream: &[u8], output: &mut [u8]) -> StreamRead
     ensures { stream_read result output.new ≡ read_stream stream.now output.old }
 {
-    stream_read::read_stream(stream, output)
+    stream_read::read_stream(stream, output).into()
 }
 
 #[unsafe(no_mangle)]
@@ -243,8 +213,7 @@ pub extern "C" fn lurdempos_offer(
 ) -> Offered
     ensures { offered result.refusal marks.new ≡ offer_as pool.now table.now user till fingerprints.now marks.old }
 {
-    let refusal = store::offer(pool, table, user, till, fingerprints, marks);
-    Offered { refusal: refusal }
+    store::offer(pool, table, user, till, fingerprints, marks).into()
 }
 
 #[unsafe(no_mangle)]
@@ -270,6 +239,7 @@ pub extern "C" fn lurdempos_backup_sent(
         marks,
         segments,
     )
+    .into()
 }
 
 #[unsafe(no_mangle)]
@@ -283,7 +253,7 @@ pub extern "C" fn lurdempos_backup_all(
 ) -> AllBackedUp
     ensures { all_backed_up result pool.new table.new ≡ backup_all_as pool.old table.old user tills.now lengths.now images.now }
 {
-    store::backup_all(pool, table, user, tills, lengths, images)
+    store::backup_all(pool, table, user, tills, lengths, images).into()
 }
 
 #[unsafe(no_mangle)]
@@ -300,20 +270,20 @@ pub extern "C" fn lurdempos_set_rights(
 ) -> RightsSet
     ensures { rights_answered result.refusal table.new ≡ set_rights_of pool.now table.old user subject till (the_four list back_up restore retire) }
 {
-    let refusal = store::set_rights(
+    store::set_rights(
         pool,
         table,
         user,
         subject,
         till,
         Rights {
-            list: list,
-            back_up: back_up,
-            restore: restore,
-            retire: retire,
+            list,
+            back_up,
+            restore,
+            retire,
         },
-    );
-    RightsSet { refusal: refusal }
+    )
+    .into()
 }
 
 #[unsafe(no_mangle)]
@@ -330,8 +300,5 @@ pub extern "C" fn lurdempos_turn(turn: Turn) -> Stepped
 {
     let mut kept = turn;
     let answer = dispatcher::take_turn(&mut kept);
-    Stepped {
-        answer: answer,
-        turn: kept,
-    }
+    Stepped { answer, turn: kept }
 }

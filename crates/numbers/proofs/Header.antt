@@ -1,15 +1,10 @@
 -- The header's words of the measures, test by test.
-use mathlib.Core.Path.{◌≡◌, sym}
-use mathlib.Core.Bool.{true, false}
-use mathlib.Core.List.{[], ◌∷◌}
-use Prim.Native.Nat.{ℕ, ◌<◌}
-use lib.ListN.{get_or}
-use lib.Dec.{eqb}
-use borrow.Author.Tests.{eq-eqb, ne_eqb}
-use Rattle.lists.specs.Lists.{all_zero, every}
-use Rattle.lists.proofs.Tests.{all_false, all_last, every_not}
+use Rattle.std.proofs.Common.{◌≡◌, refl, Bool, true, false, ◌&&◌, [], ◌∷◌, ℕ, ◌<◌, get_or, eqb}
+use borrow.Author.Tests.{ne_eqb}
+use Rattle.lists.specs.Lists.{all_of, all_zero, every}
+use Rattle.lists.proofs.Tests.{every_not}
 use Rattle.model.specs.Measures.{Measures, base_measures, is_base}
-use Rattle.model.specs.Table.{measure_word, measures_in}
+use Rattle.model.specs.Table.{measures_in}
 
 -- ---- read
 
@@ -23,18 +18,13 @@ no_word a b c p q r = rw (p, q, r)
 
 -- ---- written
 
-pub other_than_base : (m : Measures) (i : ℕ) → get_or (eqb m.block_bytes 64 ∷ eqb m.segment_blocks 8 ∷ eqb m.rebuild_percent 20 ∷ []) i true ≡ false → false ≡ is_base m
-unfolding is_base
-other_than_base m i h = sym (all_false _ i h)
-
-pub by_percent : (m : Measures) → m.block_bytes ≡ 64 → m.segment_blocks ≡ 8 → eqb m.rebuild_percent 20 ≡ is_base m
-unfolding is_base
-by_percent m a b = sym (all_last (eqb m.block_bytes 64 ∷ eqb m.segment_blocks 8 ∷ []) _ (eq-eqb _ _ a, (eq-eqb _ _ b, tt)))
-
-pub word_of_base : (m : Measures) (n : ℕ) → is_base m ≡ true → 0 ≡ measure_word m n
-unfolding measure_word
-word_of_base m n h = rw h
-
-pub word_of_other : (m : Measures) (n : ℕ) → is_base m ≡ false → n ≡ measure_word m n
-unfolding measure_word
-word_of_other m n h = rw h
+pub base_tests : (m : Measures) (bytes blocks percent : ℕ) → bytes ≡ 64 → blocks ≡ 8 → percent ≡ 20
+    → (eqb m.block_bytes bytes && (eqb m.segment_blocks blocks && eqb m.rebuild_percent percent)) ≡ is_base m
+unfolding is_base all_of
+base_tests m bytes blocks percent a b c = rw (a, b, c) (go (eqb m.block_bytes 64) (eqb m.segment_blocks 8) (eqb m.rebuild_percent 20))
+  where
+    go : (p q r : Bool) → (p && (q && r)) ≡ all_of (p ∷ q ∷ r ∷ [])
+    go true true true = refl
+    go true true false = refl
+    go true false r = refl
+    go false q r = refl

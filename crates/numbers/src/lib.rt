@@ -9,7 +9,7 @@ ghost use Rattle.laws.specs.Ranges.{Measured};
 ghost use Rattle.numbers.specs.Measures.{measures_of};
 
 // A block's bytes, a segment's blocks, and the percentage from which a removal copies together.
-#[derive(Clone, Copy)]
+#[derive(Clone, Copy, Debug, PartialEq, Eq)]
 pub struct Measures {
     pub bytes: usize,
     pub blocks: usize,
@@ -32,16 +32,10 @@ impl Measures {
     pub fn of_words(bytes: u32, blocks: u32, percent: u32) -> Measures
         ensures { measures_of result ≡ measures_in bytes blocks percent }
     {
-        if bytes != 0 {
-            return Measures::chosen(bytes, blocks, percent);
+        match (bytes, blocks, percent) {
+            (0, 0, 0) => Measures::base(),
+            _ => Measures::chosen(bytes, blocks, percent),
         }
-        if blocks != 0 {
-            return Measures::chosen(bytes, blocks, percent);
-        }
-        if percent != 0 {
-            return Measures::chosen(bytes, blocks, percent);
-        }
-        Measures::base()
     }
 
     pub fn chosen(bytes: u32, blocks: u32, percent: u32) -> Measures
@@ -50,30 +44,22 @@ impl Measures {
         Measures {
             bytes: bytes as usize,
             blocks: blocks as usize,
-            percent: percent,
+            percent,
         }
     }
 
     fn is_base(self) -> bool
         ensures { result ≡ is_base (measures_of self) }
     {
-        if self.bytes != Block::BYTES {
-            return false;
-        }
-        if self.blocks != Segment::BLOCKS {
-            return false;
-        }
-        self.percent == 20
+        self == Measures::base()
     }
 
     // The header's word of one of them.
+    #[tactic(auto, unfolding(model::specs::Table::measure_word))]
     pub fn word(self, n: u32) -> u32
         ensures { result ≡ measure_word (measures_of self) n }
     {
-        if self.is_base() {
-            return 0;
-        }
-        n
+        if self.is_base() { 0 } else { n }
     }
 
     // A segment's bytes.
@@ -90,32 +76,33 @@ impl Measures {
         ensures { result ≡ parts_for (self.blocks * self.bytes) length }
     {
         let width = self.segment_bytes();
-        parts(length + (width - 1), width)
+        length.div_ceil(width)
     }
 }
 
 // A cell number counts places in the pool.
-#[derive(Clone, Copy)]
+#[derive(Clone, Copy, Debug, PartialEq, Eq, PartialOrd, Ord)]
 pub struct Cell(pub u32);
 
 // A block number counts places in an image.
-#[derive(Clone, Copy)]
+#[derive(Clone, Copy, Debug, PartialEq, Eq, PartialOrd, Ord)]
 pub struct Block(pub u32);
 
 // A record number counts segment records.
-#[derive(Clone, Copy)]
+#[derive(Clone, Copy, Debug, PartialEq, Eq, PartialOrd, Ord)]
 pub struct RecordNumber(pub u32);
 
 // A segment of an image.
-#[derive(Clone, Copy)]
+#[derive(Clone, Copy, Debug, PartialEq, Eq, PartialOrd, Ord)]
 pub struct Segment(pub u32);
 
 // A block's pointer, as its word in the table.
-#[derive(Clone, Copy)]
+#[derive(Clone, Copy, Debug, PartialEq, Eq)]
 pub struct Pointer(pub u32);
 
 impl Pointer {
     // Of a block that is all zero.
+    #[tactic(auto, unfolding(model::specs::Table::pointer_word))]
     pub fn null() -> Pointer
         ensures { result.0 ≡ pointer_word null_pointer }
     {
@@ -123,6 +110,7 @@ impl Pointer {
     }
 
     // Of a block of 255s.
+    #[tactic(auto, unfolding(model::specs::Table::pointer_word))]
     pub fn blank() -> Pointer
         ensures { result.0 ≡ pointer_word blank_pointer }
     {
@@ -130,21 +118,21 @@ impl Pointer {
     }
 
     // To a held position of a record.
+    #[tactic(auto, unfolding(model::specs::Table::pointer_word))]
     pub fn direct(k: RecordNumber, position: u32) -> Pointer
         requires { (k.0 ≤ 4096) × (position < 16) }
         ensures { result.0 ≡ pointer_word (direct k.0 position) }
     {
-        let n = k.0;
-        Pointer(0x100_0000 + (n * 16 + position))
+        Pointer(0x100_0000 + (k.0 * 16 + position))
     }
 
     // To a block of the next newer version.
+    #[tactic(auto, unfolding(model::specs::Table::pointer_word))]
     pub fn indirect(b: Block) -> Pointer
         requires { b.0 ≤ 65536 }
         ensures { result.0 ≡ pointer_word (indirect b.0) }
     {
-        let n = b.0;
-        Pointer(0x200_0000 + n)
+        Pointer(0x200_0000 + b.0)
     }
 
     // Whether it is to a held position of a record.
@@ -202,8 +190,7 @@ impl Block {
         requires { bytes ≤ 512 }
         ensures { result ≡ self.0 * bytes }
     {
-        let n = self.0;
-        n as usize * bytes
+        self.0 as usize * bytes
     }
 }
 
@@ -221,8 +208,7 @@ impl Cell {
         requires { bytes ≤ 512 }
         ensures { result ≡ self.0 * bytes }
     {
-        let n = self.0;
-        n as usize * bytes
+        self.0 as usize * bytes
     }
 }
 
@@ -235,8 +221,7 @@ impl RecordNumber {
         requires { positions ≤ 16 }
         ensures { result ≡ self.0 * record_words positions }
     {
-        let n = self.0;
-        n as usize * row_words(positions)
+        self.0 as usize * row_words(positions)
     }
 }
 
@@ -269,5 +254,5 @@ pub fn parts_for(width: usize, length: usize) -> usize
     requires { (0 < width) × (width ≤ 512) × (length ≤ 4294967295) }
     ensures { result ≡ parts_for width length }
 {
-    parts(length + (width - 1), width)
+    length.div_ceil(width)
 }

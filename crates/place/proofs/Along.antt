@@ -82,18 +82,15 @@ module _ (m : Measures) (image : List ℕ) (ok : Measured m) where
   segment_begins h j l = omega (arith, parts_few width (length image) (omega (arith, some_width)), row_room j (segments_in m image) width l)
 
 -- `j` segments are placed
-pub record Along (m : Measures) (image pool₀ ws₀ : List ℕ) (free₀ : List Bool) (placed₀ words₀ : List ℕ) (n used : ℕ) (pool ws : List ℕ) (free : List Bool) (placed words : List ℕ) (from first j : ℕ) : Type 0 where
-  pub within : j ≤ n
+pub record Along (m : Measures) (image pool₀ ws₀ : List ℕ) (free₀ : List Bool) (placed₀ words₀ : List ℕ) (n used : ℕ) (pool ws : List ℕ) (free : List Bool) (placed words : List ℕ) (j : ℕ) : Type 0 where
   pub all : n ≡ segments_in m image
-  pub begins : from ≡ j * (m.segment_blocks * m.block_bytes)
-  pub starts : first ≡ j * m.segment_blocks
   pub pointers : List Pointer
   pub stored : Stored m pool ws
   pub counts : Countable (2147483648 + j) (records_in m.segment_blocks ws)
   pub cells : free ≡ free_cells (storage_in m pool ws)
   pub rest : RestFree (used + j) (records_in m.segment_blocks ws)
-  pub written : take first words ≡ map pointer_word pointers
-  pub left : place_all with_blanks (done (record { storage = storage_in m pool ws; pointers = pointers })) (segments_from m.block_bytes m.segment_blocks image from (n - j)) ≡ placed_in m image pool₀ ws₀
+  pub written : take (j * m.segment_blocks) words ≡ map pointer_word pointers
+  pub left : place_all with_blanks (done (record { storage = storage_in m pool ws; pointers = pointers })) (segments_from m.block_bytes m.segment_blocks image (j * (m.segment_blocks * m.block_bytes)) (n - j)) ≡ placed_in m image pool₀ ws₀
   pub back : undo_upto m placed j (storage_in m pool ws) ≡ storage_in m pool₀ ws₀
   pub same_pool : length pool ≡ length pool₀
   pub same_table : length ws ≡ length ws₀
@@ -102,20 +99,17 @@ pub record Along (m : Measures) (image pool₀ ws₀ : List ℕ) (free₀ : List
   pub same_words : length words ≡ length words₀
 
 pub along_start : (m : Measures) (image pool ws : List ℕ) (free : List Bool) (placed words : List ℕ) (n used : ℕ) → n ≡ segments_in m image → Stored m pool ws → Countable 2147483648 (records_in m.segment_blocks ws)
-    → free ≡ free_cells (storage_in m pool ws) → RestFree used (records_in m.segment_blocks ws) → Along m image pool ws free placed words n used pool ws free placed words 0 0 0
+    → free ≡ free_cells (storage_in m pool ws) → RestFree used (records_in m.segment_blocks ws) → Along m image pool ws free placed words n used pool ws free placed words 0
 unfolding undo_upto image_segments
 along_start m image pool ws free placed words n used e st k c r = record {
-  within = omega arith;
   all = e;
-  begins = sym (zero-mul (m.segment_blocks * m.block_bytes));
-  starts = sym (zero-mul m.segment_blocks);
   pointers = [];
   stored = st;
   counts = counts_wider 2147483648 _ k (2147483648 + 0) (omega arith);
   cells = c;
   rest = λ j h l. r j (omega arith) l;
-  written = refl;
-  left = let z : n - 0 ≡ segments_in m image = omega arith in rw z;
+  written = rw zero-mul;
+  left = let z : n - 0 ≡ segments_in m image = omega arith in rw (z, zero-mul);
   back = refl;
   same_pool = refl;
   same_table = refl;
@@ -124,13 +118,20 @@ along_start m image pool ws free placed words n used e st k c r = record {
   same_words = refl;
 }
 
-module _ {m : Measures} {image pool₀ ws₀ : List ℕ} {free₀ : List Bool} {placed₀ words₀ : List ℕ} {n used : ℕ} {pool ws : List ℕ} {free : List Bool} {placed words : List ℕ} {from first j : ℕ}
-    (a : Along m image pool₀ ws₀ free₀ placed₀ words₀ n used pool ws free placed words from first j) where
+module _ {m : Measures} {image pool₀ ws₀ : List ℕ} {free₀ : List Bool} {placed₀ words₀ : List ℕ} {n used : ℕ} {pool ws : List ℕ} {free : List Bool} {placed words : List ℕ} {j : ℕ}
+    (a : Along m image pool₀ ws₀ free₀ placed₀ words₀ n used pool ws free placed words j) where
   abbrev s : Storage
   s = storage_in m pool ws
 
   abbrev k : ℕ
   k = m.segment_blocks
+
+  -- the next segment's first byte, and the first of its words
+  abbrev from : ℕ
+  from = j * (k * m.block_bytes)
+
+  abbrev first : ℕ
+  first = j * k
 
   abbrev seg : List Block
   seg = blocks_from m.block_bytes image from k
@@ -140,19 +141,27 @@ module _ {m : Measures} {image pool₀ ws₀ : List ℕ} {free₀ : List Bool} {
   unfolding place_all place_next
   step_left h = rw (segments_next m.block_bytes k image from n j h) at a.left
 
+  -- it begins within the image
+  pub along_begins : j < n → length image ≤ 65536 → (width : ℕ) → width ≡ k * m.block_bytes → j * width < 65536
+  along_begins h short width e = rw e (segment_begins m image a.stored.measured short j (omega (arith, a.all)))
+
+  -- there are few of them
+  pub along_few : j < n → length image ≤ 65536 → j < 256
+  along_few h short = omega (arith, a.all, few_segments m image a.stored.measured short)
+
   -- room for the next segment's pointers
   pub along_room : j < n → length words₀ ≡ segments_in m image * k → first + k ≤ length words
-  along_room h hw = omega (arith, hw, a.starts, a.same_words, ap (λ (x : ℕ). x * k) a.all, row_room j n k h)
+  along_room h hw = omega (arith, hw, a.same_words, ap (λ (x : ℕ). x * k) a.all, row_room j n k h)
 
-  module _ (h : j < n) (hp : j < length placed₀) (hw : length words₀ ≡ segments_in m image * k) (width : ℕ) (ew : width ≡ k * m.block_bytes) where
-    pub along_step : (r i : ℕ) (pool' ws' : List ℕ) (free' : List Bool) (w : List ℕ) → length pool' ≡ length pool → length ws' ≡ length ws → length free' ≡ length free → length w ≡ k
-        → SegmentResult m s (place_segment with_blanks s seg) r i pool ws pool' ws' free' w → r ≡ 0
-        → Along m image pool₀ ws₀ free₀ placed₀ words₀ n used pool' ws' free' (set placed j i) (take first words ++ (w ++ drop k (drop first words))) (from + width) (first + k) (j + 1)
+  module _ (h : j < n) (hp : j < length placed₀) (hw : length words₀ ≡ segments_in m image * k) where
+    pub along_step : (i : ℕ) (pool' ws' : List ℕ) (free' : List Bool) (w : List ℕ) → length pool' ≡ length pool → length ws' ≡ length ws → length free' ≡ length free → length w ≡ k
+        → SegmentResult m s (place_segment with_blanks s seg) 0 i pool ws pool' ws' free' w
+        → Along m image pool₀ ws₀ free₀ placed₀ words₀ n used pool' ws' free' (set placed j i) (take first words ++ (w ++ drop k (drop first words))) (j + 1)
     unfolding after_some
-    along_step r i pool' ws' free' w np nw nf lw d z = go (place_segment with_blanks s seg) refl d
+    along_step i pool' ws' free' w np nw nf lw d = go (place_segment with_blanks s seg) refl d
       where
-        go : (o : Outcome Placed) → place_segment with_blanks s seg ≡ o → SegmentResult m s o r i pool ws pool' ws' free' w
-            → Along m image pool₀ ws₀ free₀ placed₀ words₀ n used pool' ws' free' (set placed j i) (take first words ++ (w ++ drop k (drop first words))) (from + width) (first + k) (j + 1)
+        go : (o : Outcome Placed) → place_segment with_blanks s seg ≡ o → SegmentResult m s o 0 i pool ws pool' ws' free' w
+            → Along m image pool₀ ws₀ free₀ placed₀ words₀ n used pool' ws' free' (set placed j i) (take first words ++ (w ++ drop k (drop first words))) (j + 1)
         go (refused x) e q = absurd (omega (arith, q.0, q.1))
         go (done p) e q =
             let f : SegmentDone m s p i pool' ws' free' w = q.1 in
@@ -160,10 +169,7 @@ module _ {m : Measures} {image pool₀ ws₀ : List ℕ} {free₀ : List Bool} {
             let br : records_in k ws' ≡ p.storage.records = sym (records_of m pool' ws') ∙ ap (λ (x : Storage). x.records) b in
             let lo : first + k ≤ length words = along_room h hw in
             record {
-              within = omega arith;
               all = a.all;
-              begins = omega (arith, a.begins, row_next j (k * m.block_bytes));
-              starts = omega (arith, a.starts, row_next j k);
               pointers = a.pointers ++ p.pointers;
               stored = stored_again m pool ws pool' ws' p.storage a.stored f.encodes (placed_exact s a.stored.exact seg p e) np nw;
               counts =
@@ -171,8 +177,8 @@ module _ {m : Measures} {image pool₀ ws₀ : List ℕ} {free₀ : List Bool} {
                   rw br (subst (λ (x : ℕ). Countable x p.storage.records) y (placed_counts (2147483648 + j) s (omega arith) (rw (records_of m pool ws) a.counts) seg p e));
               cells = f.cells ∙ ap free_cells (sym b);
               rest = rw br (λ x l y. rest_after s seg (used + j) (rw (records_of m pool ws) a.rest) p e x (omega arith) y);
-              written = words_more words w first k lo lw ∙ ap₂ (λ (x y : List ℕ). x ++ y) a.written f.pointers ∙ sym (map-append pointer_word a.pointers p.pointers);
-              left = rw (b, ew) (rw e at (step_left h));
+              written = rw (row_next j k) (words_more words w first k lo lw ∙ ap₂ (λ (x y : List ℕ). x ++ y) a.written f.pointers ∙ sym (map-append pointer_word a.pointers p.pointers));
+              left = rw (b, row_next j (k * m.block_bytes)) (rw e at (step_left h));
               back = rw b (upto_more m placed j i (omega (arith, a.same_placed)) s p.storage f.undo ∙ a.back);
               same_pool = np ∙ a.same_pool;
               same_table = nw ∙ a.same_table;
@@ -182,7 +188,7 @@ module _ {m : Measures} {image pool₀ ws₀ : List ℕ} {free₀ : List Bool} {
             }
 
   -- refused: the buffers are as they were before this segment
-  pub along_stop : j < n → (r i : ℕ) (pool' ws' : List ℕ) (free' : List Bool) (w : List ℕ) → SegmentResult m s (place_segment with_blanks s seg) r i pool ws pool' ws' free' w → (r ≡ 0 → ⊥)
+  pub along_stop : j < n → (r i : ℕ) (pool' ws' : List ℕ) (free' : List Bool) (w : List ℕ) → SegmentResult m s (place_segment with_blanks s seg) r i pool ws pool' ws' free' w → 0 < r
       → (pool' ≡ pool) × (ws' ≡ ws) × (placed_in m image pool₀ ws₀ ≡ refused r)
   unfolding after_some
   along_stop h r i pool' ws' free' w d z = go (place_segment with_blanks s seg) refl d
@@ -190,7 +196,7 @@ module _ {m : Measures} {image pool₀ ws₀ : List ℕ} {free₀ : List Bool} {
       go : (o : Outcome Placed) → place_segment with_blanks s seg ≡ o → SegmentResult m s o r i pool ws pool' ws' free' w → (pool' ≡ pool) × (ws' ≡ ws) × (placed_in m image pool₀ ws₀ ≡ refused r)
       go (refused x) e q =
           (q.2, q.3, sym (rw e at (step_left h)) ∙ all_refused_lem x (segments_from m.block_bytes k image (from + k * m.block_bytes) (n - (j + 1))) ∙ ap {B = Outcome Placed} (λ (y : ℕ). refused y) (sym q.0))
-      go (done p) e q = absurd (z q.0)
+      go (done p) e q = absurd (omega (arith, z, q.0))
 
   -- and those before it are taken back
   pub along_undone : Stored m pool₀ ws₀ → (r : ℕ) (pool' ws' pool'' ws'' words' : List ℕ) (free' : List Bool) → pool' ≡ pool → ws' ≡ ws → placed_in m image pool₀ ws₀ ≡ refused r
@@ -208,7 +214,7 @@ module _ {m : Measures} {image pool₀ ws₀ : List ℕ} {free₀ : List Bool} {
         refl,
         record {
           encodes = a.stored.encodes;
-          pointers = sym (take_all first words (omega (arith, a.starts, a.same_words, ap (λ (x : ℕ). x * k) (e ∙ a.all)))) ∙ a.written;
+          pointers = sym (take_all first words (omega (arith, a.same_words, ap (λ (x : ℕ). x * k) (e ∙ a.all)))) ∙ a.written;
           counts = rw (records_of m pool ws) (counts_wider _ _ a.counts 2147483904 (omega (arith, e, few)));
           cells = a.cells;
           back = ap (λ (x : ℕ). undo_upto m placed x s) (sym (e ∙ a.all)) ∙ a.back;

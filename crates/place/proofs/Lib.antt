@@ -3,3 +3,4 @@ pub mod Keeping
 pub mod Marked
 pub mod Rest
 pub mod Along
+pub mod Answered

@@ -2,3 +2,4 @@
 pub mod Searches
 pub mod Free
 pub mod Rest
+pub mod Chunked

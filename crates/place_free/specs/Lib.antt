@@ -1,2 +1,3 @@
 -- What the searches answer.
 pub mod Free
+pub mod Found

@@ -8,8 +8,8 @@ ghost use Rattle.model.specs.State.{Segment};
 ghost use Rattle.model.specs.Records.{is_free, cell_of, cells_of, named_cells};
 ghost use Rattle.model.specs.Table.{record_to_words, records_in};
 ghost use Rattle.storage.specs.Stored.{EncodesRecords, position_in};
-ghost use Rattle.lists.specs.Search.{as_option};
 ghost use Rattle.place_words.specs.Words.{cell_if};
+ghost use Rattle.place_free.specs.Found.{found};
 ghost use Rattle.place_free.specs.Free.{without_cells, RestFree};
 
 use numbers::{Cell, RecordNumber};
@@ -19,33 +19,20 @@ fn row_free(row: &[u32]) -> bool
     requires { 3 ≤ length row.now }
     ensures { (seg : Segment) → row.now ≡ record_to_words seg → result ≡ is_free seg }
 {
-    if row[0] != 0 {
-        return false;
-    }
-    if row[1] != 0 {
-        return false;
-    }
-    row[2] == 0
+    row[0] == 0 && row[1] == 0 && row[2] == 0
 }
 
-// The lowest free record, or how many records there are.
-pub fn free_record(records: &[u32], n: usize) -> RecordNumber
+// The lowest free record.
+pub fn free_record(records: &[u32], n: usize) -> Option<RecordNumber>
     requires { (n ≤ 16) × EncodesRecords n records.now (records_in n records.now) × (length records.now ≤ 4096 * record_words n) }
-    ensures { (as_option (length (records_in n records.now)) result.0 ≡ first_from is_free 0 (records_in n records.now)) × (result.0 ≤ length (records_in n records.now)) }
+    ensures { found result ≡ first_from is_free 0 (records_in n records.now) }
 {
-    let width = numbers::row_words(n);
-    let count = numbers::rows(records.len(), n);
-    let mut at: usize = 0;
-    let mut k: usize = 0;
-    while k < count {
-        let end = at + width;
-        if row_free(&records[at..end]) {
-            return RecordNumber(k as u32);
+    for (k, row) in records.chunks_exact(numbers::row_words(n)).enumerate() {
+        if row_free(row) {
+            return Some(RecordNumber(k as u32));
         }
-        at = end;
-        k = k + 1;
     }
-    RecordNumber(k as u32)
+    None
 }
 
 // All records from this number on are free: it is the highest one in use plus 1.
@@ -54,17 +41,14 @@ pub fn used_records(records: &[u32], n: usize) -> usize
     ensures { (result ≤ length (records_in n records.now)) × RestFree result (records_in n records.now) }
 {
     let width = numbers::row_words(n);
-    let mut used = numbers::rows(records.len(), n);
-    while 0 < used {
-        let last = used - 1;
+    for last in (0..numbers::rows(records.len(), n)).rev() {
         let start = RecordNumber(last as u32).word(n);
         let end = start + width;
         if !row_free(&records[start..end]) {
-            return used;
+            return last + 1;
         }
-        used = last;
     }
-    used
+    0
 }
 
 // A cell is taken, where the bit is set.
@@ -72,12 +56,9 @@ fn take_if(bit: u32, cell: Cell, free: &mut [bool])
     requires { (bit < 2) × (cell.0 < length free.old) }
     ensures { free.new ≡ without_cells (cell_if bit cell.0) free.old }
 {
-    if bit == 0 {
-        return;
+    if bit == 1 {
+        free[cell.0 as usize] = false;
     }
-    let n = cell.0;
-    let at = n as usize;
-    free[at] = false;
 }
 
 // The cells that a record names are taken. One that holds no position names none.
@@ -89,12 +70,9 @@ pub fn take_row(row: &[u32], free: &mut [bool], n: usize)
     if m == 0 {
         return;
     }
-    let mut i: usize = 0;
-    while i < n {
-        let cell = row[3 + i];
-        take_if(m % 2, Cell(cell), free);
-        m = m / 2;
-        i = i + 1;
+    for i in 0..n {
+        take_if(m % 2, Cell(row[3 + i]), free);
+        m /= 2;
     }
 }
 
@@ -104,14 +82,7 @@ pub fn take_all(records: &[u32], free: &mut [bool], n: usize)
     requires by_index { (k i : ℕ) → cell_of (position_in (records_in n records.now) k i) < length free.old }
     ensures { free.new ≡ without_cells (named_cells (records_in n records.now)) free.old }
 {
-    let width = numbers::row_words(n);
-    let count = numbers::rows(records.len(), n);
-    let mut at: usize = 0;
-    let mut k: usize = 0;
-    while k < count {
-        let end = at + width;
-        take_row(&records[at..end], free, n);
-        at = end;
-        k = k + 1;
+    for row in records.chunks_exact(numbers::row_words(n)) {
+        take_row(row, free, n);
     }
 }

@@ -14,12 +14,12 @@ ghost use Rattle.model.specs.Place.{stored_blocks};
 ghost use Rattle.model.specs.Table.{record_to_words, records_in, cells_in, storage_in};
 ghost use Rattle.numbers.specs.Measures.{measures_of};
 ghost use Rattle.storage.specs.Stored.{Stored};
-ghost use Rattle.lists.specs.Search.{as_option};
 ghost use Rattle.place_words.specs.Marks.{stored_bit, stored_mask, is_erased, blank_bit, blank_mask, block_if};
+ghost use Rattle.place_free.specs.Found.{found};
 ghost use Rattle.place_free.specs.Free.{RestFree};
 ghost use Rattle.place_match.specs.Fit.{MasksFit, RowFits};
 
-use numbers::{Block, Cell, Measures, RecordNumber};
+use numbers::{Cell, Measures, RecordNumber};
 
 // Whether a position that is not removed, and is blank just where the image's block at a byte is, holds that block. The bit is 0 for a block that is null or blank, else 1.
 fn position_holds(
@@ -36,10 +36,10 @@ fn position_holds(
 {
     if held == 1 {
         let from = cell.byte(bytes);
-        let end = from + bytes;
-        return blocks::block_same(image, at, &pool[from..end], bytes);
+        blocks::block_same(image, at, &pool[from..from + bytes], bytes)
+    } else {
+        bit == 0
     }
-    bit == 0
 }
 
 // Whether the first byte of a record's first cell is not that of the segment's first block, where that block is stored.
@@ -54,11 +54,7 @@ fn first_differs(
     requires { (mask % 2 ≡ stored_bit (block_from bytes image.now from)) × (cell.0 * bytes + bytes ≤ length pool.now) × (0 < bytes) × (bytes ≤ 512) }
     ensures { result ≡ true → (s : Storage) (p : Position) → s.cells ≡ cells_in bytes pool.now → cell.0 ≡ cell_of p → false ≡ holds with_blanks s p (block_from bytes image.now from) }
 {
-    if mask % 2 == 0 {
-        return false;
-    }
-    let at = cell.byte(bytes);
-    pool[at] != image[from]
+    mask % 2 == 1 && pool[cell.byte(bytes)] != image[from]
 }
 
 // Whether a record that has lost no position, and whose blank ones are those of the segment of the image that begins at a byte, equals it. The segment's
@@ -77,17 +73,14 @@ fn positions_equal(
 {
     let mut held = row[0];
     let mut m = mask;
-    let mut at = from;
-    let mut i: usize = 0;
-    while i < n {
-        let cell = row[3 + i];
-        if !position_holds(image, at, m % 2, pool, held % 2, Cell(cell), bytes) {
+    for i in 0..n {
+        let at = from + i * bytes;
+        let cell = Cell(row[3 + i]);
+        if !position_holds(image, at, m % 2, pool, held % 2, cell, bytes) {
             return false;
         }
-        held = held / 2;
-        m = m / 2;
-        at = at + bytes;
-        i = i + 1;
+        held /= 2;
+        m /= 2;
     }
     true
 }
@@ -105,57 +98,40 @@ fn record_equals(
     requires { (from ≤ 65536) × (mask ≡ stored_mask (blocks_from bytes image.now from n)) × (length row.now ≡ record_words n) × (get_or row.now 1 0 ≡ 0) × ((i : ℕ) → i < n → get_or row.now (3 + i) 0 * bytes + bytes ≤ length pool.now) × (64 ≤ bytes) × (bytes ≤ 512) × (bytes % 64 ≡ 0) × (n ≤ 16) × (get_or row.now 2 0 ≡ blank_mask (blocks_from bytes image.now from n)) × (0 < n) }
     ensures { (s : Storage) (seg : Segment) → s.cells ≡ cells_in bytes pool.now → length seg ≡ n → row.now ≡ record_to_words seg → result ≡ equals with_blanks s (blocks_from bytes image.now from n) seg }
 {
-    let cell = row[3];
-    if first_differs(image, from, mask, pool, Cell(cell), bytes) {
-        return false;
-    }
-    positions_equal(image, from, mask, pool, row, bytes, n)
+    !first_differs(image, from, mask, pool, Cell(row[3]), bytes)
+        && positions_equal(image, from, mask, pool, row, bytes, n)
 }
 
 // Whether a record with these masks can equal a segment whose masks are given.
 fn masks_fit(held: u32, removed: u32, blanks: u32, mask: u32, blank: u32) -> bool
     ensures { Decides result (MasksFit mask blank held removed blanks) }
 {
-    if held != mask {
-        return false;
-    }
-    if removed != 0 {
-        return false;
-    }
-    if blanks != blank {
-        return false;
-    }
-    true
+    held == mask && removed == 0 && blanks == blank
 }
 
-// From record k on, which begins at a word, the next before `stop` whose masks fit, or `stop`. The masks settle most records, and a loop over nothing else
-// is fast.
+// From record k on, the next before `stop` whose masks fit, or `stop`. The masks settle most records, and a loop over nothing else is fast.
 fn next_fitting(
     records: &[u32],
-    from: usize,
     k: usize,
     stop: usize,
     mask: u32,
     blank: u32,
     width: usize,
 ) -> usize
-    requires { (k ≤ stop) × (from ≡ k * width) × (stop * width ≤ length records.now) × (3 ≤ width) }
+    requires { (k ≤ stop) × (stop * width ≤ length records.now) × (3 ≤ width) }
     ensures { (k ≤ result) × (result ≤ stop) × ((j : ℕ) → j < result → k ≤ j → RowFits mask blank records.now (j * width) → ⊥) × (result < stop → RowFits mask blank records.now (result * width)) }
 {
-    let mut at = from;
-    let mut j = k;
-    while j < stop {
+    for j in k..stop {
+        let at = j * width;
         if masks_fit(records[at], records[at + 1], records[at + 2], mask, blank) {
             return j;
         }
-        at = at + width;
-        j = j + 1;
     }
-    j
+    stop
 }
 
-// The lowest record that equals the segment, whose masks are given, the first not 0, or how many records there are. The records from `used` on are free, and
-// a free one equals no such segment: they are not looked at.
+// The lowest record that equals the segment, whose masks are given, the first not 0. The records from `used` on are free, and a free one equals no such segment:
+// they are not looked at.
 pub fn match_record(
     image: &[u8],
     from: usize,
@@ -165,14 +141,13 @@ pub fn match_record(
     records: &[u32],
     used: usize,
     m: Measures,
-) -> RecordNumber
+) -> Option<RecordNumber>
     requires { (from ≤ 65536) × (mask ≡ stored_mask (blocks_from m.bytes image.now from m.blocks)) × (0 < mask) × Stored (measures_of m) pool.now records.now × RestFree used (records_in m.blocks records.now) × (blank ≡ blank_mask (blocks_from m.bytes image.now from m.blocks)) }
-    ensures { (as_option (length (records_in m.blocks records.now)) result.0 ≡ first_from (equals with_blanks (storage_in (measures_of m) pool.now records.now) (blocks_from m.bytes image.now from m.blocks)) 0 (records_in m.blocks records.now)) × (result.0 ≤ length (records_in m.blocks records.now)) }
+    ensures { found result ≡ first_from (equals with_blanks (storage_in (measures_of m) pool.now records.now) (blocks_from m.bytes image.now from m.blocks)) 0 (records_in m.blocks records.now) }
 {
     let width = numbers::row_words(m.blocks);
-    let count = numbers::rows(records.len(), m.blocks);
-    let stop = blocks::least(used, count);
-    let mut k = next_fitting(records, 0, 0, stop, mask, blank, width);
+    let stop = used.min(numbers::rows(records.len(), m.blocks));
+    let mut k = next_fitting(records, 0, stop, mask, blank, width);
     while k < stop {
         let record = RecordNumber(k as u32);
         let at = record.word(m.blocks);
@@ -186,11 +161,11 @@ pub fn match_record(
             m.bytes,
             m.blocks,
         ) {
-            return record;
+            return Some(record);
         }
-        k = next_fitting(records, end, k + 1, stop, mask, blank, width);
+        k = next_fitting(records, k + 1, stop, mask, blank, width);
     }
-    RecordNumber(count as u32)
+    None
 }
 
 // Whether the image's block at a byte is all zero. Most blocks are not cut.
@@ -200,9 +175,10 @@ fn block_null(image: &[u8], at: usize, bytes: usize) -> bool
 {
     let end = at + bytes;
     if end <= image.len() {
-        return blocks::pieces_zero(&image[at..end]);
+        blocks::pieces_zero(&image[at..end])
+    } else {
+        blocks::block_zero(image, at, bytes)
     }
-    blocks::block_zero(image, at, bytes)
 }
 
 // Whether the image's block at a byte is all 255s. One that the image's end cuts is filled up with zeros, so it is not.
@@ -211,10 +187,7 @@ fn block_blank(image: &[u8], at: usize, bytes: usize) -> bool
     ensures { result ≡ is_blank with_blanks (block_from bytes image.now at) }
 {
     let end = at + bytes;
-    if end <= image.len() {
-        return blocks::pieces_filled(&image[at..end], 255);
-    }
-    false
+    end <= image.len() && blocks::pieces_filled(&image[at..end], 255)
 }
 
 // Of a segment's blocks, those that are stored and those that are blank; a block is at most one of them.
@@ -230,20 +203,20 @@ fn block_marks(image: &[u8], at: usize, bytes: usize) -> Masks
     ensures { (result.stored ≡ stored_bit (block_from bytes image.now at)) × (result.blank ≡ blank_bit (block_from bytes image.now at)) }
 {
     if block_null(image, at, bytes) {
-        return Masks {
+        Masks {
             stored: 0,
             blank: 0,
-        };
-    }
-    if block_blank(image, at, bytes) {
-        return Masks {
+        }
+    } else if block_blank(image, at, bytes) {
+        Masks {
             stored: 0,
             blank: 1,
-        };
-    }
-    Masks {
-        stored: 1,
-        blank: 0,
+        }
+    } else {
+        Masks {
+            stored: 1,
+            blank: 0,
+        }
     }
 }
 
@@ -254,12 +227,8 @@ pub fn segment_masks(image: &[u8], from: usize, bytes: usize, n: usize) -> Masks
 {
     let mut stored: u32 = 0;
     let mut blank: u32 = 0;
-    let mut at = from + Block(n as u32).byte(bytes);
-    let mut i = n;
-    while 0 < i {
-        i = i - 1;
-        at = at - bytes;
-        let here = block_marks(image, at, bytes);
+    for i in (0..n).rev() {
+        let here = block_marks(image, from + i * bytes, bytes);
         stored = here.stored + 2 * stored;
         blank = here.blank + 2 * blank;
     }
@@ -271,12 +240,10 @@ fn copy_if(bit: u32, image: &[u8], at: usize, pool: &mut [u8], cell: Cell, bytes
     requires { (at ≤ 131072) × (bit < 2) × (bit ≡ 1 → cell.0 * bytes + bytes ≤ length pool.old) × (0 < bytes) × (bytes ≤ 512) }
     ensures { cells_in bytes pool.new ≡ sets (cells_in bytes pool.old) cell.0 (block_if bit (block_from bytes image.now at)) }
 {
-    if bit == 0 {
-        return;
+    if bit == 1 {
+        let start = cell.byte(bytes);
+        blocks::put_block(image, at, &mut pool[start..start + bytes], bytes);
     }
-    let start = cell.byte(bytes);
-    let end = start + bytes;
-    blocks::put_block(image, at, &mut pool[start..end], bytes);
 }
 
 // The segment's stored blocks go into consecutive cells.
@@ -294,14 +261,10 @@ pub fn copy_blocks(
 {
     let mut m = mask;
     let mut cell = first.0;
-    let mut at = from;
-    let mut i: usize = 0;
-    while i < n {
+    for i in 0..n {
         let bit = m % 2;
-        copy_if(bit, image, at, pool, Cell(cell), bytes);
-        cell = cell + bit;
-        m = m / 2;
-        at = at + bytes;
-        i = i + 1;
+        copy_if(bit, image, from + i * bytes, pool, Cell(cell), bytes);
+        cell += bit;
+        m /= 2;
     }
 }

@@ -1,6 +1,7 @@
 -- Laws for undoing.
+use Rattle.std.specs.List.{list_all}
 use mathlib.Core.Path.{◌∙◌, ◌≡◌, ap, refl, subst, sym}
-use mathlib.Core.Bool.{Bool, cond, false, true}
+use mathlib.Core.Bool.{◌&&◌, Bool, cond, false, true}
 use mathlib.Core.List.{List, [], ◌++◌, ◌∷◌, map}
 use Prim.Native.Nat.{◌*◌, ◌+◌, ◌-◌, ◌<◌, ◌≤◌, pred, suc, zero, ℕ}
 use native.Mathlib.Omega.{arith}
@@ -29,6 +30,15 @@ use Rattle.storage.proofs.Row.{count_words}
 use Rattle.place_undo.specs.Undo.{undo_in, undo_record, undo_upto}
 
 -- ---- low words
+
+pub low_words : (ws : List ℕ) → list_all (λ w. ltb w 2) ws ≡ every (λ w. ltb w 2) ws
+unfolding every
+low_words [] = refl
+low_words (w ∷ ws) = go (ltb w 2) (low_words ws)
+  where
+    go : (t : Bool) {a b : Bool} → a ≡ b → (t && a) ≡ cond t b false
+    go true e = e
+    go false e = refl
 
 low_counts : (ps : Segment) → every (λ w. ltb w 2) (map count_of ps) ≡ all_zero (map count_of (map one_less ps))
 unfolding all_zero every

@@ -2,7 +2,7 @@
 #![tactic(auto)]
 
 ghost use Rattle.std.specs.Prelude.{◌≡◌, ℕ, ◌+◌, ◌*◌, ◌≤◌, ◌<◌, length, get_or, ltb};
-ghost use Rattle.lists.specs.Lists.{every};
+ghost use Rattle.std.specs.List.{list_all};
 ghost use Rattle.model.specs.Measures.{record_words};
 ghost use Rattle.model.specs.State.{Segment};
 ghost use Rattle.model.specs.Records.{cells_of};
@@ -17,16 +17,9 @@ use numbers::{Cell, Measures, RecordNumber};
 
 // Whether no word is above 1.
 fn words_low(words: &[u32]) -> bool
-    ensures { result ≡ every (λ w. ltb w 2) words.now }
+    ensures { result ≡ list_all (λ w. ltb w 2) words.now }
 {
-    let mut i: usize = 0;
-    while i < words.len() {
-        if 1 < words[i] {
-            return false;
-        }
-        i = i + 1;
-    }
-    true
+    words.iter().all(|&word| word < 2)
 }
 
 // A cell is cleared, where the bit is set.
@@ -46,12 +39,10 @@ fn clear_cells(row: &[u32], pool: &mut [u8], bytes: usize, n: usize)
     ensures { (seg : Segment) → length seg ≡ n → row.now ≡ record_to_words seg → cells_in bytes pool.new ≡ clear_cells bytes (cells_in bytes pool.old) (cells_of seg) }
 {
     let mut m = row[0];
-    let mut i: usize = 0;
-    while i < n {
+    for i in 0..n {
         let cell = row[3 + i];
         clear_if(m % 2, Cell(cell), pool, bytes);
-        m = m / 2;
-        i = i + 1;
+        m /= 2;
     }
 }
 
@@ -65,7 +56,7 @@ fn undo_record(pool: &mut [u8], records: &mut [u32], k: RecordNumber, m: Measure
     let counts = start + (3 + m.blocks);
     if words_low(&records[counts..end]) {
         clear_cells(&records[start..end], pool, m.bytes, m.blocks);
-        words::clear(&mut records[start..end]);
+        records[start..end].fill(0);
         return;
     }
     place_words::lower_row(&mut records[start..end], m.blocks);
@@ -88,10 +79,7 @@ pub fn undo_all(pool: &mut [u8], records: &mut [u32], placed: &[u32], count: usi
     requires { Stored (measures_of m) pool.old records.old × (count ≤ length placed.now) }
     ensures { Encodes (measures_of m) pool.new records.new (undo_upto (measures_of m) placed.now count (storage_in (measures_of m) pool.old records.old)) }
 {
-    let mut j = count;
-    while 0 < j {
-        j = j - 1;
-        let k = placed[j];
-        undo_placing(pool, records, RecordNumber(k), m);
+    for j in (0..count).rev() {
+        undo_placing(pool, records, RecordNumber(placed[j]), m);
     }
 }

@@ -2,7 +2,7 @@
 #![tactic(auto)]
 
 ghost use Rattle.std.specs.Prelude.{◌≡◌, List, map, ℕ, ◌+◌, ◌-◌, ◌*◌, ◌≤◌, ◌<◌, length, get_or, set};
-ghost use Rattle.lists.specs.Walk.{pick, raised, lowered, bits, numbered};
+ghost use Rattle.lists.specs.Walk.{pick, raised, lowered, bits, numbered, walk, next_same};
 ghost use Rattle.model.specs.Measures.{record_words};
 ghost use Rattle.model.specs.Image.{with_blanks};
 ghost use Rattle.model.specs.State.{Block, Segment};
@@ -18,10 +18,7 @@ fn picked(bit: u32, value: u32) -> u32
     requires { bit < 2 }
     ensures { result ≡ pick bit value }
 {
-    if bit == 1 {
-        return value;
-    }
-    0
+    if bit == 1 { value } else { 0 }
 }
 
 // The pointer's word for a block that is stored, else a blank or a null pointer's.
@@ -30,14 +27,24 @@ fn pointer_if(stored: u32, blank: u32, word: u32) -> u32
     ensures { result ≡ pointer_if stored blank word }
 {
     if stored == 1 {
-        return word;
+        word
+    } else if blank == 1 {
+        Pointer::blank().0
+    } else {
+        Pointer::null().0
     }
-    if blank == 1 {
-        let erased = Pointer::blank();
-        return erased.0;
+}
+
+// Each word becomes what the step makes of its bit of the mask and of the word.
+fn step_each<F: Fn(u32, u32) -> u32>(words: &mut [u32], mask: u32, step: F)
+    requires { (i b : ℕ) → i < length words.old → b < 2 → F.pre step b (get_or words.old i 0) }
+    ensures { (out : ℕ → ℕ → ℕ) → ((b x y : ℕ) → F.post step b x y → y ≡ out b x) → words.new ≡ walk (λ b a x. out b x) next_same mask 0 words.old }
+{
+    let mut m = mask;
+    for word in words.iter_mut() {
+        *word = step(m % 2, *word);
+        m /= 2;
     }
-    let null = Pointer::null();
-    null.0
 }
 
 // One more where a bit is set.
@@ -45,48 +52,21 @@ fn raise(counts: &mut [u32], mask: u32)
     requires { (i : ℕ) → i < length counts.old → get_or counts.old i 0 < 4294967295 }
     ensures { counts.new ≡ raised mask counts.old }
 {
-    let mut m = mask;
-    let mut i: usize = 0;
-    while i < counts.len() {
-        counts[i] = counts[i] + m % 2;
-        m = m / 2;
-        i = i + 1;
-    }
+    step_each(counts, mask, |bit, count| count + bit);
 }
 
 // One less where a bit is set.
 fn lower(counts: &mut [u32], mask: u32)
     ensures { counts.new ≡ lowered mask counts.old }
 {
-    let mut m = mask;
-    let mut i: usize = 0;
-    while i < counts.len() {
-        counts[i] = less(counts[i], m % 2);
-        m = m / 2;
-        i = i + 1;
-    }
-}
-
-fn less(a: u32, b: u32) -> u32
-    ensures { result ≡ a - b }
-{
-    if a < b {
-        return 0;
-    }
-    a - b
+    step_each(counts, mask, |bit, count| count.saturating_sub(bit));
 }
 
 // The bits of the mask.
 fn put_bits(counts: &mut [u32], mask: u32)
     ensures { counts.new ≡ bits mask counts.old }
 {
-    let mut m = mask;
-    let mut i: usize = 0;
-    while i < counts.len() {
-        counts[i] = m % 2;
-        m = m / 2;
-        i = i + 1;
-    }
+    step_each(counts, mask, |bit, _| bit);
 }
 
 // Consecutive numbers where a bit is set, 0 elsewhere.
@@ -96,13 +76,11 @@ fn number(cells: &mut [u32], mask: u32, start: Cell)
 {
     let mut m = mask;
     let mut at = start.0;
-    let mut i: usize = 0;
-    while i < cells.len() {
-        let b = m % 2;
-        cells[i] = picked(b, at);
-        at = at + b;
-        m = m / 2;
-        i = i + 1;
+    for cell in cells.iter_mut() {
+        let bit = m % 2;
+        *cell = picked(bit, at);
+        at += bit;
+        m /= 2;
     }
 }
 
@@ -114,14 +92,10 @@ pub fn put_places(words: &mut [u32], mask: u32, blank: u32, k: RecordNumber)
     let first = Pointer::direct(k, 0);
     let mut m = mask;
     let mut b = blank;
-    let mut at = first.0;
-    let mut i: usize = 0;
-    while i < words.len() {
-        words[i] = pointer_if(m % 2, b % 2, at);
-        at = at + 1;
-        m = m / 2;
-        b = b / 2;
-        i = i + 1;
+    for (i, word) in words.iter_mut().enumerate() {
+        *word = pointer_if(m % 2, b % 2, first.0 + i as u32);
+        m /= 2;
+        b /= 2;
     }
 }
 

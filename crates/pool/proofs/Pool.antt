@@ -1,30 +1,13 @@
 -- Laws of blocks moved within the pool.
-use mathlib.Core.Path.{◌≡◌, refl, ap, ◌∙◌}
-use mathlib.Core.List.{List, [], ◌∷◌, ◌++◌}
-use Prim.Native.Nat.{ℕ, zero, suc, ◌+◌, ◌-◌, ◌*◌, ◌/◌, ◌%◌, ◌^◌, ◌≤◌, ◌<◌}
+use mathlib.Core.Path.{◌≡◌, refl}
+use mathlib.Core.List.{List, [], ◌∷◌}
+use Prim.Native.Nat.{ℕ, zero, suc, ◌+◌, ◌-◌, ◌/◌, ◌%◌, ◌^◌, ◌≤◌, ◌<◌}
 use native.Mathlib.Nat.{pow-zero, pow-suc, add-zero}
 use native.Mathlib.Omega.{arith}
-use lib.ListN.{length, take, drop, get_or}
-use lib.Seq.{take_at}
-use borrow.Rule.Slice.PartMut.{mid_of, put_mid, mid_len}
+use lib.ListN.{length, get_or}
 use Rattle.lists.specs.Rows.{fill}
 use Rattle.lists.proofs.Masks.{First, here, later, first_le}
-use Rattle.lists.proofs.Written.{copied_part}
-use Rattle.pool.specs.Pool.{copy_to, along, choose}
-
--- a block copied by way of a buffer z that has room for it
-pub moved_by : (bytes : ℕ) (p b z ys : List ℕ) (c at from to : ℕ) → from ≡ c * bytes → to ≡ at * bytes → bytes ≤ length z → from + bytes ≤ length p → to + bytes ≤ length p
-    → (let s = mid_of from ((from + bytes) - from) p in b ≡ s ++ drop (length s) z)
-    → (let s = take bytes b in ys ≡ s ++ drop (length s) (mid_of to (length p - to) p))
-    → put_mid to (length p - to) p ys ≡ copy_to bytes p c at
-unfolding copy_to
-moved_by bytes p b z ys c at from to ef et lz h h' e f =
-    let k : (from + bytes) - from ≡ bytes = omega arith in
-    let block : List ℕ = mid_of from ((from + bytes) - from) p in
-    let l : length block ≡ bytes = mid_len from (from + bytes) p h ∙ k in
-    let e' : take bytes b ≡ block = ap (take bytes) e ∙ take_at block (drop (length block) z) bytes l in
-    let lb : length (take bytes b) ≡ bytes = ap length e' ∙ l in
-    copied_part to p (take bytes b) ys (omega arith) f ∙ rw (lb, e', k, ef, et)
+use Rattle.pool.specs.Pool.{along, choose}
 
 -- the marked cells, one set bit at a time
 pub first_along : {S : Type 0} (step : S → ℕ → ℕ → S) {m t : ℕ} (at : ℕ) (cs : List ℕ) (s : S) → t < length cs → First m t

@@ -5,22 +5,20 @@ ghost use Rattle.std.specs.Prelude.{◌≡◌, ℕ, ◌+◌, ◌*◌, ◌^◌, �
 ghost use Rattle.std.specs.Int.Count.{ones};
 ghost use Rattle.pool.specs.Pool.{copy_to, clear_at, take_at, free_at, mark_at, along};
 
-use numbers::{Block, Cell};
+use numbers::Cell;
 
 // The block of a cell is copied to another.
+#[tactic(auto, unfolding(crate::specs::Pool::copy_to))]
 pub fn move_block(pool: &mut [u8], from: Cell, to: Cell, bytes: usize)
     requires { (bytes ≤ 512) × (from.0 * bytes + bytes ≤ length pool.old) × (to.0 * bytes + bytes ≤ length pool.old) }
     ensures { pool.new ≡ copy_to bytes pool.old from.0 to.0 }
 {
-    let mut b = [0u8; Block::MOST_BYTES];
     let start = from.byte(bytes);
-    let end = start + bytes;
-    let at = to.byte(bytes);
-    blocks::copy_in(&pool[start..end], &mut b);
-    blocks::copy_in(&b[..bytes], &mut pool[at..]);
+    pool.copy_within(start..start + bytes, to.byte(bytes));
 }
 
 // The blocks of the cells that a mask marks are copied, in order, to the cells from `start` on, which are taken.
+#[tactic(auto, using(numbers::proofs::Bits::bits))]
 pub fn copy_marked(
     pool: &mut [u8],
     occupied: &mut [bool],
@@ -36,18 +34,19 @@ pub fn copy_marked(
     let mut left = mask;
     let mut at = start.0;
     while left != 0 {
-        let p = u32::trailing_zeros(left);
+        let p = left.trailing_zeros();
         let i = p as usize;
         let c = cells[i];
         let t = at as usize;
         occupied[t] = true;
         move_block(pool, Cell(c), Cell(at), bytes);
-        at = at + 1;
-        left = left - (1u32 << p);
+        at += 1;
+        left -= 1u32 << p;
     }
 }
 
 // The cells that a mask marks are cleared and freed.
+#[tactic(auto, using(numbers::proofs::Bits::bits))]
 pub fn clear_marked(
     pool: &mut [u8],
     occupied: &mut [bool],
@@ -61,27 +60,28 @@ pub fn clear_marked(
 {
     let mut left = mask;
     while left != 0 {
-        let p = u32::trailing_zeros(left);
+        let p = left.trailing_zeros();
         let i = p as usize;
         let c = cells[i];
         let n = c as usize;
         occupied[n] = false;
         blocks::clear_cell(pool, Cell(c), bytes);
-        left = left - (1u32 << p);
+        left -= 1u32 << p;
     }
 }
 
 // The cells that a mask marks are taken.
+#[tactic(auto, using(numbers::proofs::Bits::bits))]
 pub fn take_marked(occupied: &mut [bool], mask: u32, cells: &[u32])
     requires { (mask < 2 ^ length cells.now) × (mask < 65536) × ((k : ℕ) → get_or cells.now k 0 < length occupied.old) × (length occupied.old ≤ 32768) }
     ensures { occupied.new ≡ along mark_at mask 0 cells.now occupied.old }
 {
     let mut left = mask;
     while left != 0 {
-        let p = u32::trailing_zeros(left);
+        let p = left.trailing_zeros();
         let i = p as usize;
         let c = cells[i] as usize;
         occupied[c] = true;
-        left = left - (1u32 << p);
+        left -= 1u32 << p;
     }
 }

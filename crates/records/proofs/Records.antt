@@ -1,19 +1,22 @@
 -- A record struck, renumbered, and the mask of those that go.
 use mathlib.Core.Path.{◌≡◌, refl, sym, ap, ap₂, ◌∙◌}
-use mathlib.Core.Bool.{Bool, true, false, cond, false≢true}
+use mathlib.Core.Bool.{Bool, true, false, cond, not, false≢true}
 use mathlib.Core.List.{List, [], ◌∷◌, map}
 use Prim.Native.Nat.{ℕ, zero, suc, ◌+◌, ◌-◌, ◌*◌, ◌/◌, ◌%◌, ◌^◌, ◌≤◌, ◌<◌}
 use native.Mathlib.Nat.{add-zero, pow-zero, pow-suc}
 use native.Mathlib.Numerals.{add-one}
 use native.Mathlib.Omega.{arith}
 use lib.Count.{ones}
+use lib.Dec.{eqb}
+use mir.Val.{bool_byte}
+use borrow.Author.Tests.{ne_eqb}
 use lib.ListN.{length, get_or, set, take, drop, replicate, length-drop, length-set, length-map, length-replicate, get_or-map}
-use lib.Seq.{map-set_same}
+use lib.Seq.{map-set_same, length-take-le}
 use lib.Pow.{pow_mono}
 use Rattle.lists.specs.Lists.{count}
 use Rattle.lists.specs.Masks.{mask_of}
 use Rattle.lists.specs.Walk.{walk, next_add}
-use Rattle.lists.proofs.Masks.{First, here, later, first_le, first_bit, first_lt, mask_odd, mask_half, mask_bit, mask_lt, mask_off, mask_on, mask_same, ones_mask, bit_le, bit_true, bit_false}
+use Rattle.lists.proofs.Masks.{First, here, later, first_le, first_bit, first_lt, mask_odd, mask_half, mask_bit, mask_lt, mask_off, mask_on, mask_same, ones_mask, bit_le, bit_true, bit_false, one_shl}
 use Rattle.lists.specs.Rows.{fill}
 use Rattle.lists.proofs.Rows.{get_d_fill, set_fill}
 use Rattle.lists.proofs.Filled.{fill_front}
@@ -93,6 +96,22 @@ module _ (r : Record) (f : Formed r) where
   pub size_is : ones r.held ≡ count is_held (positions r)
   size_is = ap ones held_mask_lem ∙ ones_mask is_held (positions r)
 
+-- ---- the room of a record of n positions
+
+pub few_of : (r : Record) (n : ℕ) → Formed r × (length (positions r) ≡ n) → n ≤ 16
+few_of r n f = omega (arith, f.1, f.0.few)
+
+pub part_of : (xs : List ℕ) (n : ℕ) → length xs ≡ 16 → n ≤ 16 → length (take n xs) ≡ n
+part_of xs n l h = length-take-le n xs (omega arith)
+
+-- a position's bit, as the code shifts it
+module _ (r : Record) (f : Formed r) (i : ℕ) (h : i < length (positions r)) where
+  pub position_small : i < 16
+  position_small = omega (arith, f.few)
+
+  pub position_bit : 1 * 2 ^ i % 2 ^ 32 ≡ 2 ^ i
+  position_bit = one_shl i 32 (omega (arith, position_small))
+
 -- ---- unreferenced
 
 pub unused_bit : (p : Position) → is_unreferenced (position_of (cond (is_held p) 1 0) 0 0 0 (count_of p)) ≡ is_unreferenced p
@@ -103,18 +122,23 @@ unused_bit (held c zero) = refl
 unused_bit (held c (suc n)) = refl
 unused_bit removed = refl
 
-pub unused_even : (h n : ℕ) → h % 2 ≡ 0 → ◌≡◌ {A = ℕ} (cond (is_unreferenced (position_of (h % 2) 0 0 0 n)) 1 0) 0
+pub unused_even : (h n : ℕ) → h % 2 ≡ 0 → not (eqb (h % 2) 0) ≡ is_unreferenced (position_of (h % 2) 0 0 0 n)
 unfolding position_of
 unused_even h n e = rw e
 
-pub unused_zero : (h n : ℕ) → (h % 2 ≡ 0 → ⊥) → n ≡ 0 → ◌≡◌ {A = ℕ} (cond (is_unreferenced (position_of (h % 2) 0 0 0 n)) 1 0) 1
+pub unused_odd : (h n : ℕ) → (h % 2 ≡ 0 → ⊥) → eqb n 0 ≡ is_unreferenced (position_of (h % 2) 0 0 0 n)
 unfolding position_of
-unused_zero h n f e = let o : h % 2 ≡ 1 = omega arith in rw (o, e)
+unused_odd h zero f = let o : h % 2 ≡ 1 = omega arith in rw o
+unused_odd h (suc n) f = let o : h % 2 ≡ 1 = omega arith in rw o (ne_eqb (suc n) 0 (λ z. omega arith))
 
-pub unused_not : (h n : ℕ) → (h % 2 ≡ 0 → ⊥) → (n ≡ 0 → ⊥) → ◌≡◌ {A = ℕ} (cond (is_unreferenced (position_of (h % 2) 0 0 0 n)) 1 0) 0
-unfolding position_of
-unused_not h zero f g = absurd (g refl)
-unused_not h (suc n) f g = let o : h % 2 ≡ 1 = omega arith in rw o
+-- a test as a number
+pub bit_of : (b : Bool) → bool_byte b ≡ cond b 1 0
+bit_of true = refl
+bit_of false = refl
+
+pub bit_small : (b : Bool) → bool_byte b ≤ 1
+bit_small true = omega arith
+bit_small false = omega arith
 
 mask_cons : (p : Position) (seg : Segment) → mask_of is_unreferenced (p ∷ seg) ≡ cond (is_unreferenced p) 1 0 + 2 * mask_of is_unreferenced seg
 unfolding mask_of

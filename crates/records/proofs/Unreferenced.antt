@@ -1,6 +1,6 @@
 -- Whether a position goes, looked for from the first on.
 use mathlib.Core.Path.{◌≡◌, refl, sym, ap, ap₂, ◌∙◌}
-use mathlib.Core.Bool.{Bool, cond}
+use mathlib.Core.Bool.{Bool, true, false, cond}
 use mathlib.Core.List.{List, map}
 use Prim.Native.Nat.{ℕ, ◌+◌, ◌/◌, ◌%◌, ◌≤◌, ◌<◌}
 use native.Mathlib.Omega.{arith}
@@ -37,24 +37,23 @@ module _ (seg : Segment) (counts : List ℕ) (e : counts ≡ map count_of seg) (
   inside h = omega (arith, ap length e, length-map seg count_of)
 
   -- the next position, as the code tests it
-  module _ (h : i < length counts) (u : ℕ) (eu : u ≡ cond (is_unreferenced (position_of (left % 2) 0 0 0 (get_or counts i 0))) 1 0) where
-    here : u + count is_unreferenced (drop (i + 1) seg) ≡ count is_unreferenced seg
+  module _ (h : i < length counts) (b : Bool) (eb : b ≡ is_unreferenced (position_of (left % 2) 0 0 0 (get_or counts i 0))) where
+    here : cond b 1 0 + count is_unreferenced (drop (i + 1) seg) ≡ count is_unreferenced seg
     unfolding count
     here =
         let a : left % 2 ≡ cond (is_held (get_or seg i null_position)) 1 0 = ap (λ (m : ℕ). m % 2) s.mask ∙ mask_here is_held seg i null_position (inside h) in
-        let b : get_or counts i 0 ≡ count_of (get_or seg i null_position) = ap (λ (l : List ℕ). get_or l i 0) e ∙ get_or-map count_of seg i null_position in
-        let eu' : u ≡ cond (is_unreferenced (get_or seg i null_position)) 1 0 =
-        eu ∙ ap₂ (λ (x y : ℕ). cond (is_unreferenced (position_of x 0 0 0 y)) 1 0) a b ∙ ap (λ (t : Bool). cond t 1 0) (unused_bit (get_or seg i null_position)) in
+        let c : get_or counts i 0 ≡ count_of (get_or seg i null_position) = ap (λ (l : List ℕ). get_or l i 0) e ∙ get_or-map count_of seg i null_position in
+        let eb' : b ≡ is_unreferenced (get_or seg i null_position) = eb ∙ ap₂ (λ (x y : ℕ). is_unreferenced (position_of x 0 0 0 y)) a c ∙ unused_bit (get_or seg i null_position) in
         let n : count is_unreferenced (drop i seg) ≡ cond (is_unreferenced (get_or seg i null_position)) 1 0 + count is_unreferenced (drop (i + 1) seg) = rw (drop_next seg i null_position (inside h)) in
-        omega (arith, eu', n, s.rest)
+        rw eb' (omega (arith, n, s.rest))
 
-    pub seen : u ≡ 1 → 0 < count is_unreferenced seg
-    seen x = omega (arith, here)
+    pub seen : b ≡ true → 0 < count is_unreferenced seg
+    seen x = let y = rw x at here in omega (arith, y)
 
-    pub unseen_next : (u ≡ 1 → ⊥) → u ≤ 1 → Unseen seg (left / 2) (i + 1)
-    unseen_next x y = record {
+    pub unseen_next : b ≡ false → Unseen seg (left / 2) (i + 1)
+    unseen_next x = record {
       mask = ap (λ (m : ℕ). m / 2) s.mask ∙ mask_after is_held seg i null_position (inside h);
-      rest = omega (arith, here);
+      rest = let y = rw x at here in omega (arith, y);
     }
 
   pub unseen_end : length counts ≤ i → count is_unreferenced seg ≡ 0

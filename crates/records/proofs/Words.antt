@@ -79,9 +79,9 @@ record_words_lem n seg l =
     (ap (fill 16) (ap (take n) (sym (drop-drop n 3 (record_to_words seg)) ∙ drop_at cells counts n lc) ∙ take_all n counts (omega (arith, length-map seg count_of))))
 
 -- words copied over zeros
-pub part_filled : (t z a : List ℕ) (at n i : ℕ) → i ≡ n → n ≤ 16 → at + n ≤ length t → z ≡ fill 16 [] → a ≡ take i (drop at t) ++ drop i z → a ≡ fill 16 (take n (drop at t))
-part_filled t z a at n i e h l ez ea =
+pub part_filled : (t z s : List ℕ) (at n : ℕ) → n ≤ 16 → at + n ≤ length t → z ≡ fill 16 [] → s ≡ take (at + n - at) (drop at t) → s ++ drop n z ≡ fill 16 (take n (drop at t))
+part_filled t z s at n h l ez es =
     let part : List ℕ = take n (drop at t) in
     let lp : length part ≡ n = length-take-le n (drop at t) (omega (arith, length-drop at t)) in
-    let ln : n ≡ length part = sym lp in
-    ea ∙ rw (e, ez) (ap (λ (k : ℕ). part ++ drop k (fill 16 [])) ln ∙ over_zeros 16 part (omega arith))
+    let k : at + n - at ≡ n = omega arith in
+    rw (es, k, ez) (ap (λ (j : ℕ). part ++ drop j (fill 16 [])) (sym lp) ∙ over_zeros 16 part (omega (arith, lp)))

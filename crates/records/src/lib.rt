@@ -1,7 +1,7 @@
 // A segment record by value: the masks of its held, removed and blank positions, how many positions it has, and the cell and the count of each.
 #![tactic(auto)]
 
-ghost use Rattle.std.specs.Prelude.{◌≡◌, true, cond, List, map, ◌++◌, ℕ, ◌+◌, ◌*◌, ◌%◌, ◌≤◌, ◌<◌, length, get_or, set, take, drop};
+ghost use Rattle.std.specs.Prelude.{◌≡◌, true, List, map, ◌++◌, ℕ, ◌+◌, ◌*◌, ◌%◌, ◌≤◌, ◌<◌, length, get_or, set, take, drop};
 ghost use Rattle.lists.specs.Lists.{count};
 ghost use Rattle.lists.specs.Masks.{mask_of};
 ghost use Rattle.lists.specs.Rows.{fill};
@@ -48,7 +48,7 @@ impl Record {
         requires { Formed self }
         ensures { result ≡ count is_held (positions self) }
     {
-        u32::count_ones(self.held)
+        self.held.count_ones()
     }
 
     // The mask of the held positions whose count is 0, from the last position down.
@@ -57,10 +57,8 @@ impl Record {
         ensures { result ≡ mask_of is_unreferenced (positions self) }
     {
         let mut mask: u32 = 0;
-        let mut i = self.used;
-        while i > 0 {
-            i = i - 1;
-            mask = 2 * mask + unused(self.held >> i, self.counts[i]);
+        for i in (0..self.used).rev() {
+            mask = 2 * mask + u32::from(unused(self.held >> i, self.counts[i]));
         }
         mask
     }
@@ -72,14 +70,15 @@ impl Record {
         ensures { result ≡ record_of (set (positions self) position removed) }
     {
         let bit = 1u32 << position;
-        self.held = self.held - bit;
-        self.removed = self.removed + bit;
+        self.held -= bit;
+        self.removed += bit;
         self.cells[position] = 0;
         self.counts[position] = 0;
         self
     }
 
     // The positions that go are struck; `unreferenced` is their mask.
+    #[tactic(auto, using(numbers::proofs::Bits::bits))]
     pub fn strike_all(self, unreferenced: u32) -> Record
         requires formed { Formed self }
         requires unreferenced_value { unreferenced ≡ mask_of is_unreferenced (positions self) }
@@ -88,15 +87,16 @@ impl Record {
         let mut now = self;
         let mut left = unreferenced;
         while left != 0 {
-            let p = u32::trailing_zeros(left);
+            let p = left.trailing_zeros();
             let i = p as usize;
             now = now.strike(i);
-            left = left - (1u32 << p);
+            left -= 1u32 << p;
         }
         now
     }
 
     // The held positions, none of which goes, take consecutive cells from `start`.
+    #[tactic(auto, using(numbers::proofs::Bits::bits))]
     pub fn renumber(mut self, start: Cell) -> Record
         requires formed { Formed self }
         requires self_value { (mask_of is_unreferenced (positions self) ≡ 0) × (start.0 < 65536) }
@@ -105,11 +105,11 @@ impl Record {
         let mut left = self.held;
         let mut at = start.0;
         while left != 0 {
-            let p = u32::trailing_zeros(left);
+            let p = left.trailing_zeros();
             let i = p as usize;
             self.cells[i] = at;
-            at = at + 1;
-            left = left - (1u32 << p);
+            at += 1;
+            left -= 1u32 << p;
         }
         self
     }
@@ -130,17 +130,11 @@ impl Record {
     }
 }
 
-// 1 for a held position whose count is 0; `held` is the mask from that position on.
-fn unused(held: u32, count: u32) -> u32
-    ensures { (result ≡ cond (is_unreferenced (position_of (held % 2) 0 0 0 count)) 1 0) × (result ≤ 1) }
+// Whether a position is held with count 0; `held` is the mask from that position on.
+fn unused(held: u32, count: u32) -> bool
+    ensures { result ≡ is_unreferenced (position_of (held % 2) 0 0 0 count) }
 {
-    if held % 2 == 0 {
-        return 0;
-    }
-    if count == 0 {
-        return 1;
-    }
-    0
+    held % 2 != 0 && count == 0
 }
 
 // Whether one of some positions goes, where `held` is their mask.
@@ -148,13 +142,11 @@ fn any_unused(held: u32, counts: &[u32]) -> bool
     ensures { (seg : Segment) → held ≡ mask_of is_held seg → counts.now ≡ map count_of seg → Decides result (0 < count is_unreferenced seg) }
 {
     let mut left = held;
-    let mut i: usize = 0;
-    while i < counts.len() {
-        if unused(left, counts[i]) == 1 {
+    for count in counts {
+        if unused(left, *count) {
             return true;
         }
-        left = left / 2;
-        i = i + 1;
+        left /= 2;
     }
     false
 }
@@ -169,8 +161,7 @@ pub fn any_unreferenced(words: &[u32], number: RecordNumber, n: usize) -> bool
         return false;
     }
     let from = at + 3 + n;
-    let end = from + n;
-    any_unused(words[at], &words[from..end])
+    any_unused(words[at], &words[from..from + n])
 }
 
 // The record of n positions in a row of the records' words.
@@ -197,11 +188,7 @@ fn sixteen(words: &[u32], at: usize, n: usize) -> [u32; Record::POSITIONS]
     ensures { result ≡ fill 16 (take n (drop at words.now)) }
 {
     let mut a = [0u32; Record::POSITIONS];
-    let mut i: usize = 0;
-    while i < n {
-        a[i] = words[at + i];
-        i = i + 1;
-    }
+    a[..n].copy_from_slice(&words[at..at + n]);
     a
 }
 
@@ -210,5 +197,5 @@ fn put_at(row: &[u32], table: &mut [u32], at: usize)
     requires { at + length row.now ≤ length table.old }
     ensures { table.new ≡ take at table.old ++ (row.now ++ drop (at + length row.now) table.old) }
 {
-    words::copy_in(row, &mut table[at..]);
+    table[at..at + row.len()].copy_from_slice(row);
 }

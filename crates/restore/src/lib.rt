@@ -7,28 +7,17 @@ ghost use Rattle.model.specs.Calls.{till_of, first_of, restore_from, restore_of}
 ghost use Rattle.laws.specs.Stores.{Sound};
 ghost use Rattle.numbers.specs.Measures.{measures_of};
 ghost use Rattle.tills.specs.Answers.{HeadOf};
-ghost use Rattle.restore.specs.Answers.{Lent, restore_answer};
+ghost use Rattle.restore.specs.Answers.{Lent, restore_result};
 
 use numbers::Measures;
+use refusals::Refusal;
 use tills::Head;
 
-// Refusal 0 is an accepted call.
-#[repr(C)]
-#[derive(Clone, Copy)]
-pub struct Restored {
-    pub refusal: u32,
+// An image that has been written to the output: its bytes, and its longest chain.
+#[derive(Clone, Copy, Debug, PartialEq, Eq)]
+pub struct Image {
     pub length: u32,
     pub hops: u32,
-}
-
-fn refused(refusal: u32) -> Restored
-    ensures { result ≡ record { refusal = refusal; length = 0; hops = 0 } }
-{
-    Restored {
-        refusal: refusal,
-        length: 0,
-        hops: 0,
-    }
 }
 
 // The first of h versions in slots for images of b blocks.
@@ -40,20 +29,16 @@ fn restore_slots(
     h: usize,
     output: &mut [u8],
     m: Measures,
-) -> Restored
+) -> Result<Image, Refusal>
     requires { Lent (measures_of m) b h pool.now words.now slots.now }
-    ensures { restore_answer result output.new ≡ restore_from m.bytes (storage_in (measures_of m) pool.now words.now) (first_of 0 [] (versions_in m.bytes b h slots.now)) output.old }
+    ensures { restore_result result output.new ≡ restore_from m.bytes (storage_in (measures_of m) pool.now words.now) (first_of 0 [] (versions_in m.bytes b h slots.now)) output.old }
 {
     let length = slots[1];
     if output.len() < length as usize {
-        return refused(5);
+        return Err(Refusal::ShortOutput);
     }
     let hops = restore_trace::restore_image(pool, words, slots, b, h, output, m);
-    Restored {
-        refusal: 0,
-        length: length,
-        hops: hops,
-    }
+    Ok(Image { length, hops })
 }
 
 // The version at place j of those held, the oldest first.
@@ -65,9 +50,9 @@ fn restore_held(
     j: usize,
     output: &mut [u8],
     m: Measures,
-) -> Restored
+) -> Result<Image, Refusal>
     requires { Sound pool.now table.now × (till < get_or table.now 0 0) × HeadOf pool.now table.now till head × (j < head.held) × (measures_of m ≡ (shape_of table.now).measures) }
-    ensures { restore_answer result output.new ≡ restore_from (shape_of table.now).measures.block_bytes (state_in (shape_of table.now) pool.now table.now).storage (first_of 0 [] (drop j (till_of (state_in (shape_of table.now) pool.now table.now) till).versions)) output.old }
+    ensures { restore_result result output.new ≡ restore_from (shape_of table.now).measures.block_bytes (state_in (shape_of table.now) pool.now table.now).storage (first_of 0 [] (drop j (till_of (state_in (shape_of table.now) pool.now table.now) till).versions)) output.old }
 {
     let records = layout::records_at(table);
     let blocks = table[2] as usize;
@@ -87,25 +72,22 @@ fn restore_held(
     )
 }
 
+#[tactic(auto, using(laws::proofs::Stores::header))]
 pub fn restore_version(
     pool: &[u8],
     table: &[u32],
     till: u32,
     version: u32,
     output: &mut [u8],
-) -> Restored
+) -> Result<Image, Refusal>
     requires { Sound pool.now table.now }
-    ensures { restore_answer result output.new ≡ restore_of pool.now table.now till version output.old }
+    ensures { restore_result result output.new ≡ restore_of pool.now table.now till version output.old }
 {
     if table[0] <= till {
-        return refused(3);
+        return Err(Refusal::NoSuchTill);
     }
     let head = tills::till_head(pool, table, till);
-    let found = tills::look_up(pool, table, till, head, version);
-    let refusal = found.refusal;
-    if refusal != 0 {
-        return refused(refusal);
-    }
+    let place = tills::look_up(pool, table, till, head, version)?;
     let m = layout::measures_in(table);
-    restore_held(pool, table, till, head, found.place, output, m)
+    restore_held(pool, table, till, head, place, output, m)
 }

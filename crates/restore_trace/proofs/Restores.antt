@@ -10,6 +10,8 @@ use lib.Seq.{drop-drop, take_at, drop_at, take-add, length-take-le}
 use lib.Arith.{digits_lt}
 use Rattle.lists.specs.Lists.{largest, counted}
 use Rattle.lists.proofs.Places.{row_room, row_next}
+use Rattle.model.specs.Measures.{parts_for}
+use Rattle.laws.proofs.Measures.{parts_few}
 use Rattle.restore_trace.specs.Versions.{Traceable}
 
 -- ---- the bytes
@@ -89,6 +91,12 @@ module _ (size : ℕ) (img : List ℕ) (f : ℕ → ℕ) (out₀ : List ℕ) (le
         let e : count - n ≡ 0 = omega arith in
         let q : max most (largest (counted f n 0)) ≡ largest (counted f 0 count) = rw e at s.chain in
         omega (arith, q)
+
+-- block n begins before the length, and the blocks end less than a block past it
+pub front_inside : (size len count n : ℕ) → 64 ≤ size → count ≡ parts_for size len → n < count → (n * size < len) × (count * size < len + size)
+front_inside size len count n some e h =
+    let few : count * size < len + size = rw e (parts_few size len (omega arith)) in
+    (omega (arith, few, row_room n count size h), few)
 
 pub slots_long : (size b h : ℕ) (slots : List ℕ) → Traceable size b h slots → 2 < length slots
 slots_long size b h slots ok =

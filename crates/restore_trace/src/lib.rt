@@ -31,11 +31,11 @@ pub fn trace(slots: &[u32], bytes: usize, b: usize, h: usize, block: Block) -> T
     let mut pointer = Pointer(slots[3 + block.0 as usize]);
     while pointer.is_indirect() {
         let named = pointer.block();
-        v = v + 1;
+        v += 1;
         pointer = Pointer(slots[v * (3 + b) + (3 + named.0 as usize)]);
     }
     Traced {
-        pointer: pointer,
+        pointer,
         hops: v as u32,
     }
 }
@@ -54,10 +54,7 @@ pub fn cell_of(words: &[u32], number: RecordNumber, position: u32, n: usize) -> 
 fn fill_byte(pointer: Pointer) -> u8
     ensures { result ≡ fill_byte (word_to_pointer pointer.0) }
 {
-    if pointer.is_blank() {
-        return 255;
-    }
-    0
+    if pointer.is_blank() { 255 } else { 0 }
 }
 
 // The front of the block that a pointer, which is not indirect, leads to goes to a block's place in the output.
@@ -77,15 +74,9 @@ pub fn put_block(
     if pointer.is_direct() {
         let cell = cell_of(words, pointer.record(), pointer.position(), m.blocks);
         blocks::copy_block(pool, cell, out, block, n, m.bytes);
-        return;
+    } else {
+        blocks::fill_block(out, block, n, fill_byte(pointer), m.bytes);
     }
-    blocks::fill_block(out, block, n, fill_byte(pointer), m.bytes);
-}
-
-fn larger(a: u32, b: u32) -> u32
-    ensures { result ≡ max a b }
-{
-    if a < b { b } else { a }
 }
 
 // The image of the first of h slots, and the longest chain. Each block goes straight to its place, the last only up to the length.
@@ -108,15 +99,13 @@ pub fn restore_image(
     let bytes = m.bytes;
     let count = numbers::parts_for(bytes, len);
     let mut most: u32 = 0;
-    let mut n: usize = 0;
-    while n < count {
+    for n in 0..count {
         let block = Block(n as u32);
         let traced = trace(slots, bytes, b, h, block);
         let at = block.byte(bytes);
-        let end = blocks::least(at + bytes, len);
+        let end = (at + bytes).min(len);
         put_block(pool, words, traced.pointer, out, block, end - at, m);
-        most = larger(most, traced.hops);
-        n = n + 1;
+        most = most.max(traced.hops);
     }
     most
 }

@@ -35,7 +35,9 @@ use Rattle.storage.specs.Fits.{WithinRecords, NamesHeld}
 use Rattle.slots.specs.Slots.{HasSlot}
 use Rattle.sound_laws.proofs.Slots as slots
 use Rattle.sound_laws.proofs.Pointers.{null_word, slot_row, version_words, version_pointers, version_fit, version_held}
-use Rattle.tills.specs.declared.Found.{Found}
+use Rattle.std.proofs.Common.{Result, Ok, Err}
+use Rattle.refusals.specs.declared.Refusal.{Refusal}
+use Rattle.refusals.specs.Refusals.{number_of}
 use Rattle.tills.specs.declared.Head.{Head}
 use Rattle.tills.specs.Answers.{HeadOf, versions_held, LookedUp}
 use Rattle.tills.proofs.Cases.{till_size}
@@ -457,18 +459,18 @@ module _ {pool table : List ℕ} (h : Sound pool table) (t n : ℕ) where
   unfolding retire_of retire_in retire calls.retire_answer shape_of
   no_till_lem l = rw (h.is, le-leb _ _ l)
 
-  module _ (in_table : t < get_or table 0 0) (r : Head) (o : HeadOf pool table t r) (f : Found) (p : LookedUp pool table t n f) where
+  module _ (in_table : t < get_or table 0 0) (r : Head) (o : HeadOf pool table t r) (f : Result ℕ Refusal) (p : LookedUp pool table t n f) where
     answer : (l : Lookup) → look_up (till_of (state_in (shape_of table) pool table) t) n ≡ l
         → retire_of pool table t n ≡ calls.retire_answer pool table (shape_of table) (retire_from (shape_of table) (state_in (shape_of table) pool table) t (till_of (state_in (shape_of table) pool table) t) l)
     unfolding retire_of retire_in retire shape_of
     answer l e = rw (h.is, lt-leb _ _ in_table, e)
 
-    pub held_at : f.refusal ≡ 0 → retired_at pool table t f.place ≡ retire_of pool table t n
-    held_at z = sym (answer _ (p.held z))
+    pub held_at : (j : ℕ) → f ≡ Ok j → retired_at pool table t j ≡ retire_of pool table t n
+    held_at j q = sym (answer _ (p.held j q))
 
-    pub not_held_lem : (k : ℕ) → k ≡ f.refusal → (k ≡ 0 → ⊥) → record { refusal = k; length = 0; pool = pool; table = table } ≡ retire_of pool table t n
+    pub not_held_lem : (e : Refusal) → f ≡ Err e → record { refusal = number_of e; length = 0; pool = pool; table = table } ≡ retire_of pool table t n
     unfolding calls.retire_answer retire_from
-    not_held_lem k e z = sym (answer (missing k) (rw e (p.missing (λ q. z (e ∙ q)))))
+    not_held_lem e q = sym (answer (missing (number_of e)) (p.missing e q))
 
-    pub holds : f.refusal ≡ 0 → HoldsVersion pool table t r.at f.place
-    holds z = record { sound = h; inside = in_table; begins = o.at; held = p.inside z }
+    pub holds : (j : ℕ) → f ≡ Ok j → HoldsVersion pool table t r.at j
+    holds j q = record { sound = h; inside = in_table; begins = o.at; held = p.inside j q }

@@ -1,14 +1,15 @@
 -- What the steps of a retire require and do, and what its answer says.
-use Rattle.std.specs.Prelude.{◌≡◌, cond, List, map, ℕ, suc, ◌/◌, ◌%◌, ◌≤◌, ◌<◌, length, get_or, take, drop, eqb}
+use Rattle.std.specs.Prelude.{◌≡◌, cond, List, map, ℕ, suc, ◌/◌, ◌%◌, ◌≤◌, ◌<◌, length, get_or, take, drop, eqb, Result, Ok, Err}
 use Rattle.model.specs.Measures.{Shape, parts_for, till_words}
 use Rattle.model.specs.State.{Pointer, Version, State}
 use Rattle.model.specs.Sweep.{release, claim, sweep}
 use Rattle.model.specs.Table.{kind_unit, pointer_word, shape_of, state_in, state_to_words, state_to_bytes}
 use Rattle.model.specs.Calls as calls
 use Rattle.laws.specs.Stores.{till_at, Sound}
+use Rattle.refusals.specs.declared.Refusal.{Refusal}
+use Rattle.refusals.specs.Refusals.{number_of}
 use Rattle.tills.specs.Answers.{versions_held}
 use Rattle.restore_trace.specs.Versions.{no_version}
-use Rattle.retire.specs.declared.Retired.{Retired}
 
 abbrev pub version_at : List ℕ → List ℕ → ℕ → ℕ → Version
 version_at pool table t j = get_or (versions_held pool table t) j no_version
@@ -62,8 +63,9 @@ pub record TillPlace (s : Shape) (st : State) (t at n b : ℕ) : Type 0 where
   pub size : n ≡ till_words s.capacities.versions s.capacities.blocks
   pub few : length (calls.till_of st t).versions ≤ s.capacities.versions
 
-abbrev pub retired_answer : Retired → List ℕ → List ℕ → calls.RetireAnswer
-retired_answer r pool table = record { refusal = r.refusal; length = r.length; pool = pool; table = table }
+abbrev pub retire_result : Result ℕ Refusal → List ℕ → List ℕ → calls.RetireAnswer
+retire_result (Ok length) pool table = record { refusal = 0; length = length; pool = pool; table = table }
+retire_result (Err e) pool table = record { refusal = number_of e; length = 0; pool = pool; table = table }
 
 -- the answer of a call that retires the version at place j
 abbrev pub retired_at : List ℕ → List ℕ → ℕ → ℕ → calls.RetireAnswer

@@ -1,7 +1,7 @@
 // Retiring a version: its older neighbour takes over the pointers that it named, counts rise and fall, step 3 is done, and its slot goes.
 #![tactic(auto)]
 
-ghost use Rattle.std.specs.Prelude.{◌≡◌, List, ◌∷◌, ◌++◌, map, ℕ, ◌+◌, ◌-◌, ◌≤◌, ◌<◌, length, get_or, set, take, drop};
+ghost use Rattle.std.specs.Prelude.{◌≡◌, List, ◌∷◌, ◌++◌, Ok, map, ℕ, ◌+◌, ◌-◌, ◌≤◌, ◌<◌, length, get_or, set, take, drop};
 ghost use Rattle.model.specs.Measures.{Shape, records_at};
 ghost use Rattle.model.specs.State.{Pointer, Version, State};
 ghost use Rattle.model.specs.Table.{pointer_word, word_to_pointer, records_in, shape_of, state_to_words};
@@ -11,17 +11,10 @@ ghost use Rattle.numbers.specs.Measures.{measures_of};
 ghost use Rattle.storage.specs.Fits.{WithinRecords, NamesHeld};
 ghost use Rattle.slots.specs.Slots.{HasSlot};
 ghost use Rattle.tills.specs.Answers.{versions_held};
-ghost use Rattle.retire.specs.Answers.{version_at, HoldsVersion, Copied, taken_word, take_over_word, exchanged, state_without, EncodesState, TillPlace, retired_answer, retired_at};
+ghost use Rattle.retire.specs.Answers.{version_at, HoldsVersion, Copied, taken_word, take_over_word, exchanged, state_without, EncodesState, TillPlace, retire_result, retired_at};
 
 use numbers::Measures;
-
-// Refusal 0 is an accepted call.
-#[repr(C)]
-#[derive(Clone, Copy)]
-pub struct Retired {
-    pub refusal: u32,
-    pub length: u32,
-}
+use refusals::Refusal;
 
 // The pointer words of the version at place j are copied; its length.
 fn copy_version(
@@ -73,10 +66,10 @@ fn taken_pointer(pointer: numbers::Pointer, gone: &[u32]) -> numbers::Pointer
     }
     let named = pointer.block();
     let n = named.0 as usize;
-    if gone.len() <= n {
-        return numbers::Pointer::null();
+    match gone.get(n) {
+        Some(word) => numbers::Pointer(*word),
+        None => numbers::Pointer::null(),
     }
-    numbers::Pointer(gone[n])
 }
 
 // A pointer that has taken over what it named.
@@ -95,14 +88,13 @@ fn take_over(older: &mut [u32], gone: &[u32], taken: &mut [u32])
     requires { length taken.old ≡ length older.old }
     ensures { (older.new ≡ map (take_over_word gone.now) older.old) × (taken.new ≡ map (taken_word gone.now) older.old) }
 {
-    let mut i: usize = 0;
-    while i < taken.len() {
-        let pointer = numbers::Pointer(older[i]);
+    // Kept: tried and the proof did not close: after a zip of two iter_mut no proof knows what was written, so `taken` goes by i.
+    for (i, word) in older.iter_mut().enumerate() {
+        let pointer = numbers::Pointer(*word);
         let named = taken_pointer(pointer, gone);
         let after = pointer_after(pointer, named);
         taken[i] = named.0;
-        older[i] = after.0;
-        i = i + 1;
+        *word = after.0;
     }
 }
 
@@ -161,7 +153,7 @@ fn retire_with(
     m: Measures,
 ) -> u32
     requires { HoldsVersion pool.old table.old till at j × (length gone.old ≡ 1024) × (length older.old ≡ 1024) × (length taken.old ≡ 1024) × (measures_of m ≡ (shape_of table.old).measures) }
-    ensures { retired_answer (record { refusal = 0; length = result }) pool.new table.new ≡ retired_at pool.old table.old till j }
+    ensures { retire_result (Ok result) pool.new table.new ≡ retired_at pool.old table.old till j }
 {
     let length = copy_version(pool, table, till, at, j, gone, m.bytes);
     let count = numbers::parts_for(m.bytes, length as usize);
@@ -189,7 +181,7 @@ fn retire_held(
     m: Measures,
 ) -> u32
     requires { HoldsVersion pool.old table.old till at j × (measures_of m ≡ (shape_of table.old).measures) }
-    ensures { retired_answer (record { refusal = 0; length = result }) pool.new table.new ≡ retired_at pool.old table.old till j }
+    ensures { retire_result (Ok result) pool.new table.new ≡ retired_at pool.old table.old till j }
 {
     let mut gone = [0u32; 1024];
     let mut older = [0u32; 1024];
@@ -199,29 +191,21 @@ fn retire_held(
     )
 }
 
-pub fn retire_version(pool: &mut [u8], table: &mut [u32], till: u32, version: u32) -> Retired
+#[tactic(auto, using(laws::proofs::Stores::header))]
+pub fn retire_version(
+    pool: &mut [u8],
+    table: &mut [u32],
+    till: u32,
+    version: u32,
+) -> Result<u32, Refusal>
     requires { Sound pool.old table.old }
-    ensures { retired_answer result pool.new table.new ≡ retire_of pool.old table.old till version }
+    ensures { retire_result result pool.new table.new ≡ retire_of pool.old table.old till version }
 {
     if table[0] <= till {
-        return Retired {
-            refusal: 3,
-            length: 0,
-        };
+        return Err(Refusal::NoSuchTill);
     }
     let head = tills::till_head(pool, table, till);
-    let found = tills::look_up(pool, table, till, head, version);
-    let refusal = found.refusal;
-    if refusal != 0 {
-        return Retired {
-            refusal: refusal,
-            length: 0,
-        };
-    }
+    let place = tills::look_up(pool, table, till, head, version)?;
     let m = layout::measures_in(table);
-    let length = retire_held(pool, table, till, head.at, found.place, m);
-    Retired {
-        refusal: 0,
-        length: length,
-    }
+    Ok(retire_held(pool, table, till, head.at, place, m))
 }

@@ -50,10 +50,6 @@ given_bits r = omega (arith, one r.list, one r.back_up, one r.restore, one r.ret
     one true = refl
     one false = refl
 
-pub byte_le : (b : Bool) → bool_byte b ≤ 1
-byte_le true = lit≤ tt
-byte_le false = lit≤ tt
-
 -- ---- replaced
 
 -- the unit of a user's bits

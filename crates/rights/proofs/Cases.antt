@@ -7,7 +7,7 @@ use native.Mathlib.Omega.{arith}
 use lib.ListN.{length, get_or, set, take, drop, length-take, take-append-drop}
 use lib.Seq.{set-append_left}
 use lib.Dec.{eqb, ltb, leb}
-use borrow.Author.Tests.{le-leb, lt-leb, leb-true, leb-false, eq-eqb, ne_eqb, eqb-true, eqb-false, le-ltb, lt-ltb, ltb-false}
+use borrow.Author.Tests.{le-leb, lt-leb, leb-false, eqb-true, eqb-false, ltb-false}
 use Rattle.lists.proofs.Tests.{clause}
 use Rattle.lists.proofs.Slices.{part_get}
 use Rattle.model.specs.Measures.{till_words}
@@ -24,14 +24,6 @@ use Rattle.laws.proofs.Tills.{till, there, till_words_lem, is_till_lem, in_words
 use Rattle.rights.specs.Answers.{RightsAt, set_refusal, rights_answered}
 
 -- ---- a user who may not
-
-pub unknown : (user : ℕ) → staff < user → 22 ≡ not_owner user
-unknown zero l = absurd (omega (arith, l))
-unknown (suc u) l = rw (le-leb staff u (omega (arith, l)))
-
-pub no_owner : (user : ℕ) → ¬ (user ≡ 0) → user ≤ staff → 23 ≡ not_owner user
-no_owner zero z l = absurd (z refl)
-no_owner (suc u) z l = rw (lt-leb staff u (omega (arith, l)))
 
 -- 23 is one of the staff's
 pub one_of_staff : (user : ℕ) → not_owner user ≡ 23 → (0 < user) × (user ≤ staff)
@@ -81,41 +73,6 @@ module _ {pool table : List ℕ} (h : Sound pool table) (user t : ℕ) (right : 
         go (suc u) z l =
             let e : suc u - 1 ≡ u = omega arith in
             rw (lt-leb (get_or table 0 0) t n, lt-leb staff u (omega (arith, l)), e)
-
--- ---- the refusals of a change
-
-module _ (table : List ℕ) (user subject t : ℕ) where
-  abbrev set_refusal_lem : ℕ
-  set_refusal_lem = set_refusal table user subject t
-
-  pub refusal_3 : get_or table 0 0 ≤ t → 3 ≡ set_refusal_lem
-  refusal_3 n = rw (le-leb (get_or table 0 0) t n)
-
-  module _ (n : t < get_or table 0 0) where
-    pub refusal_owner : subject ≡ 0 → 22 ≡ set_refusal_lem
-    refusal_owner e = rw (lt-leb (get_or table 0 0) t n, eq-eqb subject 0 e) (go (ltb staff user) (ltb staff subject))
-      where
-        go : (a b : Bool) → ◌≡◌ {A = ℕ} 22 (cond (a || (true || b)) 22 (cond (ltb 0 user) 23 0))
-        go true b = refl
-        go false b = refl
-
-    pub refusal_unknown : ¬ (subject ≡ 0) → staff < subject → 22 ≡ set_refusal_lem
-    refusal_unknown z m = rw (lt-leb (get_or table 0 0) t n, ne_eqb subject 0 z, lt-ltb staff subject m) (go (ltb staff user))
-      where
-        go : (a : Bool) → ◌≡◌ {A = ℕ} 22 (cond (a || (false || true)) 22 (cond (ltb 0 user) 23 0))
-        go true = refl
-        go false = refl
-
-    pub refusal_user : ¬ (subject ≡ 0) → subject ≤ staff → not_owner user ≡ set_refusal_lem
-    refusal_user z m = rw (lt-leb (get_or table 0 0) t n, ne_eqb subject 0 z, le-ltb staff subject m) (go user)
-      where
-        go : (k : ℕ) → not_owner k ≡ cond (ltb staff k || false) 22 (cond (ltb 0 k) 23 0)
-        go zero = refl
-        go (suc u) = rw (lt-ltb 0 (suc u) (omega arith)) (both (leb staff u) refl)
-          where
-            both : (b : Bool) → leb staff u ≡ b → ◌≡◌ {A = ℕ} (cond b 22 23) (cond (ltb staff (suc u) || false) 22 23)
-            both true e = rw (lt-ltb staff (suc u) (omega (arith, leb-true staff u e)))
-            both false e = rw (le-ltb staff (suc u) (omega (arith, leb-false staff u e)))
 
 -- ---- a till's word of rights
 

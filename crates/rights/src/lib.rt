@@ -2,6 +2,7 @@
 #![tactic(auto)]
 
 ghost use Rattle.std.specs.Prelude.{◌≡◌, ◌-◌, ◌≤◌, ◌<◌, get_or, set};
+ghost use Rattle.refusals.specs.Refusals.{refusal_of};
 ghost use Rattle.model.specs.State.{staff};
 ghost use Rattle.model.specs.Sound.{store_of};
 ghost use Rattle.model.specs.Table.{rights_bits, rights_word, rights_in};
@@ -10,11 +11,13 @@ ghost use Rattle.model.specs.Rights.{has, refusal_for, not_owner, set_rights_of}
 ghost use Rattle.laws.specs.Stores.{Sound, HeaderRanges};
 ghost use Rattle.rights.specs.Answers.{right_of, place_of, rights_given, RightsAt, set_refusal, rights_answered};
 
+use refusals::Refusal;
+
 // How many users there are beside the owner: 1 to 7.
 const STAFF: u32 = 7;
 
 // What a call needs.
-#[derive(Clone, Copy)]
+#[derive(Clone, Copy, Debug, PartialEq, Eq)]
 pub enum Right {
     List,
     BackUp,
@@ -23,7 +26,7 @@ pub enum Right {
 }
 
 // What a user may do.
-#[derive(Clone, Copy)]
+#[derive(Clone, Copy, Debug, PartialEq, Eq)]
 pub struct Rights {
     pub list: bool,
     pub back_up: bool,
@@ -53,16 +56,14 @@ fn allows(word: u32, user: u32, right: Right) -> bool
 }
 
 // The refusal of a user who may not make a call that is the owner's only.
-pub fn owner_refusal(user: u32) -> u32
-    ensures { result ≡ not_owner user }
+pub fn owner_refusal(user: u32) -> Result<(), Refusal>
+    ensures { refusal_of result ≡ not_owner user }
 {
-    if user == 0 {
-        return 0;
+    match user {
+        0 => Ok(()),
+        1..=STAFF => Err(Refusal::NoRight),
+        _ => Err(Refusal::UnknownUser),
     }
-    if STAFF < user {
-        return 22;
-    }
-    23
 }
 
 // Where a till's word of rights is.
@@ -74,31 +75,42 @@ fn rights_at(pool: &[u8], table: &[u32], till: u32) -> usize
     head.at + 2
 }
 
-// The refusal of a user who may not make a call on a till: 22 or 23; 0 where there is none, or no such till.
-pub fn refusal(pool: &[u8], table: &[u32], user: u32, till: u32, right: Right) -> u32
+// The refusal of a user who may not make a call on a till. There is none where there is no such till.
+pub fn refusal(
+    pool: &[u8],
+    table: &[u32],
+    user: u32,
+    till: u32,
+    right: Right,
+) -> Result<(), Refusal>
     requires { Sound pool.now table.now }
-    ensures { result ≡ refusal_for (store_of pool.now table.now) user till (right_of right) }
+    ensures { refusal_of result ≡ refusal_for (store_of pool.now table.now) user till (right_of right) }
 {
     if table[0] <= till {
-        return 0;
+        return Ok(());
     }
-    let refusal = owner_refusal(user);
-    if refusal != 23 {
-        return refusal;
+    match user {
+        1..=STAFF => {
+            let at = rights_at(pool, table, till);
+            if allows(table[at], user, right) {
+                Ok(())
+            } else {
+                Err(Refusal::NoRight)
+            }
+        }
+        _ => owner_refusal(user),
     }
-    let at = rights_at(pool, table, till);
-    if allows(table[at], user, right) {
-        return 0;
-    }
-    refusal
 }
 
 // The four bits of the rights that a call gives, the first right's the lowest.
 fn bits_of(rights: Rights) -> u32
     ensures { result ≡ rights_bits (rights_given rights) }
 {
-    rights.list as u32
-        + 2 * (rights.back_up as u32 + 2 * (rights.restore as u32 + 2 * (rights.retire as u32)))
+    let list = u32::from(rights.list);
+    let back_up = u32::from(rights.back_up);
+    let restore = u32::from(rights.restore);
+    let retire = u32::from(rights.retire);
+    list + 2 * (back_up + 2 * (restore + 2 * retire))
 }
 
 // A till's word of rights with others for one user. The other users keep theirs.
@@ -112,24 +124,21 @@ fn word_with(word: u32, subject: u32, rights: Rights) -> u32
     word - old * unit + bits_of(rights) * unit
 }
 
-// The refusal of a change: 3, 22 or 23; 0 where there is none.
-fn set_refusal(table: &[u32], user: u32, subject: u32, till: u32) -> u32
+// The refusal of a change: no such till, an unknown user on either side, or a user who is not the owner.
+fn set_refusal(table: &[u32], user: u32, subject: u32, till: u32) -> Result<(), Refusal>
     requires { HeaderRanges table.now }
-    ensures { result ≡ set_refusal table.now user subject till }
+    ensures { refusal_of result ≡ set_refusal table.now user subject till }
 {
     if table[0] <= till {
-        return 3;
+        return Err(Refusal::NoSuchTill);
     }
-    if subject == 0 {
-        return 22;
-    }
-    if STAFF < subject {
-        return 22;
+    if subject == 0 || STAFF < subject {
+        return Err(Refusal::UnknownUser);
     }
     owner_refusal(user)
 }
 
-// Sets the rights of a user, the subject, on a till, and answers the refusal. A refused call changes nothing.
+// Sets the rights of a user, the subject, on a till. A refused call changes nothing.
 pub fn set_rights(
     pool: &[u8],
     table: &mut [u32],
@@ -137,15 +146,12 @@ pub fn set_rights(
     subject: u32,
     till: u32,
     rights: Rights,
-) -> u32
+) -> Result<(), Refusal>
     requires { Sound pool.now table.old }
-    ensures { rights_answered result table.new ≡ set_rights_of pool.now table.old user subject till (rights_given rights) }
+    ensures { rights_answered (refusal_of result) table.new ≡ set_rights_of pool.now table.old user subject till (rights_given rights) }
 {
-    let refusal = set_refusal(table, user, subject, till);
-    if refusal != 0 {
-        return refusal;
-    }
+    set_refusal(table, user, subject, till)?;
     let at = rights_at(pool, table, till);
     table[at] = word_with(table[at], subject, rights);
-    0
+    Ok(())
 }

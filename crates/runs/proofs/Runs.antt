@@ -1,20 +1,21 @@
 -- The better of two runs, and the scan past one cell, or past many that are all free or all taken.
 use mathlib.Core.Path.{◌≡◌, refl, sym, ap, ap₂, ◌∙◌}
-use mathlib.Core.Bool.{Bool, true, false, cond}
-use mathlib.Core.List.{List, [], ◌∷◌, ◌++◌, map, map-append}
+use mathlib.Core.Bool.{Bool, true, false, cond, beq}
+use mathlib.Core.List.{List, [], ◌∷◌, ◌++◌, map, map-append, append-nil}
 use mathlib.Core.Option.{Option, none, some}
 use Prim.Native.Nat.{ℕ, zero, suc, ◌+◌, ◌-◌, ◌≤◌, ◌<◌}
 use native.Mathlib.Nat.{add-zero}
 use native.Mathlib.Omega.{arith}
-use lib.ListN.{length, get_or, take, drop, replicate, length-drop, take-append-drop}
-use lib.Seq.{get_or-drop, length-take-le, drop-drop}
-use lib.Dec.{leb}
+use lib.ListN.{length, get_or, take, drop, replicate, length-drop, length-append}
+use lib.Seq.{drop-drop, drop_at}
+use mir.Val.{bool_byte}
+use lib.Dec.{leb, ltb}
 use borrow.Author.Tests.{eq-eqb, ne_eqb, lt-ltb, le-ltb, le-leb, lt-leb, leb-true}
 use Rattle.lists.specs.Lists.{count}
 use Rattle.lists.proofs.Counts.{count_append, count_most}
-use Rattle.lists.proofs.Slices.{drop_next, drop_end, take_next}
+use Rattle.lists.proofs.Slices.{take_next}
 use Rattle.model.specs.Runs.{better, scan, Run}
-use Rattle.runs.specs.Runs.{run_of, free_if, left, found_at_end}
+use Rattle.runs.specs.Runs.{run_found, run_of, free_if, left, found_at_end}
 use Rattle.runs.specs.declared.Search.{Search}
 
 -- ---- better
@@ -24,18 +25,18 @@ unfolding better
 better_short need at size none h = rw (lt-leb need size h)
 better_short need at size (some r) h = rw (lt-leb need size h)
 
-module _ (need at size start old : ℕ) (p : 0 < need) (h : need ≤ size) where
-  pub better_first : old ≡ 0 → run_of (at - size) size ≡ better need at size (run_of start old)
-  unfolding better run_of
-  better_first e = rw (eq-eqb old 0 e, ne_eqb size 0 (λ z. omega arith), le-leb need size h)
+module _ (need at size : ℕ) (h : need ≤ size) where
+  pub better_first : some (record { start = at - size; cells = size }) ≡ better need at size none
+  unfolding better
+  better_first = rw (le-leb need size h)
 
-  pub better_less : (old ≡ 0 → ⊥) → size < old → run_of (at - size) size ≡ better need at size (run_of start old)
-  unfolding better run_of
-  better_less n l = rw (ne_eqb old 0 n, ne_eqb size 0 (λ z. omega arith), le-leb need size h, lt-ltb size old l)
+  pub better_less : (r : Run) → size < r.cells → some (record { start = at - size; cells = size }) ≡ better need at size (some r)
+  unfolding better
+  better_less r l = rw (le-leb need size h, lt-ltb size r.cells l)
 
-  pub better_kept : (old ≡ 0 → ⊥) → old ≤ size → run_of start old ≡ better need at size (run_of start old)
-  unfolding better run_of
-  better_kept n l = rw (ne_eqb old 0 n, le-leb need size h, le-ltb size old l)
+  pub better_kept : (r : Run) → r.cells ≤ size → some r ≡ better need at size (some r)
+  unfolding better
+  better_kept r l = rw (le-leb need size h, le-ltb size r.cells l)
 
 -- ---- the scan past many cells
 
@@ -65,22 +66,21 @@ module _ (need : ℕ) (p : 0 < need) where
 
 -- ---- cells that are all free or all taken, by the count of the free ones
 
-pub count_hit : (n m : ℕ) (b : Bool) → n ≡ m → b ≡ true → n + 1 ≡ m + cond b 1 0
-count_hit n m b e t = rw (e, t)
-
-pub count_miss : (n m : ℕ) (b : Bool) → n ≡ m → b ≡ false → n ≡ m + cond b 1 0
-count_miss n m b e t = rw (e, t) (sym (add-zero m))
+pub same_mark : (mark free : Bool) → bool_byte (beq mark free) ≡ cond (free_if free mark) 1 0
+same_mark true true = refl
+same_mark true false = refl
+same_mark false true = refl
+same_mark false false = refl
 
 module _ (f : Bool → Bool) where
-  pub count_next : (os : List Bool) (at i : ℕ) → at + i < length os → count f (take (i + 1) (drop at os)) ≡ count f (take i (drop at os)) + cond (f (get_or os (at + i) false)) 1 0
+  pub count_next : (os : List Bool) (i : ℕ) → i < length os → count f (take (i + 1) os) ≡ count f (take i os) + cond (f (get_or os i false)) 1 0
   unfolding count
-  count_next os at i h =
-      ap (count f) (take_next (drop at os) i false (omega (arith, length-drop at os)))
-      ∙ count_append f (take i (drop at os)) (get_or (drop at os) i false ∷ [])
-      ∙ ap (λ (b : Bool). count f (take i (drop at os)) + count f (b ∷ [])) (get_or-drop at os i false)
-      ∙ ap (λ (n : ℕ). count f (take i (drop at os)) + n) (add-zero (cond (f (get_or os (at + i) false)) 1 0))
+  count_next os i h =
+      ap (count f) (take_next os i false h)
+      ∙ count_append f (take i os) (get_or os i false ∷ [])
+      ∙ ap (λ (n : ℕ). count f (take i os) + n) (add-zero (cond (f (get_or os i false)) 1 0))
 
-  none_free : (os : List Bool) → count f os ≡ 0 → map f os ≡ replicate (length os) false
+  pub none_free : (os : List Bool) → count f os ≡ 0 → map f os ≡ replicate (length os) false
   unfolding count
   none_free [] e = refl
   none_free (o ∷ os) e = go (f o) refl (none_free os)
@@ -89,7 +89,7 @@ module _ (f : Bool → Bool) where
       go true t r = absurd (omega (arith, rw t at e))
       go false t r = rw t (ap (λ (l : List Bool). false ∷ l) (r (omega (arith, rw t at e))))
 
-  all_free : (os : List Bool) → count f os ≡ length os → map f os ≡ replicate (length os) true
+  pub all_free : (os : List Bool) → count f os ≡ length os → map f os ≡ replicate (length os) true
   unfolding count
   all_free [] e = refl
   all_free (o ∷ os) e = go (f o) refl (all_free os)
@@ -98,40 +98,31 @@ module _ (f : Bool → Bool) where
       go true t r = rw t (ap (λ (l : List Bool). true ∷ l) (r (omega (arith, rw t at e))))
       go false t r = absurd (omega (arith, rw t at e, count_most f os))
 
-  module _ (os : List Bool) (i n : ℕ) (h : i + n ≤ length os) where
-    piece_is : (b : Bool) → map f (take n (drop i os)) ≡ replicate (length (take n (drop i os))) b → map f (drop i os) ≡ replicate n b ++ map f (drop (i + n) os)
-    piece_is b e =
-        let w : length (take n (drop i os)) ≡ n = length-take-le n (drop i os) (omega (arith, length-drop i os)) in
-        ap (map f) (sym (take-append-drop n (drop i os)))
-        ∙ map-append f (take n (drop i os)) (drop n (drop i os))
-        ∙ ap₂ (λ (l m : List Bool). l ++ map f m) (e ∙ ap (λ (k : ℕ). replicate k b) w) (drop-drop n i os)
+  -- the next n of the cells from `at` on
+  pub piece_next : (os rest piece more : List Bool) (at n : ℕ) → rest ≡ drop at os → rest ≡ piece ++ more → length piece ≡ n → at ≤ length os
+      → (more ≡ drop (at + n) os) × (map f (drop at os) ≡ map f piece ++ map f (drop (at + n) os)) × (at + n ≤ length os)
+  piece_next os rest piece more at n e s l h =
+      let m : more ≡ drop (at + n) os = sym (drop_at piece more n l) ∙ ap (drop n) (sym s ∙ e) ∙ drop-drop n at os in
+      let k : length piece + length more ≡ length os - at = sym (length-append piece more) ∙ ap length (sym s ∙ e) ∙ length-drop at os in
+      (m, ap (map f) (sym e ∙ s) ∙ map-append f piece more ∙ ap (λ (x : List Bool). map f piece ++ map f x) m, omega (arith, k, l))
 
-    pub piece_taken : count f (take n (drop i os)) ≡ 0 → map f (drop i os) ≡ replicate n false ++ map f (drop (i + n) os)
-    piece_taken e = piece_is false (none_free (take n (drop i os)) e)
+module _ (free : Bool) (need : ℕ) (os : List Bool) (from to : Search) where
+  -- a search that is past a part of the cells finds the same
+  pub went : (part : List Bool) (m : ℕ) → to.at ≡ m → ((fs : List Bool) → left need fs to ≡ left need (map (free_if free) part ++ fs) from)
+      → map (free_if free) (drop from.at os) ≡ map (free_if free) part ++ map (free_if free) (drop m os)
+      → found_at_end free need os to ≡ found_at_end free need os from
+  went part m e h p =
+      ap (λ (k : ℕ). left need (map (free_if free) (drop k os)) to) e
+      ∙ h (map (free_if free) (drop m os))
+      ∙ ap (λ (fs : List Bool). left need fs from) (sym p)
 
-    pub piece_free : count f (take n (drop i os)) ≡ n → map f (drop i os) ≡ replicate n true ++ map f (drop (i + n) os)
-    piece_free e =
-        let w : length (take n (drop i os)) ≡ n = length-take-le n (drop i os) (omega (arith, length-drop i os)) in
-        piece_is true (all_free (take n (drop i os)) (e ∙ sym w))
-
-  pub cell_next : (os : List Bool) (i : ℕ) (b : Bool) → i < length os → b ≡ f (get_or os i false) → map f (drop i os) ≡ replicate 1 b ++ map f (drop (i + 1) os)
-  cell_next os i b h e = rw (drop_next os i false h, e)
-
--- a search that is n cells further on, all free or all taken, finds the same
-pub went : (free : Bool) (need : ℕ) (os : List Bool) (from to : Search) (n : ℕ) (b : Bool) → to.at ≡ from.at + n
-    → ((fs : List Bool) → left need fs to ≡ left need (replicate n b ++ fs) from)
-    → map (free_if free) (drop from.at os) ≡ replicate n b ++ map (free_if free) (drop (from.at + n) os)
-    → found_at_end free need os to ≡ found_at_end free need os from
-went free need os from to n b e h p =
-    ap (λ (m : ℕ). left need (map (free_if free) (drop m os)) to) e
-    ∙ h (map (free_if free) (drop (from.at + n) os))
-    ∙ ap (λ (fs : List Bool). left need fs from) (sym p)
+  -- and one that is past all of them has found it, but for the run that ends there
+  pub went_all : (rest : List Bool) → rest ≡ drop from.at os → ((fs : List Bool) → left need fs to ≡ left need (map (free_if free) rest ++ fs) from)
+      → better need to.at to.run (run_found to.best) ≡ found_at_end free need os from
+  unfolding scan
+  went_all rest e h = h [] ∙ ap (λ (fs : List Bool). left need fs from) (append-nil (map (free_if free) rest) ∙ ap (map (free_if free)) e)
 
 -- ---- the end
-
-pub scan_end : (f : Bool → Bool) (need : ℕ) (os : List Bool) (i k : ℕ) (best : Option Run) → length os ≤ i → scan need (map f (drop i os)) i k best ≡ better need i k best
-unfolding scan
-scan_end f need os i k best h = rw (drop_end os i h)
 
 -- a run that just fits stays the best
 better_fits : (need i k start : ℕ) → better need i k (some (record { start = start; cells = need })) ≡ some (record { start = start; cells = need })
@@ -148,9 +139,38 @@ scan_some need [] i k start = better_fits need i k start
 scan_some need (true ∷ fs) i k start = scan_some need fs (suc i) (suc k) start
 scan_some need (false ∷ fs) i k start = rw (better_fits need i k start) (scan_some need fs (suc i) 0 start)
 
-pub scan_fits : (need : ℕ) (fs : List Bool) (i k start size : ℕ) → 0 < need → size ≡ need → run_of start size ≡ scan need fs i k (run_of start size)
-unfolding run_of
-scan_fits need fs i k start size p e = rw (e, ne_eqb need 0 (λ z. omega (arith, p, z))) (sym (scan_some need fs i k start))
+pub scan_fits : (need : ℕ) (fs : List Bool) (i k : ℕ) (r : Run) → r.cells ≡ need → some r ≡ scan need fs i k (some r)
+scan_fits need fs i k r e = rw e (sym (scan_some need fs i k r.start))
+
+-- ---- a run that is found is long enough
+
+size_or : ℕ → Option Run → ℕ
+size_or d none = d
+size_or d (some r) = r.cells
+
+better_long : (need i k : ℕ) (o : Option Run) → need ≤ size_or need o → need ≤ size_or need (better need i k o)
+unfolding better size_or
+better_long need i k none h = go (leb need k) refl
+  where
+    go : (b : Bool) → leb need k ≡ b → need ≤ size_or need (cond b (some (record { start = i - k; cells = k })) none)
+    go true e = leb-true need k e
+    go false e = h
+better_long need i k (some r) h = go (leb need k) (ltb k r.cells) refl
+  where
+    go : (b t : Bool) → leb need k ≡ b → need ≤ size_or need (cond b (cond t (some (record { start = i - k; cells = k })) (some r)) (some r))
+    go true true e = leb-true need k e
+    go true false e = h
+    go false t e = h
+
+scan_long : (need : ℕ) (fs : List Bool) (i k : ℕ) (o : Option Run) → need ≤ size_or need o → need ≤ size_or need (scan need fs i k o)
+unfolding scan
+scan_long need [] i k o h = better_long need i k o h
+scan_long need (true ∷ fs) i k o h = scan_long need fs (suc i) (suc k) o h
+scan_long need (false ∷ fs) i k o h = scan_long need fs (suc i) 0 (better need i k o) (better_long need i k o h)
+
+pub found_long : (need : ℕ) (fs : List Bool) (r : Run) → some r ≡ scan need fs 0 0 none → need ≤ r.cells
+unfolding size_or
+found_long need fs r e = omega (arith, ap (size_or need) e, scan_long need fs 0 0 none (omega arith))
 
 -- a run of no cells is none, and any other is one
 pub run_none : (start size : ℕ) → size ≡ 0 → run_of start size ≡ none

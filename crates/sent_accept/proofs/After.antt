@@ -8,7 +8,6 @@ use lib.ListN.{length}
 use lib.Dec.{eqb, leb}
 use Rattle.lists.proofs.Tests.{not_not}
 use Rattle.sha1_definition.specs.Sha1.{sha1}
-use Rattle.model.specs.Image.{with_blanks}
 use Rattle.model.specs.State.{State, Outcome, refused, done}
 use Rattle.model.specs.Table.{shape_of, state_in}
 use Rattle.model.specs.Calls.{BackupAnswer, till_of, backup_answer, backup_in, backup_by, backup_of}

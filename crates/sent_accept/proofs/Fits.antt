@@ -1,6 +1,6 @@
 -- The refusals of both messages, test by test.
 use mathlib.Core.Path.{◌≡◌, refl, sym, ap, ◌∙◌}
-use mathlib.Core.Bool.{Bool, true, false, cond, not, ◌||◌}
+use mathlib.Core.Bool.{Bool, true, false, cond, not, ◌||◌, false≢true}
 use mathlib.Core.List.{List, [], ◌∷◌}
 use Prim.Native.Nat.{ℕ, zero, suc, ◌+◌, ◌*◌, ◌≤◌, ◌<◌}
 use native.Mathlib.Nat.{mul_comm, mul-le-mul, mul-le-mul_left}
@@ -8,10 +8,13 @@ use native.Mathlib.Omega.{arith}
 use lib.ListN.{length, get_or}
 use lib.Dec.{eqb, leb, ltb}
 use borrow.Author.Tests.{le-leb, lt-leb, leb-true, eq-eqb, ne_eqb, eqb-true, lt-ltb, le-ltb, ltb-false, not-true}
+use Rattle.std.specs.Prelude.{sum, IsTrue, ◌↔◌}
+use Rattle.std.proofs.lemmas.List.Sums.{sum_by-cons}
+use Rattle.std.specs.List.{All}
 use Rattle.lists.specs.Lists.{all_of, every, total}
 use Rattle.lists.specs.Each.{Each}
 use Rattle.lists.proofs.Tests.{clause, or_false, every_head, every_tail}
-use Rattle.model.specs.Measures.{Measures, Shape, parts_for}
+use Rattle.model.specs.Measures.{Measures, parts_for}
 use Rattle.model.specs.State.{State}
 use Rattle.model.specs.Table.{shape_of}
 use Rattle.laws.specs.Ranges.{Measured}
@@ -79,6 +82,30 @@ module _ (table : List ℕ) (h : HeaderRanges table) (m : Measures) (e : m ≡ (
     segments_few =
         let w : 4 * 64 ≤ m.segment_blocks * m.block_bytes = mul-le-mul measured_read.some_blocks measured_read.some_bytes in
         parts_least (m.segment_blocks * m.block_bytes) bytes 256 (omega (arith, w)) (omega (arith, w, bytes_few))
+
+-- the library's words for tests and sums over a list
+all_every : (marks : List ℕ) → All (λ (i : ℕ). i ≤ 1) marks → every (λ i. leb i 1) marks ≡ true
+unfolding every
+all_every [] h = refl
+all_every (x ∷ marks) h = rw (le-leb x 1 (h 0 0 (omega arith))) (all_every marks (λ k d l. h (suc k) d (omega (arith, l))))
+
+every_all : (marks : List ℕ) → every (λ i. leb i 1) marks ≡ true → All (λ (i : ℕ). i ≤ 1) marks
+every_all [] h k d l = absurd (omega (arith, l))
+every_all (x ∷ marks) h zero d l = leb-true x 1 (every_head (λ i. leb i 1) x marks h)
+every_all (x ∷ marks) h (suc k) d l = every_all marks (every_tail (λ i. leb i 1) x marks h) k d (omega (arith, l))
+
+pub marks_every : (r : Bool) (marks : List ℕ) → (IsTrue r ↔ All (λ (i : ℕ). i ≤ 1) marks) → r ≡ every (λ i. leb i 1) marks
+marks_every true marks f = sym (all_every marks (f.0 refl))
+marks_every false marks f = go (every (λ i. leb i 1) marks) refl
+  where
+    go : (b : Bool) → every (λ i. leb i 1) marks ≡ b → false ≡ b
+    go true q = absurd (false≢true (f.1 (every_all marks q)))
+    go false q = refl
+
+pub sum_total : (marks : List ℕ) → sum marks ≡ total (λ i. i) marks
+unfolding total
+sum_total [] = refl
+sum_total (x ∷ marks) = sum_by-cons (λ (n : ℕ). n) x marks ∙ ap (λ (n : ℕ). x + n) (sum_total marks)
 
 -- marks of 0 and 1 add up to at most as many as they are
 pub sum_few : (marks : List ℕ) → every (λ i. leb i 1) marks ≡ true → total (λ i. i) marks ≤ length marks

@@ -18,7 +18,7 @@ use Rattle.model.specs.Table.{shape_of, state_in}
 use Rattle.laws.specs.Stores.{Sound}
 use Rattle.laws.proofs.Measures.{parts_least}
 use Rattle.laws.proofs.Stores.{header}
-use Rattle.sent.specs.Sent.{OfferAnswer, offer_fits, had, offer, offer_answer, offer_in, offer_of}
+use Rattle.sent.specs.Sent.{offer_fits, had, offer, offer_answer, offer_in, offer_of}
 use Rattle.sent_accept.specs.Refusals.{offer_refusal}
 
 -- two tests in their order, as a number and as an outcome

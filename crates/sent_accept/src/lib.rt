@@ -5,43 +5,44 @@ ghost use Rattle.std.specs.Prelude.{◌≡◌, ℕ, ◌≤◌, leb, length};
 ghost use Rattle.lists.specs.Lists.{every, total};
 ghost use Rattle.model.specs.Table.{shape_of, state_in};
 ghost use Rattle.laws.specs.Stores.{Sound, HeaderRanges};
+ghost use Rattle.refusals.specs.Refusals.{refusal_of};
 ghost use Rattle.sent.specs.Sent.{sent_fits};
 ghost use Rattle.sent_accept.specs.Refusals.{offer_refusal, sent_refusal};
 
-// The first message: refusals 3 and 4; 0 where there is none.
-pub fn offer_refusal(table: &[u32], till: u32, fingerprints: &[u8], marks: &[u8]) -> u32
+use refusals::Refusal;
+
+// The first message: whether there is the till, and whether the lists fit an image.
+pub fn offer_refusal(
+    table: &[u32],
+    till: u32,
+    fingerprints: &[u8],
+    marks: &[u8],
+) -> Result<(), Refusal>
     requires { HeaderRanges table.now }
-    ensures { result ≡ offer_refusal (shape_of table.now) till fingerprints.now marks.now }
+    ensures { refusal_of result ≡ offer_refusal (shape_of table.now) till fingerprints.now marks.now }
 {
     if table[0] <= till {
-        return 3;
+        return Err(Refusal::NoSuchTill);
     }
     let m = layout::measures_in(table);
     let n = marks.len();
     if n == 0 {
-        return 4;
+        return Err(Refusal::ImageLength);
     }
     if numbers::parts_for(m.blocks, table[2] as usize) < n {
-        return 4;
+        return Err(Refusal::ImageLength);
     }
     if fingerprints.len() != 20 * n {
-        return 4;
+        return Err(Refusal::ImageLength);
     }
-    0
+    Ok(())
 }
 
 // Whether each mark is 0 or 1.
 fn marks_valid(marks: &[u8]) -> bool
     ensures { result ≡ every (λ i. leb i 1) marks.now }
 {
-    let mut j: usize = 0;
-    while j < marks.len() {
-        if marks[j] > 1 {
-            return false;
-        }
-        j = j + 1;
-    }
-    true
+    marks.iter().all(|&mark| mark <= 1)
 }
 
 // How many segments follow.
@@ -49,16 +50,11 @@ fn marked(marks: &[u8]) -> usize
     requires { total (λ i. i) marks.now ≤ 256 }
     ensures { result ≡ total (λ i. i) marks.now }
 {
-    let mut n: usize = 0;
-    let mut j: usize = 0;
-    while j < marks.len() {
-        n = n + marks[j] as usize;
-        j = j + 1;
-    }
-    n
+    marks.iter().map(|&mark| usize::from(mark)).sum()
 }
 
 // Whether the lists fit the length.
+// Kept: the new form is no plainer (six tests joined by && in one expression, with the counts read between them).
 fn lists_fit(table: &[u32], length: u32, fingerprints: &[u8], marks: &[u8], segments: &[u8]) -> bool
     requires { HeaderRanges table.now }
     ensures { result ≡ sent_fits (shape_of table.now) length fingerprints.now marks.now segments.now }
@@ -84,7 +80,7 @@ fn lists_fit(table: &[u32], length: u32, fingerprints: &[u8], marks: &[u8], segm
     segments.len() == marked(marks) * m.segment_bytes()
 }
 
-// The second message: refusals 3, 4, 11 and 12, in this order; 0 where there is none.
+// The second message: whether there is the till, whether the lists fit the length, and whether the till has a slot and a number left.
 pub fn sent_refusal(
     pool: &[u8],
     table: &[u32],
@@ -93,15 +89,15 @@ pub fn sent_refusal(
     fingerprints: &[u8],
     marks: &[u8],
     segments: &[u8],
-) -> u32
+) -> Result<(), Refusal>
     requires { Sound pool.now table.now }
-    ensures { result ≡ sent_refusal (shape_of table.now) (state_in (shape_of table.now) pool.now table.now) till length fingerprints.now marks.now segments.now }
+    ensures { refusal_of result ≡ sent_refusal (shape_of table.now) (state_in (shape_of table.now) pool.now table.now) till length fingerprints.now marks.now segments.now }
 {
     if table[0] <= till {
-        return 3;
+        return Err(Refusal::NoSuchTill);
     }
     if !lists_fit(table, length, fingerprints, marks, segments) {
-        return 4;
+        return Err(Refusal::ImageLength);
     }
     backup_accept::till_refusal(pool, table, till)
 }

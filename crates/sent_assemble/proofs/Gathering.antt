@@ -1,7 +1,7 @@
 -- Where a walk along the marks stands, there is room for a segment, and what it takes is there.
-use mathlib.Core.Path.{◌≡◌, refl, sym, ap, ◌∙◌, subst}
+use mathlib.Core.Path.{◌≡◌, sym, ap, ◌∙◌, subst}
 use mathlib.Core.List.{List, [], ◌∷◌, ◌++◌, append_assoc}
-use Prim.Native.Nat.{ℕ, zero, suc, ◌+◌, ◌-◌, ◌*◌, ◌/◌, ◌≤◌, ◌<◌}
+use Prim.Native.Nat.{ℕ, ◌+◌, ◌-◌, ◌*◌, ◌/◌, ◌≤◌, ◌<◌}
 use native.Mathlib.Nat.{mul-le-mul, mul-le-mul_right}
 use native.Mathlib.Omega.{arith}
 use lib.ListN.{length, get_or, take, drop, length-append}
@@ -13,7 +13,7 @@ use Rattle.lists.specs.Search.{as_option}
 use Rattle.lists.proofs.Counts.{sum_next}
 use Rattle.lists.proofs.Each.{each_at}
 use Rattle.lists.proofs.Places.{row_next, row_room, rows_few}
-use Rattle.model.specs.Measures.{Measures, parts_for}
+use Rattle.model.specs.Measures.{Measures}
 use Rattle.model.specs.State.{Storage}
 use Rattle.model.specs.Table.{records_in, storage_in}
 use Rattle.sha1_definition.specs.Sha1.{sha1}
@@ -77,6 +77,17 @@ module _ (m : Measures) (h : Measured m) where
 
       pub prints_room : (s + get_or marks j 0) * 20 ≤ 5120
       prints_room = omega (arith, follows, sent_few)
+
+-- of segment j: its place, the image's bytes from there on, and its fingerprint
+pub places : {m : Measures} {storage : Storage} {bytes : ℕ} {fs marks ss : List ℕ} {j s : ℕ} {out : List ℕ} → Measured m → Message m bytes fs marks ss → At m storage bytes fs marks ss j s out → j < length marks
+    → {w : ℕ} → w ≡ segment_bytes m → (n : ℕ) → 73728 ≤ n → (j * w + w ≤ n) × (j * w < bytes) × (j * 20 + 20 ≤ length fs) × (j < 256)
+places {m} {storage} {bytes} {fs} {marks} {ss} {j} h g a l {w} e n r =
+    let p : j * w ≡ j * segment_bytes m = ap (λ (k : ℕ). j * k) e in (
+      omega (arith, p, e, r, at_room m h storage bytes fs marks ss g a l),
+      omega (arith, p, at_inside m h storage bytes fs marks ss g a l),
+      print_room m h storage bytes fs marks ss g a l,
+      omega (arith, marks_few m h bytes fs marks ss g),
+    )
 
 -- the output with a segment in its place begins with one segment more
 pub one_more : (w v j : ℕ) → w ≡ v → (out part : List ℕ) → j * w + w ≤ length out → length part ≡ w

@@ -1,10 +1,9 @@
 -- One segment by its mark, and its end.
-use mathlib.Core.Path.{◌≡◌, refl, sym, ap, ◌∙◌, subst}
-use mathlib.Core.Bool.{Bool, true, false, cond}
+use mathlib.Core.Path.{◌≡◌, refl, sym, ◌∙◌, subst}
+use mathlib.Core.Bool.{true, false, cond}
 use mathlib.Core.List.{List}
-use Prim.Native.Nat.{ℕ, zero, suc, ◌+◌, ◌-◌, ◌*◌, ◌≤◌}
+use Prim.Native.Nat.{ℕ, ◌+◌, ◌*◌, ◌≤◌}
 use native.Mathlib.Omega.{arith}
-use native.Mathlib.Nat.{add-zero}
 use lib.ListN.{length, take, drop}
 use Rattle.lists.specs.Lists.{all_zero, same_numbers}
 use Rattle.lists.specs.Rows.{parts}
@@ -12,10 +11,40 @@ use Rattle.lists.proofs.Places.{row_next}
 use Rattle.sha1_definition.specs.Sha1.{sha1}
 use Rattle.model.specs.Measures.{Measures}
 use Rattle.model.specs.State.{Storage, Outcome, refused, done}
+use Rattle.refusals.specs.declared.Refusal.{Refusal}
+use Rattle.refusals.specs.declared.Refusal.TheVariants.{Capacity, Lengths, NoSuchTill, ImageLength, ShortOutput, Unsound, TillFull, NumbersSpent, NoRecord, NoRun, NeverGiven, NoLongerHeld, OtherSegment, NoSegment, OverLimit, UnknownUser, NoRight, StreamSize, StreamLength, StreamBits, NoTurn, EarlierDay, NoneSoEarly, HighPrice}
+use Rattle.refusals.specs.Refusals.{number_of}
 use Rattle.sent.specs.Sent.{segment_bytes, had}
-use Rattle.sent.specs.Found.{PrintsOf, Brings, or_twenty, sent_at, source, ended}
+use Rattle.sent.specs.Found.{PrintsOf, Brings, or_twenty, source, ended}
 use Rattle.sent_laws.proofs.Numbers.{NotZero}
 use Rattle.sent_laws.proofs.Assembling.{source_number}
+
+-- an accepted call answers 0, and no refusal has that number
+pub number_some : (r : Refusal) → ¬ (number_of r ≡ 0)
+number_some Capacity e = omega (arith, e)
+number_some Lengths e = omega (arith, e)
+number_some NoSuchTill e = omega (arith, e)
+number_some ImageLength e = omega (arith, e)
+number_some ShortOutput e = omega (arith, e)
+number_some Unsound e = omega (arith, e)
+number_some TillFull e = omega (arith, e)
+number_some NumbersSpent e = omega (arith, e)
+number_some NoRecord e = omega (arith, e)
+number_some NoRun e = omega (arith, e)
+number_some NeverGiven e = omega (arith, e)
+number_some NoLongerHeld e = omega (arith, e)
+number_some OtherSegment e = omega (arith, e)
+number_some NoSegment e = omega (arith, e)
+number_some OverLimit e = omega (arith, e)
+number_some UnknownUser e = omega (arith, e)
+number_some NoRight e = omega (arith, e)
+number_some StreamSize e = omega (arith, e)
+number_some StreamLength e = omega (arith, e)
+number_some StreamBits e = omega (arith, e)
+number_some NoTurn e = omega (arith, e)
+number_some EarlierDay e = omega (arith, e)
+number_some NoneSoEarly e = omega (arith, e)
+number_some HighPrice e = omega (arith, e)
 
 -- a segment's bytes, as code counts them
 pub width_is : (m : Measures) (w : ℕ) → w ≡ m.segment_blocks * m.block_bytes → w ≡ segment_bytes m

@@ -7,11 +7,13 @@ ghost use Rattle.lists.specs.Search.{as_option};
 ghost use Rattle.model.specs.Table.{records_in, storage_in};
 ghost use Rattle.numbers.specs.Measures.{measures_of};
 ghost use Rattle.storage.specs.Stored.{Stored};
+ghost use Rattle.refusals.specs.Refusals.{refusal_of};
 ghost use Rattle.sha1_definition.specs.Sha1.{sha1, digest};
 ghost use Rattle.sent.specs.Sent.{segment_bytes, zero_segment, assembled};
 ghost use Rattle.sent.specs.Found.{is_printed, PrintsOf, RecordsFor, Brings, ended, source, Message};
 
 use numbers::{Measures, RecordNumber};
+use refusals::Refusal;
 use sha1_definition::Digest;
 
 // Whether a segment, of which the image has `left` bytes, is zero after them.
@@ -24,7 +26,7 @@ fn ends_zero(segment: &[u8], left: usize) -> bool
     blocks::all_zero(&segment[left..])
 }
 
-// One segment is brought to its place: by its mark the next of those sent, number s, or one that is had. The refusal, or 0.
+// One segment is brought to its place: by its mark the next of those sent, number s, or one that is had.
 fn bring(
     pool: &[u8],
     words: &[u32],
@@ -37,10 +39,10 @@ fn bring(
     zero: Digest,
     out: &mut [u8],
     m: Measures,
-) -> u32
+) -> Result<(), Refusal>
     requires stored { Stored (measures_of m) pool.now words.now × PrintsOf (segment_bytes (measures_of m)) segments.now prints.now × (mark ≤ 1) × ((s + mark) * segment_bytes (measures_of m) ≤ length segments.now) × ((s + mark) * 20 ≤ length prints.now) × (zero ≡ digest (zero_segment (measures_of m))) × (length out.old ≡ segment_bytes (measures_of m)) }
     requires number_value { as_option (length (records_in m.blocks words.now)) number.0 ≡ first_from (is_printed sha1 (measures_of m) (storage_in (measures_of m) pool.now words.now) fingerprint.now) 0 (records_in m.blocks words.now) }
-    ensures { Brings (source (measures_of m) (storage_in (measures_of m) pool.now words.now) mark s segments.now fingerprint.now) result out.new }
+    ensures { Brings (source (measures_of m) (storage_in (measures_of m) pool.now words.now) mark s segments.now fingerprint.now) (refusal_of result) out.new }
 {
     if mark == 1 {
         let width = m.segment_bytes();
@@ -74,12 +76,12 @@ fn take_segment(
     left: usize,
     out: &mut [u8],
     m: Measures,
-) -> u32
+) -> Result<(), Refusal>
     requires stored { Stored (measures_of m) pool.now words.now × PrintsOf (segment_bytes (measures_of m)) segments.now prints.now × (mark ≤ 1) × ((s + mark) * segment_bytes (measures_of m) ≤ length segments.now) × ((s + mark) * 20 ≤ length prints.now) × (zero ≡ digest (zero_segment (measures_of m))) × (length out.old ≡ segment_bytes (measures_of m)) }
     requires number_value { as_option (length (records_in m.blocks words.now)) number.0 ≡ first_from (is_printed sha1 (measures_of m) (storage_in (measures_of m) pool.now words.now) fingerprint.now) 0 (records_in m.blocks words.now) }
-    ensures { Brings (ended left (source (measures_of m) (storage_in (measures_of m) pool.now words.now) mark s segments.now fingerprint.now)) result out.new }
+    ensures { Brings (ended left (source (measures_of m) (storage_in (measures_of m) pool.now words.now) mark s segments.now fingerprint.now)) (refusal_of result) out.new }
 {
-    let r = bring(
+    bring(
         pool,
         words,
         mark,
@@ -91,14 +93,11 @@ fn take_segment(
         zero,
         out,
         m,
-    );
-    if r != 0 {
-        return r;
-    }
+    )?;
     if !ends_zero(out, left) {
-        return 19;
+        return Err(Refusal::OtherSegment);
     }
-    0
+    Ok(())
 }
 
 // All segments, where the fingerprints of those sent and the records' numbers are known.
@@ -113,23 +112,22 @@ fn gather(
     numbers: &[u32],
     out: &mut [u8],
     m: Measures,
-) -> u32
+) -> Result<(), Refusal>
     requires { Stored (measures_of m) pool.now words.now × Message (measures_of m) bytes fingerprints.now marks.now segments.now × PrintsOf (segment_bytes (measures_of m)) segments.now prints.now × (5120 ≤ length prints.now) × (length numbers.now ≡ length marks.now) × RecordsFor (measures_of m) (storage_in (measures_of m) pool.now words.now) fingerprints.now numbers.now × (73728 ≤ length out.old) }
-    ensures { Brings (assembled sha1 (measures_of m) (storage_in (measures_of m) pool.now words.now) bytes fingerprints.now marks.now segments.now) result (take bytes out.new) }
+    ensures { Brings (assembled sha1 (measures_of m) (storage_in (measures_of m) pool.now words.now) bytes fingerprints.now marks.now segments.now) (refusal_of result) (take bytes out.new) }
 {
     let width = m.segment_bytes();
     let zero = sent_prints::zero_digest(m);
-    let mut s: usize = 0;
-    let mut j: usize = 0;
-    while j < marks.len() {
+    let mut s = 0;
+    for (j, &mark) in marks.iter().enumerate() {
         let at = j * width;
         let end = at + width;
         let from = j * 20;
         let to = from + 20;
-        let r = take_segment(
+        take_segment(
             pool,
             words,
-            marks[j],
+            mark,
             prints,
             segments,
             s,
@@ -139,14 +137,10 @@ fn gather(
             bytes - at,
             &mut out[at..end],
             m,
-        );
-        if r != 0 {
-            return r;
-        }
-        s = s + marks[j] as usize;
-        j = j + 1;
+        )?;
+        s += usize::from(mark);
     }
-    0
+    Ok(())
 }
 
 // The image goes to the front of the output, with room for the fingerprints of what was sent and for the records' numbers.
@@ -161,9 +155,9 @@ fn assemble_with(
     numbers: &mut [u32],
     out: &mut [u8],
     m: Measures,
-) -> u32
+) -> Result<(), Refusal>
     requires { Stored (measures_of m) pool.now words.now × Message (measures_of m) bytes fingerprints.now marks.now segments.now × (length prints.old ≡ 5120) × (length numbers.old ≡ 256) × (73728 ≤ length out.old) }
-    ensures { Brings (assembled sha1 (measures_of m) (storage_in (measures_of m) pool.now words.now) bytes fingerprints.now marks.now segments.now) result (take bytes out.new) }
+    ensures { Brings (assembled sha1 (measures_of m) (storage_in (measures_of m) pool.now words.now) bytes fingerprints.now marks.now segments.now) (refusal_of result) (take bytes out.new) }
 {
     let n = marks.len();
     sent_bring::print_segments(segments, m.segment_bytes(), prints);
@@ -192,9 +186,9 @@ pub fn assemble(
     segments: &[u8],
     out: &mut [u8],
     m: Measures,
-) -> u32
+) -> Result<(), Refusal>
     requires { Stored (measures_of m) pool.now words.now × Message (measures_of m) bytes fingerprints.now marks.now segments.now × (73728 ≤ length out.old) }
-    ensures { Brings (assembled sha1 (measures_of m) (storage_in (measures_of m) pool.now words.now) bytes fingerprints.now marks.now segments.now) result (take bytes out.new) }
+    ensures { Brings (assembled sha1 (measures_of m) (storage_in (measures_of m) pool.now words.now) bytes fingerprints.now marks.now segments.now) (refusal_of result) (take bytes out.new) }
 {
     let mut prints = [0u8; 5120];
     let mut numbers = [0u32; 256];

@@ -1,8 +1,7 @@
 -- The image put together from a sound table, with the measures as the code read them.
 use mathlib.Core.Path.{◌≡◌, sym, ap, ap₂, ◌∙◌, subst}
 use mathlib.Core.List.{List}
-use Prim.Native.Nat.{ℕ, ◌-◌, ◌≤◌}
-use native.Mathlib.Omega.{arith}
+use Prim.Native.Nat.{ℕ, ◌-◌}
 use lib.ListN.{length, take, drop}
 use Rattle.sha1_definition.specs.Sha1.{sha1}
 use Rattle.model.specs.Measures.{Measures, records_at}

@@ -4,16 +4,17 @@
 ghost use Rattle.std.specs.Prelude.{◌≡◌, true, ℕ, ◌≤◌, length, take};
 ghost use Rattle.model.specs.Table.{shape_of, state_in};
 ghost use Rattle.laws.specs.Stores.{Sound};
-ghost use Rattle.backup.specs.Call.{backed_up_answer};
+ghost use Rattle.backup.specs.Call.{backup_result};
 ghost use Rattle.chain.specs.Limit.{within};
+ghost use Rattle.refusals.specs.Refusals.{refusal_of};
 ghost use Rattle.sha1_definition.specs.Sha1.{sha1};
 ghost use Rattle.sent.specs.Sent.{sent_fits, assembled, backup_sent_of};
 ghost use Rattle.sent.specs.Found.{Brings};
 
-use backup::BackedUp;
 use backup_steps::Limit;
+use refusals::Refusal;
 
-// The image of a message that fits goes to the front of the output; the refusal, 19 or 20, or 0.
+// The image of a message that fits goes to the front of the output.
 fn assemble_in(
     pool: &[u8],
     table: &[u32],
@@ -22,9 +23,9 @@ fn assemble_in(
     marks: &[u8],
     segments: &[u8],
     out: &mut [u8],
-) -> u32
+) -> Result<(), Refusal>
     requires { Sound pool.now table.now × (sent_fits (shape_of table.now) bytes fingerprints.now marks.now segments.now ≡ true) × (73728 ≤ length out.old) }
-    ensures { Brings (assembled sha1 (shape_of table.now).measures (state_in (shape_of table.now) pool.now table.now).storage bytes fingerprints.now marks.now segments.now) result (take bytes out.new) }
+    ensures { Brings (assembled sha1 (shape_of table.now).measures (state_in (shape_of table.now) pool.now table.now).storage bytes fingerprints.now marks.now segments.now) (refusal_of result) (take bytes out.new) }
 {
     let m = layout::measures_in(table);
     let from = layout::records_at(table);
@@ -51,24 +52,12 @@ fn back_up_through(
     segments: &[u8],
     out: &mut [u8],
     limit: Limit,
-) -> BackedUp
+) -> Result<u32, Refusal>
     requires { Sound pool.old table.old × (73728 ≤ length out.old) × (limit.others ≤ 524288) }
-    ensures { backed_up_answer result pool.new table.new ≡ within limit.others limit.most pool.old table.old (backup_sent_of pool.old table.old till bytes fingerprints.now marks.now segments.now) }
+    ensures { backup_result result pool.new table.new ≡ within limit.others limit.most pool.old table.old (backup_sent_of pool.old table.old till bytes fingerprints.now marks.now segments.now) }
 {
-    let early = sent_accept::sent_refusal(pool, table, till, bytes, fingerprints, marks, segments);
-    if early != 0 {
-        return BackedUp {
-            refusal: early,
-            version: 0,
-        };
-    }
-    let late = assemble_in(pool, table, bytes, fingerprints, marks, segments, out);
-    if late != 0 {
-        return BackedUp {
-            refusal: late,
-            version: 0,
-        };
-    }
+    sent_accept::sent_refusal(pool, table, till, bytes, fingerprints, marks, segments)?;
+    assemble_in(pool, table, bytes, fingerprints, marks, segments, out)?;
     let end = bytes as usize;
     backup::back_up(pool, table, till, &out[..end], limit)
 }
@@ -82,9 +71,9 @@ pub fn back_up_sent(
     marks: &[u8],
     segments: &[u8],
     limit: Limit,
-) -> BackedUp
+) -> Result<u32, Refusal>
     requires { Sound pool.old table.old × (limit.others ≤ 524288) }
-    ensures { backed_up_answer result pool.new table.new ≡ within limit.others limit.most pool.old table.old (backup_sent_of pool.old table.old till bytes fingerprints.now marks.now segments.now) }
+    ensures { backup_result result pool.new table.new ≡ within limit.others limit.most pool.old table.old (backup_sent_of pool.old table.old till bytes fingerprints.now marks.now segments.now) }
 {
     let mut out = [0u8; 73728];
     back_up_through(

@@ -47,7 +47,7 @@ brings_so false seg out e q = absurd (false≢true e)
 
 -- ---- one not sent
 
-pub zero_print : (m : Measures) (zero : Digest) (p f : List ℕ) → zero ≡ digest (zero_segment m) → p ≡ digest_bytes zero → same_numbers p f ≡ same_numbers (sha1 (zero_segment m)) f
+zero_print : (m : Measures) (zero : Digest) (p f : List ℕ) → zero ≡ digest (zero_segment m) → p ≡ digest_bytes zero → same_numbers p f ≡ same_numbers (sha1 (zero_segment m)) f
 unfolding sha1
 zero_print m zero p f e q = ap (λ (l : List ℕ). same_numbers l f) (q ∙ ap digest_bytes e)
 
@@ -89,22 +89,25 @@ module _ (m : Measures) (storage : Storage) (earlier : List (List ℕ)) (f out :
 
 -- ---- from the code's answers
 
-module _ (m : Measures) (pool words prints segments f : List ℕ) (s : ℕ) (t : PrintsOf (segment_bytes m) segments prints) (room : s * segment_bytes m ≤ length segments) (r : Bool)
-    (e : r ≡ same_numbers (sha1 (zero_segment m)) f) (out : List ℕ) where
+module _ (m : Measures) (pool words prints segments f : List ℕ) (s : ℕ) (t : PrintsOf (segment_bytes m) segments prints) (room : s * segment_bytes m ≤ length segments)
+    (zero : Digest) (ez : zero ≡ digest (zero_segment m)) (print : List ℕ) (ep : print ≡ digest_bytes zero) (r : Bool) (er : r ≡ same_numbers print f) (out : List ℕ) where
+  e : r ≡ same_numbers (sha1 (zero_segment m)) f
+  e = er ∙ zero_print m zero print f ez ep
+
   abbrev storage : Storage
   storage = storage_in m pool words
 
   abbrev earlier : List (List ℕ)
   earlier = parts (segment_bytes m) s segments
 
-  abbrev FoundSent : ℕ → Type 0
-  FoundSent i = as_option s i ≡ first_from (λ p. same_numbers p f) 0 (parts 20 s prints)
+  abbrev sent_found : Option ℕ
+  sent_found = first_from (λ p. same_numbers p f) 0 (parts 20 s prints)
 
   abbrev FoundRecord : ℕ → Type 0
   FoundRecord k = as_option (length (records_in m.segment_blocks words)) k ≡ first_from (is_printed sha1 m storage f) 0 (records_in m.segment_blocks words)
 
-  search_sent : (i : ℕ) → FoundSent i → first_from (λ x. same_numbers (sha1 x) f) 0 earlier ≡ as_option s i
-  search_sent i h = sym (h ∙ prints_first (segment_bytes m) segments prints f s t room)
+  search_sent : (o : Option ℕ) → sent_found ≡ o → first_from (λ x. same_numbers (sha1 x) f) 0 earlier ≡ o
+  search_sent o h = sym (prints_first (segment_bytes m) segments prints f s t room) ∙ h
 
   search_record : (k : ℕ) → FoundRecord k → first_from (is_printed sha1 m storage f) 0 storage.records ≡ as_option (length (records_in m.segment_blocks words)) k
   search_record k h = sym (h ∙ ap (first_from (is_printed sha1 m storage f) 0) (sym (records_of m pool words)))
@@ -112,20 +115,20 @@ module _ (m : Measures) (pool words prints segments f : List ℕ) (s : ℕ) (t :
   pub bring_zero : r ≡ true → (n : ℕ) → n ≡ segment_bytes m → out ≡ replicate n 0 → Brings (or_twenty (had sha1 m storage earlier f)) 0 out
   bring_zero b n l q = had_zero m storage earlier f out (sym e ∙ b) (q ∙ zero_bytes m n l)
 
-  pub bring_sent : r ≡ false → (i : ℕ) → FoundSent i → i < s → (w : ℕ) → w ≡ m.segment_blocks * m.block_bytes → (out₀ : List ℕ) → length out₀ ≡ segment_bytes m
+  pub bring_sent : r ≡ false → (i : ℕ) → sent_found ≡ some i → i < s → (w : ℕ) → w ≡ m.segment_blocks * m.block_bytes → (out₀ : List ℕ) → length out₀ ≡ segment_bytes m
       → out ≡ take 0 out₀ ++ (take w (drop (i * w) segments) ++ drop (0 + w) out₀) → Brings (or_twenty (had sha1 m storage earlier f)) 0 out
   bring_sent b i h l w z out₀ n q =
       let x : w ≡ segment_bytes m = z ∙ sym (segment_long m) in
-      had_sent m storage earlier f out (sym e ∙ b) i (search_sent i h ∙ as_some s i l)
+      had_sent m storage earlier f out (sym e ∙ b) i (search_sent (some i) h)
       (all_put out₀ w (take w (drop (i * w) segments)) out (n ∙ sym x) q
       ∙ ap (λ (k : ℕ). take k (drop (i * k) segments)) x
       ∙ sym (part_at (segment_bytes m) s segments i l))
 
-  module _ (b : r ≡ false) (i : ℕ) (h : FoundSent i) (l : s ≤ i) (k : ℕ) (g : FoundRecord k) where
+  module _ (b : r ≡ false) (h : sent_found ≡ none) (k : ℕ) (g : FoundRecord k) where
     pub bring_record : k < length (records_in m.segment_blocks words) → out ≡ content_in m storage (get_or storage.records k []) → Brings (or_twenty (had sha1 m storage earlier f)) 0 out
     bring_record y q =
-        had_record m storage earlier f out (sym e ∙ b) (search_sent i h ∙ as_none s i l) k (search_record k g ∙ as_some (length (records_in m.segment_blocks words)) k y) q
+        had_record m storage earlier f out (sym e ∙ b) (search_sent none h) k (search_record k g ∙ as_some (length (records_in m.segment_blocks words)) k y) q
 
     pub bring_none : length (records_in m.segment_blocks words) ≤ k → Brings (or_twenty (had sha1 m storage earlier f)) 20 out
     bring_none y =
-        had_none m storage earlier f out (sym e ∙ b) (search_sent i h ∙ as_none s i l) (search_record k g ∙ as_none (length (records_in m.segment_blocks words)) k y)
+        had_none m storage earlier f out (sym e ∙ b) (search_sent none h) (search_record k g ∙ as_none (length (records_in m.segment_blocks words)) k y)

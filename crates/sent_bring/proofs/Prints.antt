@@ -2,6 +2,7 @@
 use mathlib.Core.Path.{◌≡◌, refl, sym, ap, ◌∙◌}
 use mathlib.Core.Bool.{Bool, true, false}
 use mathlib.Core.List.{List, [], ◌++◌}
+use mathlib.Core.Option.{none, some}
 use Prim.Native.Nat.{ℕ, ◌+◌, ◌-◌, ◌*◌, ◌/◌, ◌≤◌, ◌<◌}
 use native.Mathlib.Omega.{arith}
 use lib.Dec.{ltb}
@@ -15,7 +16,7 @@ use Rattle.lists.proofs.Answers.{part_is}
 use Rattle.lists.proofs.Cuts.{length_parts, part_at}
 use Rattle.lists.proofs.First.{first_alike}
 use Rattle.lists.proofs.Places.{row_room, in_row}
-use Rattle.lists.proofs.Puts.{first_yes, first_no, first_end}
+use Rattle.lists.proofs.Puts.{as_none, as_some, first_yes, first_no, first_end}
 use Rattle.lists.proofs.Slices.{mid_is, part_front}
 use Rattle.sha1_definition.specs.Sha1.{digest, digest_bytes, bytes_of, sha1}
 use Rattle.sha1_definition.specs.declared.Digest.{Digest}
@@ -95,15 +96,15 @@ module _ (prints fingerprint : List ℕ) (n : ℕ) where
   print_is i h r e = e ∙ ap same (part_is prints (i * 20) 20 ∙ sym (part_at 20 n prints i h))
 
   pub sent_yes : (i : ℕ) → i < n → true ≡ same_numbers (take (i * 20 + 20 - i * 20) (drop (i * 20) prints)) fingerprint → first_from same i (drop i all) ≡ first_from same 0 all
-      → as_option n i ≡ first_from same 0 all
-  sent_yes i h e t = ap (λ (k : ℕ). as_option k i) (sym count) ∙ first_yes same [] all i (omega (arith, h, count)) (print_is i h true e) ∙ t
+      → first_from same 0 all ≡ some i
+  sent_yes i h e t = sym (sym (as_some n i h) ∙ ap (λ (k : ℕ). as_option k i) (sym count) ∙ first_yes same [] all i (omega (arith, h, count)) (print_is i h true e) ∙ t)
 
   pub sent_no : (i : ℕ) → i < n → false ≡ same_numbers (take (i * 20 + 20 - i * 20) (drop (i * 20) prints)) fingerprint → first_from same i (drop i all) ≡ first_from same 0 all
       → first_from same (i + 1) (drop (i + 1) all) ≡ first_from same 0 all
   sent_no i h e t = sym (first_no same [] all i (omega (arith, h, count)) (print_is i h false e)) ∙ t
 
-  pub sent_end : (i : ℕ) → i ≡ n → first_from same i (drop i all) ≡ first_from same 0 all → as_option n n ≡ first_from same 0 all
-  sent_end i z t = ap (λ (k : ℕ). as_option n k) (sym z) ∙ ap (λ (k : ℕ). as_option k i) (sym count) ∙ first_end same [] all i (omega (arith, z, count)) ∙ t
+  pub sent_end : (i : ℕ) → i ≡ n → first_from same i (drop i all) ≡ first_from same 0 all → first_from same 0 all ≡ none
+  sent_end i z t = sym (sym (as_none n i (omega (arith, z))) ∙ ap (λ (k : ℕ). as_option k i) (sym count) ∙ first_end same [] all i (omega (arith, z, count)) ∙ t)
 
 -- ---- a search among the prints is one among the segments
 

@@ -1,21 +1,24 @@
 // A segment of an image brought to its place: one that was sent, or one that is had.
 #![tactic(auto)]
 
-ghost use Rattle.std.specs.Prelude.{◌≡◌, cond, List, [], ◌++◌, ℕ, ◌+◌, ◌*◌, ◌/◌, ◌%◌, ◌≤◌, ◌<◌, length, get_or, take, drop};
+ghost use Rattle.std.specs.Prelude.{◌≡◌, cond, MatchOption, List, [], ◌++◌, ℕ, ◌+◌, ◌*◌, ◌/◌, ◌%◌, ◌≤◌, ◌<◌, length, get_or, take, drop};
 ghost use Rattle.lists.specs.Lists.{first_from, same_numbers};
 ghost use Rattle.lists.specs.Rows.{parts, rows};
 ghost use Rattle.lists.specs.Search.{as_option};
+ghost use Rattle.std.proofs.Math.Option.{none, some};
 ghost use Rattle.model.specs.Measures.{record_words};
 ghost use Rattle.model.specs.State.{Position, Segment, Storage, refused, done};
 ghost use Rattle.model.specs.Records.{is_held, is_blank_position, cell_of};
 ghost use Rattle.model.specs.Table.{cells_in, record_to_words, records_in, storage_in};
 ghost use Rattle.numbers.specs.Measures.{measures_of};
 ghost use Rattle.storage.specs.Stored.{Stored};
+ghost use Rattle.refusals.specs.Refusals.{refusal_of};
 ghost use Rattle.sha1_definition.specs.Sha1.{sha1, digest};
 ghost use Rattle.sent.specs.Sent.{segment_bytes, content_of, content_in, zero_segment, had};
 ghost use Rattle.sent.specs.Found.{is_printed, PrintsOf, Brings, or_twenty};
 
 use numbers::{Block, Cell, Measures, RecordNumber};
+use refusals::Refusal;
 use sha1_definition::Digest;
 
 // The fingerprints of the segments that were sent.
@@ -23,32 +26,27 @@ pub fn print_segments(segments: &[u8], width: usize, prints: &mut [u8])
     requires { (0 < width) × (length segments.now / width * 20 ≤ length prints.old) }
     ensures { (length prints.new ≡ length prints.old) × PrintsOf width segments.now prints.new }
 {
-    let count = numbers::parts(segments.len(), width);
-    let mut i: usize = 0;
-    while i < count {
+    for i in 0..numbers::parts(segments.len(), width) {
         let at = i * width;
         let end = at + width;
         let print = sha1_message::digest_bytes(sha1_message::sha1(&segments[at..end]));
         blocks::copy_part(&print, 0, prints, i * 20, 20);
-        i = i + 1;
     }
 }
 
-// The lowest of the first n prints that is a fingerprint, or n.
-fn find_sent(prints: &[u8], n: usize, fingerprint: &[u8]) -> usize
+// The lowest of the first n prints that is a fingerprint.
+fn find_sent(prints: &[u8], n: usize, fingerprint: &[u8]) -> Option<usize>
     requires { n * 20 ≤ length prints.now }
-    ensures { (as_option n result ≡ first_from (λ p. same_numbers p fingerprint.now) 0 (parts 20 n prints.now)) × (result ≤ n) }
+    ensures { let found = first_from (λ p. same_numbers p fingerprint.now) 0 (parts 20 n prints.now) in MatchOption result (found ≡ none) (λ i. (found ≡ some i) × (i < n)) }
 {
-    let mut k: usize = 0;
-    while k < n {
+    for k in 0..n {
         let at = k * 20;
         let end = at + 20;
         if blocks::same(&prints[at..end], fingerprint) {
-            return k;
+            return Some(k);
         }
-        k = k + 1;
     }
-    n
+    None
 }
 
 // A position's content goes to a block's place. The bits tell a held one and a blank one.
@@ -82,8 +80,7 @@ fn put_content(pool: &[u8], row: &[u32], out: &mut [u8], bytes: usize, n: usize)
 {
     let mut held = row[0];
     let mut blank = row[2];
-    let mut i: usize = 0;
-    while i < n {
+    for i in 0..n {
         let cell = row[3 + i];
         put_position(
             pool,
@@ -94,9 +91,8 @@ fn put_content(pool: &[u8], row: &[u32], out: &mut [u8], bytes: usize, n: usize)
             Block(i as u32),
             bytes,
         );
-        held = held / 2;
-        blank = blank / 2;
-        i = i + 1;
+        held /= 2;
+        blank /= 2;
     }
 }
 
@@ -110,7 +106,7 @@ fn put_record(pool: &[u8], words: &[u32], number: RecordNumber, out: &mut [u8], 
     put_content(pool, &words[at..end], out, m.bytes, m.blocks);
 }
 
-// The next of those sent, number s, if it has the fingerprint; else 19.
+// The next of those sent, number s, if it has the fingerprint.
 pub fn bring_sent(
     prints: &[u8],
     segments: &[u8],
@@ -118,20 +114,20 @@ pub fn bring_sent(
     fingerprint: &[u8],
     out: &mut [u8],
     width: usize,
-) -> u32
+) -> Result<(), Refusal>
     requires { PrintsOf width segments.now prints.now × (s * width + width ≤ length segments.now) × (s * 20 + 20 ≤ length prints.now) × (length out.old ≡ width) }
-    ensures { let seg = take width (drop (s * width) segments.now) in Brings (cond (same_numbers (sha1 seg) fingerprint.now) (done seg) (refused 19)) result out.new }
+    ensures { let seg = take width (drop (s * width) segments.now) in Brings (cond (same_numbers (sha1 seg) fingerprint.now) (done seg) (refused 19)) (refusal_of result) out.new }
 {
     let from = s * 20;
     let to = from + 20;
     if !blocks::same(&prints[from..to], fingerprint) {
-        return 19;
+        return Err(Refusal::OtherSegment);
     }
     blocks::copy_part(segments, s * width, out, 0, width);
-    0
+    Ok(())
 }
 
-// One not sent: zeros, the lowest of the s sent before it, or the record of the number that was found for its fingerprint; else 20.
+// One not sent: zeros, the lowest of the s sent before it, or the record of the number that was found for its fingerprint.
 pub fn bring_had(
     pool: &[u8],
     words: &[u32],
@@ -143,27 +139,26 @@ pub fn bring_had(
     zero: Digest,
     out: &mut [u8],
     m: Measures,
-) -> u32
+) -> Result<(), Refusal>
     requires stored { Stored (measures_of m) pool.now words.now × PrintsOf (segment_bytes (measures_of m)) segments.now prints.now × (s * segment_bytes (measures_of m) ≤ length segments.now) × (s * 20 ≤ length prints.now) × (zero ≡ digest (zero_segment (measures_of m))) × (length out.old ≡ segment_bytes (measures_of m)) }
     requires number_value { as_option (length (records_in m.blocks words.now)) number.0 ≡ first_from (is_printed sha1 (measures_of m) (storage_in (measures_of m) pool.now words.now) fingerprint.now) 0 (records_in m.blocks words.now) }
-    ensures { Brings (or_twenty (had sha1 (measures_of m) (storage_in (measures_of m) pool.now words.now) (parts (segment_bytes (measures_of m)) s segments.now) fingerprint.now)) result out.new }
+    ensures { Brings (or_twenty (had sha1 (measures_of m) (storage_in (measures_of m) pool.now words.now) (parts (segment_bytes (measures_of m)) s segments.now) fingerprint.now)) (refusal_of result) out.new }
 {
     let print = sha1_message::digest_bytes(zero);
     if blocks::same(&print, fingerprint) {
-        blocks::clear(out);
-        return 0;
+        out.fill(0);
+        return Ok(());
     }
     let n = number.0 as usize;
     let count = numbers::rows(words.len(), m.blocks);
-    let i = find_sent(prints, s, fingerprint);
-    if i < s {
+    if let Some(i) = find_sent(prints, s, fingerprint) {
         let width = m.segment_bytes();
         blocks::copy_part(segments, i * width, out, 0, width);
-        return 0;
+        return Ok(());
     }
     if count <= n {
-        return 20;
+        return Err(Refusal::NoSegment);
     }
     put_record(pool, words, number, out, m);
-    0
+    Ok(())
 }

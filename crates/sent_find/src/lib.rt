@@ -20,10 +20,7 @@ fn prints_same(print: &[u8], fingerprint: &[u8]) -> bool
     requires { (length print.now ≡ 20) × (length fingerprint.now ≡ 20) }
     ensures { result ≡ same_numbers print.now fingerprint.now }
 {
-    if print[0] != fingerprint[0] {
-        return false;
-    }
-    blocks::same(print, fingerprint)
+    print[0] == fingerprint[0] && blocks::same(print, fingerprint)
 }
 
 // Each fingerprint that is the digest gets the number.
@@ -32,15 +29,12 @@ fn put_number(d: Digest, number: RecordNumber, fingerprints: &[u8], numbers: &mu
     ensures { (length numbers.new ≡ length numbers.old) × ((j : ℕ) → j < length numbers.old → get_or numbers.new j 0 ≡ cond (same_numbers (digest_bytes d) (print_at fingerprints.now j)) number.0 (get_or numbers.old j 0)) }
 {
     let print = sha1_message::digest_bytes(d);
-    let mut at: usize = 0;
-    let mut j: usize = 0;
-    while j < numbers.len() {
+    for j in 0..numbers.len() {
+        let at = j * 20;
         let end = at + 20;
         if prints_same(&print, &fingerprints[at..end]) {
             numbers[j] = number.0;
         }
-        at = end;
-        j = j + 1;
     }
 }
 
@@ -69,9 +63,7 @@ fn find_down(pool: &[u8], words: &[u32], fingerprints: &[u8], numbers: &mut [u32
     ensures { (length numbers.new ≡ length numbers.old) × RecordsFor (measures_of m) (storage_in (measures_of m) pool.now words.now) fingerprints.now numbers.new }
 {
     let width = numbers::row_words(m.blocks);
-    let mut k = numbers::rows(words.len(), m.blocks);
-    while 0 < k {
-        k = k - 1;
+    for k in (0..numbers::rows(words.len(), m.blocks)).rev() {
         let number = RecordNumber(k as u32);
         let at = number.word(m.blocks);
         let end = at + width;
@@ -90,6 +82,6 @@ pub fn find_records(
     requires { Stored (measures_of m) pool.now words.now × (length fingerprints.now ≡ length numbers.old * 20) }
     ensures { (length numbers.new ≡ length numbers.old) × RecordsFor (measures_of m) (storage_in (measures_of m) pool.now words.now) fingerprints.now numbers.new }
 {
-    words::fill_with(numbers, RecordNumber::MOST);
+    numbers.fill(RecordNumber::MOST);
     find_down(pool, words, fingerprints, numbers, m);
 }

@@ -8,25 +8,21 @@ ghost use Rattle.model.specs.Table.{storage_in};
 ghost use Rattle.numbers.specs.Measures.{measures_of};
 ghost use Rattle.laws.specs.Stores.{Sound};
 ghost use Rattle.storage.specs.Stored.{Stored};
+ghost use Rattle.refusals.specs.Refusals.{refusal_of};
 ghost use Rattle.sha1_definition.specs.Sha1.{sha1, digest_bytes};
 ghost use Rattle.sent.specs.Sent.{had, offer_of};
 ghost use Rattle.sent.specs.Found.{print_at};
 ghost use Rattle.sent_offer.specs.Offer.{offered};
 
 use numbers::Measures;
+use refusals::Refusal;
 use sha1_definition::Digest;
 
 // 1 for the fingerprint of zeros, and where a record was found, of so many.
 fn mark_of(zero: &[u8], fingerprint: &[u8], number: u32, count: usize) -> u8
     ensures { result ≡ cond (cond (same_numbers zero.now fingerprint.now) true (ltb number count)) 1 0 }
 {
-    if blocks::same(zero, fingerprint) {
-        return 1;
-    }
-    if (number as usize) < count {
-        return 1;
-    }
-    0
+    u8::from(blocks::same(zero, fingerprint) || (number as usize) < count)
 }
 
 // The marks, by the numbers of the records that were found.
@@ -35,12 +31,10 @@ fn write_marks(zero: Digest, fingerprints: &[u8], numbers: &[u32], count: usize,
     ensures { (length marks.new ≡ length marks.old) × ((j : ℕ) → j < length marks.old → get_or marks.new j 0 ≡ cond (cond (same_numbers (digest_bytes zero) (print_at fingerprints.now j)) true (ltb (get_or numbers.now j 0) count)) 1 0) }
 {
     let print = sha1_message::digest_bytes(zero);
-    let mut j: usize = 0;
-    while j < marks.len() {
+    for j in 0..marks.len() {
         let at = j * 20;
         let end = at + 20;
         marks[j] = mark_of(&print, &fingerprints[at..end], numbers[j], count);
-        j = j + 1;
     }
 }
 
@@ -72,23 +66,19 @@ fn mark_all(pool: &[u8], words: &[u32], fingerprints: &[u8], marks: &mut [u8], m
     mark_with(pool, words, fingerprints, &mut numbers, marks, m);
 }
 
-// The answer is the refusal, or 0.
 pub fn offer_segments(
     pool: &[u8],
     table: &[u32],
     till: u32,
     fingerprints: &[u8],
     marks: &mut [u8],
-) -> u32
+) -> Result<(), Refusal>
     requires { Sound pool.now table.now }
-    ensures { offered result marks.new ≡ offer_of pool.now table.now till fingerprints.now marks.old }
+    ensures { offered (refusal_of result) marks.new ≡ offer_of pool.now table.now till fingerprints.now marks.old }
 {
-    let r = sent_accept::offer_refusal(table, till, fingerprints, marks);
-    if r != 0 {
-        return r;
-    }
+    sent_accept::offer_refusal(table, till, fingerprints, marks)?;
     let m = layout::measures_in(table);
     let from = layout::records_at(table);
     mark_all(pool, &table[from..], fingerprints, marks, m);
-    0
+    Ok(())
 }

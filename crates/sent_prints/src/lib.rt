@@ -17,6 +17,7 @@ use numbers::{Cell, Measures};
 use sha1_definition::{Digest, State};
 
 // A position's content, after what was taken before it. The bits tell a held one and a blank one.
+// Kept: a promise that may not change (absorb_position: the bits are numbers in its clauses).
 pub fn absorb_position(
     h: State,
     pool: &[u8],
@@ -48,13 +49,11 @@ pub fn record_digest(pool: &[u8], row: &[u32], bytes: usize, n: usize) -> Digest
     let mut h = sha1_chunk::start();
     let mut held = row[0];
     let mut blank = row[2];
-    let mut i: usize = 0;
-    while i < n {
+    for i in 0..n {
         let cell = row[3 + i];
         h = absorb_position(h, pool, held % 2, blank % 2, Cell(cell), bytes);
-        held = held / 2;
-        blank = blank / 2;
-        i = i + 1;
+        held /= 2;
+        blank /= 2;
     }
     sha1_message::finish_whole(h, (n * bytes / 64) as u64)
 }
@@ -86,14 +85,12 @@ fn positions_let(pool: &[u8], row: &[u32], bytes: usize, n: usize) -> bool
     ensures { (s : Storage) (seg : Segment) → s.cells ≡ cells_in bytes pool.now → length seg ≡ n → row.now ≡ record_to_words seg → result ≡ every (lets s) seg }
 {
     let mut held = row[0];
-    let mut i: usize = 0;
-    while i < n {
+    for i in 0..n {
         let cell = row[3 + i];
         if !position_lets(pool, held % 2, Cell(cell), bytes) {
             return false;
         }
-        held = held / 2;
-        i = i + 1;
+        held /= 2;
     }
     true
 }
@@ -106,10 +103,8 @@ pub fn can_match(pool: &[u8], row: &[u32], bytes: usize, n: usize) -> bool
     if row[1] != 0 {
         return false;
     }
-    if row[0] == 0 {
-        if row[2] == 0 {
-            return false;
-        }
+    if row[0] == 0 && row[2] == 0 {
+        return false;
     }
     positions_let(pool, row, bytes, n)
 }

@@ -1,7 +1,7 @@
 -- Rounds, twenty at a time.
-use Rattle.std.proofs.Common.{◌≡◌, ℕ, zero, suc, ◌+◌, ◌-◌, ◌<◌, ◌≤◌, ◌⊎◌, List, get_or, sym, refl, ap, ◌∙◌, ap₂, ⊎_elim, add-zero, suc-add, zero-add, arith, le-ltb, lt-ltb}
+use Rattle.std.proofs.Common.{◌≡◌, ℕ, zero, suc, ◌+◌, ◌-◌, ◌<◌, ◌≤◌, List, get_or, sym, refl, ap, ◌∙◌, add-zero, suc-add, zero-add, arith, le-ltb, lt-ltb}
 use Rattle.sha1_definition.specs.declared.State.{State}
-use Rattle.sha1_definition.specs.Sha1.{plus, rotl, choose, parity, majority, f, k, turned, round, rounds}
+use Rattle.sha1_definition.specs.Sha1.{choose, parity, majority, f, k, turned, round, rounds}
 
 module _ (w : List ℕ) where
   pub rounds_more : (t end : ℕ) (s : State) → t < end → rounds w (t + 1) (end - (t + 1)) (round w t s) ≡ rounds w t (end - t) s
@@ -27,34 +27,25 @@ module _ (w : List ℕ) where
   four_twenties s =
       sym (rounds_split 20 60 0 s ∙ rounds_split 20 40 20 (rounds w 0 20 s) ∙ rounds_split 20 20 40 (rounds w 20 20 (rounds w 0 20 s)))
 
-  module _ (t : ℕ) (s : State) where
-    pub first_round : t < 20 → turned (choose s.b s.c s.d) (get_or w t 0) 0x5A827999 s ≡ round w t s
-    unfolding round f k
-    first_round h = rw (lt-ltb t 20 h)
+  -- one round more of those up to `end`
+  pub next_round : (t end ft kt : ℕ) (s s' : State) → t < end → ft ≡ f t s.b s.c s.d → kt ≡ k t → s' ≡ turned ft (get_or w t 0) kt s → rounds w (t + 1) (end - (t + 1)) s' ≡ rounds w t (end - t) s
+  unfolding round
+  next_round t end ft kt s s' h ef ek e = rw (e, ef, ek) (rounds_more t end s h)
 
-    pub third_round : 40 ≤ t → t < 60 → turned (majority s.b s.c s.d) (get_or w t 0) 0x8F1BBCDC s ≡ round w t s
-    unfolding round f k
-    third_round h h' = rw (le-ltb t 20 (omega arith), le-ltb t 40 h, lt-ltb t 60 h')
+-- the functions and the constants of the rounds, twenty by twenty
+module _ (t b c d : ℕ) where
+  pub first_is : t < 20 → (choose b c d ≡ f t b c d) × (0x5A827999 ≡ k t)
+  unfolding f k
+  first_is h = rw (lt-ltb t 20 h) (refl, refl)
 
-    second_round : 20 ≤ t → t < 40 → turned (parity s.b s.c s.d) (get_or w t 0) (k 20) s ≡ round w t s
-    unfolding round f k
-    second_round h h' = rw (le-ltb t 20 h, lt-ltb t 40 h')
+  pub second_is : 20 ≤ t → t < 40 → (parity b c d ≡ f t b c d) × (0x6ED9EBA1 ≡ k t)
+  unfolding f k
+  second_is h h' = rw (le-ltb t 20 h, lt-ltb t 40 h') (refl, refl)
 
-    last_round : 60 ≤ t → turned (parity s.b s.c s.d) (get_or w t 0) (k 60) s ≡ round w t s
-    unfolding round f k
-    last_round h = rw (le-ltb t 20 (omega arith), le-ltb t 40 (omega arith), le-ltb t 60 h)
+  pub third_is : 40 ≤ t → t < 60 → (majority b c d ≡ f t b c d) × (0x8F1BBCDC ≡ k t)
+  unfolding f k
+  third_is h h' = rw (le-ltb t 20 (omega arith), le-ltb t 40 h, lt-ltb t 60 h') (refl, refl)
 
-    pub parity_round : (from : ℕ) → (from ≡ 20) ⊎ (from ≡ 60) → from ≤ t → t < from + 20
-        → turned (parity s.b s.c s.d) (get_or w t 0) (k from) s ≡ round w t s
-    parity_round from o h h' =
-        ⊎_elim (λ e. rw e (second_round (omega arith) (omega arith))) (λ e. rw e (last_round (omega arith))) o
-
--- a round from its sums
-module _ (ft wt kt : ℕ) (s : State) (r x y z p q : ℕ) where
-  pub turned_is : r ≡ rotl 5 s.a → x ≡ plus r ft → y ≡ plus x s.e → z ≡ plus y wt → p ≡ plus z kt → q ≡ rotl 30 s.b
-      → ◌≡◌ {A = State} (record { a = p; b = s.a; c = q; d = s.c; e = s.d }) (turned ft wt kt s)
-  unfolding turned
-  turned_is er ex ey ez ep eq =
-      let sums : p ≡ plus (plus (plus (plus (rotl 5 s.a) ft) s.e) wt) kt =
-      ep ∙ ap (λ (n : ℕ). plus n kt) (ez ∙ ap (λ (n : ℕ). plus n wt) (ey ∙ ap (λ (n : ℕ). plus n s.e) (ex ∙ ap (λ (n : ℕ). plus n ft) er))) in
-      ap₂ (λ (m n : ℕ). record { a = m; b = s.a; c = n; d = s.c; e = s.d }) sums eq
+  pub last_is : 60 ≤ t → (parity b c d ≡ f t b c d) × (0xCA62C1D6 ≡ k t)
+  unfolding f k
+  last_is h = rw (le-ltb t 20 (omega arith), le-ltb t 40 (omega arith), le-ltb t 60 h) (refl, refl)

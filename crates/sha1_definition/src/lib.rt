@@ -2,7 +2,7 @@
 #![tactic(auto)]
 
 // The five words.
-#[derive(Clone, Copy)]
+#[derive(Clone, Copy, Debug, PartialEq, Eq)]
 pub struct State {
     pub a: u32,
     pub b: u32,
@@ -13,7 +13,7 @@ pub struct State {
 
 // Five words again: the answer.
 #[repr(C)]
-#[derive(Clone, Copy)]
+#[derive(Clone, Copy, Debug, PartialEq, Eq)]
 pub struct Digest {
     pub h0: u32,
     pub h1: u32,

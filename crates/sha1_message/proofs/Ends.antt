@@ -1,10 +1,23 @@
 -- The padding: the last chunk or two of a message.
-use Rattle.std.proofs.Common.{◌≡◌, ℕ, ◌+◌, ◌-◌, ◌*◌, ◌/◌, ◌%◌, ◌^◌, ◌<◌, ◌≤◌, List, ◌∷◌, ◌++◌, length, take, drop, replicate, sym, refl, ap, ◌∙◌, ap₂, append_assoc, arith, length-append, length-drop, take-append-drop, length-take-le, take_at}
+use Rattle.std.proofs.Common.{◌≡◌, ℕ, ◌+◌, ◌-◌, ◌*◌, ◌/◌, ◌%◌, ◌^◌, ◌<◌, ◌≤◌, List, [], ◌∷◌, ◌++◌, length, take, drop, replicate, sym, refl, ap, ◌∙◌, ap₂, append_assoc, append-nil, arith, drop_of_length-le, length-append, length-drop, take-append-drop, length-take-le, take_at}
+use lib.Seq.{drop_at}
+use borrow.Rule.Slice.PartMut.{put_mid}
 use lib.ListN.{length-replicate, replicate-append-replicate}
 use Rattle.sha1_definition.specs.declared.State.{State}
 use Rattle.sha1_definition.specs.Sha1.{bytes_of, compress, absorbed, zeros, padding, digest_in}
 use Rattle.sha1_definition.specs.Chunks.{finished}
 use Rattle.sha1_definition.proofs.Absorb.{absorbed_append, absorbed_next, absorbed_one, absorbed_cut}
+
+-- two words' bytes written at the end of a chunk
+pub two_parts : (l a b : List ℕ) → length l ≡ 64 → length a ≡ 4 → length b ≡ 4 → put_mid 60 4 (put_mid 56 4 l a) b ≡ take 56 l ++ (a ++ b)
+two_parts l a b h ha hb =
+    let p : List ℕ = take 56 l ++ a in
+    let r : List ℕ = drop 4 (drop 56 l) in
+    let e : take 56 l ++ (a ++ r) ≡ p ++ r = sym (append_assoc (take 56 l) a r) in
+    let lp : length p ≡ 60 = omega (arith, length-append (take 56 l) a, length-take-le 56 l (omega arith)) in
+    let z : drop 4 r ≡ [] = drop_of_length-le r {i = 4} (omega (arith, length-drop 4 (drop 56 l), length-drop 56 l)) in
+    ap (λ (x : List ℕ). take 60 x ++ (b ++ drop 4 (drop 60 x))) e
+    ∙ rw (take_at p r 60 lp, drop_at p r 60 lp, z, append-nil) (append_assoc (take 56 l) a b)
 
 -- a tail with the byte 128, m zeros and the length's two words
 abbrev ended : List ℕ → ℕ → ℕ → ℕ → List ℕ

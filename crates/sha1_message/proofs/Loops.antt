@@ -1,25 +1,19 @@
 -- What the loops over a message's chunks need.
-use Rattle.std.proofs.Common.{◌≡◌, ℕ, suc, ◌+◌, ◌-◌, ◌*◌, ◌/◌, ◌<◌, ◌≤◌, List, length, take, drop, replicate, sym, refl, ap, ◌∙◌, arith, drop-drop}
+use Rattle.std.proofs.Common.{◌≡◌, ℕ, ◌+◌, ◌*◌, ◌/◌, ◌<◌, List, ◌++◌, length, replicate, sym, refl, ap, ◌∙◌, arith}
 use lib.ListN.{length-replicate, replicate-append-replicate}
 use Rattle.sha1_definition.specs.declared.State.{State}
 use Rattle.sha1_definition.specs.Sha1.{compress, absorb, absorbed}
-use Rattle.sha1_definition.proofs.Absorb.{absorbed_append, absorbed_one}
+use Rattle.sha1_definition.proofs.Absorb.{absorbed_append, absorbed_next, absorbed_one}
 
--- the loop over the chunks of a list
-module _ (bytes : List ℕ) (at : ℕ) (h : State) where
-  pub absorb_more : 64 ≤ length bytes - at
-      → absorb ((length bytes - (at + 64)) / 64) (compress h (take 64 (drop at bytes))) (drop (at + 64) bytes) ≡ absorb ((length bytes - at) / 64) h (drop at bytes)
-  unfolding absorb
-  absorb_more p =
-      let e : (length bytes - at) / 64 ≡ suc ((length bytes - (at + 64)) / 64) = omega arith in
-      ap (absorb ((length bytes - (at + 64)) / 64) (compress h (take 64 (drop at bytes)))) (sym (drop-drop 64 at bytes))
-      ∙ ap (λ (i : ℕ). absorb i h (drop at bytes)) (sym e)
+-- a chunk of those that are left, and fewer bytes than one
+pub absorb_chunk : (h h' : State) (rest rest' chunk : List ℕ) → rest ≡ chunk ++ rest' → length chunk ≡ 64 → h' ≡ compress h chunk → absorbed h' rest' ≡ absorbed h rest
+absorb_chunk h h' rest rest' chunk e l q = rw (e, q) (sym (absorbed_next h chunk rest' l))
 
-  pub absorb_none : length bytes - at < 64 → absorb ((length bytes - at) / 64) h (drop at bytes) ≡ h
-  unfolding absorb
-  absorb_none p =
-      let e : (length bytes - at) / 64 ≡ 0 = omega arith in
-      rw e
+pub absorb_none : (h : State) (rest : List ℕ) → length rest < 64 → absorbed h rest ≡ h
+unfolding absorbed absorb
+absorb_none h rest p =
+    let e : length rest / 64 ≡ 0 = omega arith in
+    rw e
 
 -- one byte throughout
 module _ (h : State) (byte : ℕ) where

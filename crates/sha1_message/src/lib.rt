@@ -13,14 +13,8 @@ fn with_length(chunk: [u8; 64], high: u32, low: u32) -> [u8; 64]
     ensures { result ≡ take 56 chunk ++ (bytes_of high ++ bytes_of low) }
 {
     let mut out = chunk;
-    out[56] = (high / 16777216 % 256) as u8;
-    out[57] = (high / 65536 % 256) as u8;
-    out[58] = (high / 256 % 256) as u8;
-    out[59] = (high % 256) as u8;
-    out[60] = (low / 16777216 % 256) as u8;
-    out[61] = (low / 65536 % 256) as u8;
-    out[62] = (low / 256 % 256) as u8;
-    out[63] = (low % 256) as u8;
+    out[56..60].copy_from_slice(&high.to_be_bytes());
+    out[60..64].copy_from_slice(&low.to_be_bytes());
     out
 }
 
@@ -30,12 +24,8 @@ fn padded(tail: &[u8]) -> [u8; 64]
     ensures { result ≡ tail.now ++ (128 ∷ replicate (63 - length tail.now) 0) }
 {
     let mut out = [0u8; 64];
-    let mut i: usize = 0;
-    while i < tail.len() {
-        out[i] = tail[i];
-        i += 1;
-    }
-    out[i] = 128;
+    out[..tail.len()].copy_from_slice(tail);
+    out[tail.len()] = 128;
     out
 }
 
@@ -44,11 +34,8 @@ pub fn absorb_all(h: State, bytes: &[u8]) -> State
     ensures { result ≡ absorbed h bytes.now }
 {
     let mut s = h;
-    let mut at: usize = 0;
-    while 64 <= bytes.len() - at {
-        let end = at + 64;
-        s = sha1_chunk::compress(s, &bytes[at..end]);
-        at = end;
+    for chunk in bytes.chunks_exact(64) {
+        s = sha1_chunk::compress(s, chunk);
     }
     s
 }
@@ -58,10 +45,8 @@ pub fn absorb_same(h: State, byte: u8, chunks: u64) -> State
     ensures { result ≡ absorbed h (replicate (64 * chunks) byte) }
 {
     let mut s = h;
-    let mut i: u64 = 0;
-    while i < chunks {
+    for _ in 0..chunks {
         s = sha1_chunk::compress_filled(s, byte);
-        i += 1;
     }
     s
 }
@@ -88,7 +73,7 @@ pub fn finish(h: State, rest: &[u8], chunks: u64) -> Digest
 {
     let n = rest.len();
     let whole = n / 64;
-    let total = std::num::wrapping_add_u64(chunks, whole as u64);
+    let total = chunks.wrapping_add(whole as u64);
     let high = (total / 8388608 % 4294967296) as u32;
     let low = ((total % 8388608) * 512 + ((n % 64) as u64) * 8) as u32;
     let s = absorb_all(h, rest);
@@ -127,34 +112,18 @@ pub fn filled(byte: u8, chunks: u64) -> Digest
 pub fn digest_bytes(d: Digest) -> [u8; 20]
     ensures { result ≡ digest_bytes d }
 {
-    [
-        (d.h0 / 16777216 % 256) as u8,
-        (d.h0 / 65536 % 256) as u8,
-        (d.h0 / 256 % 256) as u8,
-        (d.h0 % 256) as u8,
-        (d.h1 / 16777216 % 256) as u8,
-        (d.h1 / 65536 % 256) as u8,
-        (d.h1 / 256 % 256) as u8,
-        (d.h1 % 256) as u8,
-        (d.h2 / 16777216 % 256) as u8,
-        (d.h2 / 65536 % 256) as u8,
-        (d.h2 / 256 % 256) as u8,
-        (d.h2 % 256) as u8,
-        (d.h3 / 16777216 % 256) as u8,
-        (d.h3 / 65536 % 256) as u8,
-        (d.h3 / 256 % 256) as u8,
-        (d.h3 % 256) as u8,
-        (d.h4 / 16777216 % 256) as u8,
-        (d.h4 / 65536 % 256) as u8,
-        (d.h4 / 256 % 256) as u8,
-        (d.h4 % 256) as u8,
-    ]
+    let mut out = [0; 20];
+    out[..4].copy_from_slice(&d.h0.to_be_bytes());
+    out[4..8].copy_from_slice(&d.h1.to_be_bytes());
+    out[8..12].copy_from_slice(&d.h2.to_be_bytes());
+    out[12..16].copy_from_slice(&d.h3.to_be_bytes());
+    out[16..20].copy_from_slice(&d.h4.to_be_bytes());
+    out
 }
 
 // Whether the part is the digest's 20 bytes.
 pub fn same_digest(d: Digest, part: &[u8]) -> bool
     ensures { Decides result (part.now ≡ digest_bytes d) }
 {
-    let bytes = digest_bytes(d);
-    check::same(part, &bytes)
+    check::same(part, &digest_bytes(d))
 }

@@ -1,5 +1,5 @@
 -- A till's words split at a held version.
-use mathlib.Core.Path.{◌≡◌, refl, sym, ap, ◌∙◌, subst}
+use mathlib.Core.Path.{◌≡◌, refl, sym, ap, ◌∙◌}
 use mathlib.Core.List.{List, [], ◌∷◌, ◌++◌, map, append_assoc}
 use Prim.Native.Nat.{ℕ, suc, ◌+◌, ◌-◌, ◌*◌, ◌≤◌, ◌<◌}
 use native.Mathlib.Nat.{mul-le-mul_right, suc-mul, add-mul}
@@ -39,14 +39,6 @@ pub slot_room : (b j : ℕ) (till : List ℕ) → HasSlot b j till → (4 + j * 
 slot_room b j till h =
     let m : suc j * (3 + b) ≤ get_or till 1 0 * (3 + b) = mul-le-mul_right (3 + b) h.held in
     (omega (arith, m, suc-mul j (3 + b), h.slots), omega (arith, m, suc-mul j (3 + b), h.slots, h.long))
-
-pub slot_still : (b j : ℕ) (till new : List ℕ) → HasSlot b j till → length new ≡ length till → get_or new 1 0 ≡ get_or till 1 0 → HasSlot b j new
-slot_still b j till new h l e = record {
-  small = h.small;
-  long = omega (arith, h.long, l);
-  held = omega (arith, h.held, e);
-  slots = subst (λ (k : ℕ). 4 + k * (3 + b) ≤ length new) (sym e) (omega (arith, h.slots, l));
-}
 
 -- words from a place on leave the head
 pub head_still : (s : ℕ) (till rest : List ℕ) → 2 ≤ s → s ≤ length till → get_or (take s till ++ rest) 1 0 ≡ get_or till 1 0
@@ -173,7 +165,7 @@ Puts b j pws till one =
     → till ≡ till_to_words v b (record { last = last; rights = rights; versions = older ++ (u ∷ newer) }) → pws ≡ map pointer_word ps → length ps ≡ length u.pointers
     → one ≡ till_to_words v b (record { last = last; rights = rights; versions = older ++ (with_pointers u ps ∷ newer) })
 
-abbrev Drops : ℕ → ℕ → List ℕ → List ℕ → Type 0
+abbrev pub Drops : ℕ → ℕ → List ℕ → List ℕ → Type 0
 Drops b j till one =
     (v last : ℕ) (rights : List Rights) (older : List Version) (u : Version) (newer : List Version) → length older ≡ j → length (older ++ (u ∷ newer)) ≤ v
     → till ≡ till_to_words v b (record { last = last; rights = rights; versions = older ++ (u ∷ newer) }) → one ≡ till_to_words v b (record { last = last; rights = rights; versions = older ++ newer })

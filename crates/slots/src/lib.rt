@@ -7,23 +7,13 @@ ghost use Rattle.model.specs.Table.{pointer_word, till_to_words};
 ghost use Rattle.model.specs.Calls.{newest_pointers, with_newest_pointers};
 ghost use Rattle.slots.specs.Slots.{HasSlot};
 
-// One less in the count of held versions.
-fn one_held_less(till: &mut [u32])
-    requires { (2 ≤ length till.old) × (0 < get_or till.old 1 0) }
-    ensures { till.new ≡ set till.old 1 (get_or till.old 1 0 - 1) }
-{
-    let held = till[1];
-    till[1] = held - 1;
-}
-
 // Pointer words over those of the version at place j of those held, the oldest first, for images of b blocks.
 fn put_pointers(till: &mut [u32], b: usize, j: usize, pointers: &[u32])
     requires { HasSlot b j till.old × (length pointers.now ≤ b) }
     ensures { ((v last : ℕ) (rights : List Rights) (older : List Version) (u : Version) (newer : List Version) (ps : List Pointer) → length older ≡ j → length (older ++ (u ∷ newer)) ≤ v → till.old ≡ till_to_words v b (record { last = last; rights = rights; versions = older ++ (u ∷ newer) }) → pointers.now ≡ map pointer_word ps → length ps ≡ length u.pointers → till.new ≡ till_to_words v b (record { last = last; rights = rights; versions = older ++ (with_pointers u ps ∷ newer) })) × (get_or till.new 1 0 ≡ get_or till.old 1 0) }
 {
     let start = 4 + j * (3 + b) + 3;
-    let end = start + b;
-    words::copy_in(pointers, &mut till[start..end]);
+    words::copy_in(pointers, &mut till[start..start + b]);
 }
 
 // The version at place j goes, and the later slots move down.
@@ -31,7 +21,7 @@ fn drop_slot(till: &mut [u32], b: usize, j: usize)
     requires { HasSlot b j till.old }
     ensures { (v last : ℕ) (rights : List Rights) (older : List Version) (u : Version) (newer : List Version) → length older ≡ j → length (older ++ (u ∷ newer)) ≤ v → till.old ≡ till_to_words v b (record { last = last; rights = rights; versions = older ++ (u ∷ newer) }) → till.new ≡ till_to_words v b (record { last = last; rights = rights; versions = older ++ newer }) }
 {
-    one_held_less(till);
+    till[1] -= 1;
     let start = 4 + j * (3 + b);
     words::shift(&mut till[start..], 3 + b);
 }
@@ -41,10 +31,8 @@ pub fn close_up(till: &mut [u32], b: usize, j: usize, pointers: &[u32])
     requires { HasSlot b j till.old × (length pointers.now ≤ b) }
     ensures { (v last : ℕ) (rights : List Rights) (older : List Version) (u : Version) (newer : List Version) (ps : List Pointer) → length older ≡ j → length (older ++ (u ∷ newer)) ≤ v → till.old ≡ till_to_words v b (record { last = last; rights = rights; versions = older ++ (u ∷ newer) }) → pointers.now ≡ map pointer_word ps → length ps ≡ length (newest_pointers older) → till.new ≡ till_to_words v b (record { last = last; rights = rights; versions = with_newest_pointers older ps ++ newer }) }
 {
-    if j == 0 {
-        drop_slot(till, b, j);
-        return;
+    if j > 0 {
+        put_pointers(till, b, j - 1, pointers);
     }
-    put_pointers(till, b, j - 1, pointers);
     drop_slot(till, b, j);
 }

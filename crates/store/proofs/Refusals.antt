@@ -1,9 +1,10 @@
 -- Refusal 10, whoever the user is, and what an accepted check tells.
-use mathlib.Core.Path.{◌≡◌, sym, ◌∙◌}
-use mathlib.Core.Bool.{Bool, true, false, not}
+use mathlib.Core.Path.{◌≡◌, refl, sym, ◌∙◌}
+use mathlib.Core.Bool.{Bool, true, false, cond, not}
 use mathlib.Core.List.{List, []}
 use mathlib.Core.Option.{Option, none}
 use Prim.Native.Nat.{ℕ}
+use native.Mathlib.Omega.{arith}
 use borrow.Author.Tests.{not-true, not-false}
 use Rattle.lists.specs.Lists.{is_some}
 use Rattle.lists.specs.Rows.{fill}
@@ -18,7 +19,19 @@ use Rattle.stream.specs.Version.{write_restored, write_stream_of, write_stream_a
 use Rattle.bill.specs.Bill.{BillAnswer, bill_refused, bill_in, bill_of, bill_as}
 use Rattle.closing.specs.Closing.{all_refused, backup_all_in, backup_all_as}
 use Rattle.sent.specs.Sent.{OfferAnswer, offer_in, offer_of, offer_as, backup_sent_in, backup_sent_by, backup_sent_of, backup_sent_as}
+use Rattle.refusals.specs.declared.Refusal.{Refusal}
+use Rattle.refusals.specs.Refusals.{number_of}
+use Rattle.refusals.proofs.Numbers.{not_accepted}
 use Rattle.laws.proofs.Stores.{sound_if, none_if}
+
+-- what the check answers tells whether there is a store
+pub passed : (b : Bool) → ◌≡◌ {A = ℕ} 0 (cond b 0 10) → not b ≡ false
+passed true e = refl
+passed false e = absurd (omega (arith, e))
+
+pub unsound : (r : Refusal) (b : Bool) → number_of r ≡ cond b 0 10 → (not b ≡ true) × (number_of r ≡ 10)
+unsound r true e = absurd (not_accepted r e)
+unsound r false e = (refl, e)
 
 module _ (pool table : List ℕ) (r : Bool) (e : r ≡ is_some (store_of pool table)) where
   pub is_sound_lem : not r ≡ false → Sound pool table

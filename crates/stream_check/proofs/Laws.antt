@@ -14,17 +14,47 @@ use Rattle.lists.proofs.Slices.{drop_take}
 use Rattle.stream.specs.Stream.{Read, passed, stopped, and_then, may_stand, read_block, read_end, read_body}
 use Rattle.stream_laws.proofs.Steps.{Alike, alike_then, then_alike, then_refused, groups_of, groups_none, block_null, block_short, block_bad, block_good, body_is_then, end_none, end_more}
 use Rattle.stream_check.specs.Answers.{ReadsTo}
-use Rattle.stream_check.specs.declared.Place.{Place}
+use Rattle.std.specs.Prelude.{Ok, Err}
+use Rattle.refusals.specs.declared.Refusal.{Refusal}
+use Rattle.refusals.specs.declared.Refusal.TheVariants.{Capacity, Lengths, NoSuchTill, ImageLength, ShortOutput, Unsound, TillFull, NumbersSpent, NoRecord, NoRun, NeverGiven, NoLongerHeld, OtherSegment, NoSegment, OverLimit, UnknownUser, NoRight, StreamSize, StreamLength, StreamBits, NoTurn, EarlierDay, NoneSoEarly, HighPrice}
+use Rattle.refusals.specs.Refusals.{number_of}
 
 -- ---- where a way ends
 
-pub reaches_stop : (x : Read) (s : List ℕ) (at k : ℕ) → 0 < k → x ≡ stopped k → ReadsTo x s (record { refusal = k; at = at })
-unfolding stopped
-reaches_stop x s at k n e = record { told = ap (λ (y : Read). y.refusal) (sym e); within = λ z. absurd (omega (arith, z, n)); rest = λ z. absurd (omega (arith, z, n)) }
+-- an accepted call answers 0, and no refusal has that number
+pub number_some : (r : Refusal) → 0 < number_of r
+number_some Capacity = omega arith
+number_some Lengths = omega arith
+number_some NoSuchTill = omega arith
+number_some ImageLength = omega arith
+number_some ShortOutput = omega arith
+number_some Unsound = omega arith
+number_some TillFull = omega arith
+number_some NumbersSpent = omega arith
+number_some NoRecord = omega arith
+number_some NoRun = omega arith
+number_some NeverGiven = omega arith
+number_some NoLongerHeld = omega arith
+number_some OtherSegment = omega arith
+number_some NoSegment = omega arith
+number_some OverLimit = omega arith
+number_some UnknownUser = omega arith
+number_some NoRight = omega arith
+number_some StreamSize = omega arith
+number_some StreamLength = omega arith
+number_some StreamBits = omega arith
+number_some NoTurn = omega arith
+number_some EarlierDay = omega arith
+number_some NoneSoEarly = omega arith
+number_some HighPrice = omega arith
 
-pub reaches_passed : (x : Read) (s : List ℕ) (at : ℕ) (bytes : List ℕ) → at ≤ length s → x ≡ passed bytes (drop at s) → ReadsTo x s (record { refusal = 0; at = at })
+pub reaches_stop : (x : Read) (s : List ℕ) (r : Refusal) → x ≡ stopped (number_of r) → ReadsTo x s (Err r)
+unfolding stopped
+reaches_stop x s r e = record { told = ap (λ (y : Read). y.refusal) (sym e); within = tt; rest = tt }
+
+pub reaches_passed : (x : Read) (s : List ℕ) (at : ℕ) (bytes : List ℕ) → at ≤ length s → x ≡ passed bytes (drop at s) → ReadsTo x s (Ok at)
 unfolding passed
-reaches_passed x s at bytes h e = record { told = ap (λ (y : Read). y.refusal) (sym e); within = λ z. h; rest = λ z. ap (λ (y : Read). y.rest) (sym e) }
+reaches_passed x s at bytes h e = record { told = ap (λ (y : Read). y.refusal) (sym e); within = h; rest = ap (λ (y : Read). y.rest) (sym e) }
 
 -- ---- a block
 
@@ -62,61 +92,59 @@ module _ (s : List ℕ) (at bit left : ℕ) (h : at ≤ length s) where
           let c : 64 - left ≡ 0 = omega arith in
           rw (b, drop_take left 64 (drop at s), c)
 
-  pub reaches_null : bit ≡ 0 → ReadsTo (read_block bit left (drop at s)) s (record { refusal = 0; at = at })
+  pub reaches_null : bit ≡ 0 → ReadsTo (read_block bit left (drop at s)) s (Ok at)
   reaches_null e = reaches_passed _ s at _ h (block_null bit left (drop at s) e)
 
   module _ (one : bit ≡ 0 → ⊥) where
-    pub reaches_short : length s - at < 64 → ReadsTo (read_block bit left (drop at s)) s (record { refusal = 24; at = at })
-    reaches_short l = reaches_stop _ s at 24 (omega arith) (block_short bit left (drop at s) one (omega (arith, length-drop at s)))
+    pub reaches_short : length s - at < 64 → ReadsTo (read_block bit left (drop at s)) s (Err StreamSize)
+    reaches_short l = reaches_stop _ s StreamSize (block_short bit left (drop at s) one (omega (arith, length-drop at s)))
 
     module _ (l : 64 ≤ length s - at) where
       long : 64 ≤ length (drop at s)
       long = omega (arith, length-drop at s)
 
-      pub reaches_zero : all_zero the_block ≡ true → ReadsTo (read_block bit left (drop at s)) s (record { refusal = 26; at = at })
-      reaches_zero z = reaches_stop _ s at 26 (omega arith) (block_bad bit left (drop at s) one long (may_not left (take 64 (drop at s)) (rw block_is at z)))
+      pub reaches_zero : all_zero the_block ≡ true → ReadsTo (read_block bit left (drop at s)) s (Err StreamBits)
+      reaches_zero z = reaches_stop _ s StreamBits (block_bad bit left (drop at s) one long (may_not left (take 64 (drop at s)) (rw block_is at z)))
 
       -- by the bytes after the length
       may_be : (after : ℕ) → after ≡ at + min left 64 → all_zero the_block ≡ false → (t : Bool) → t ≡ all_zero (the_tail after) → may_stand left (take 64 (drop at s)) ≡ t
       may_be after e z t f = may_by left (take 64 (drop at s)) (rw block_is at z) ∙ ap all_zero (sym tail_is) ∙ ap (λ (k : ℕ). all_zero (the_tail k)) (sym e) ∙ sym f
 
       pub reaches_after : (after : ℕ) → after ≡ at + min left 64 → all_zero the_block ≡ false → all_zero (the_tail after) ≡ false
-          → ReadsTo (read_block bit left (drop at s)) s (record { refusal = 26; at = at })
-      reaches_after after e z f = reaches_stop _ s at 26 (omega arith) (block_bad bit left (drop at s) one long (may_be after e z false (sym f)))
+          → ReadsTo (read_block bit left (drop at s)) s (Err StreamBits)
+      reaches_after after e z f = reaches_stop _ s StreamBits (block_bad bit left (drop at s) one long (may_be after e z false (sym f)))
 
       pub reaches_good : (after : ℕ) → after ≡ at + min left 64 → all_zero the_block ≡ false → all_zero (the_tail after) ≡ true
-          → ReadsTo (read_block bit left (drop at s)) s (record { refusal = 0; at = at + 64 })
+          → ReadsTo (read_block bit left (drop at s)) s (Ok (at + 64))
       reaches_good after e z f =
           reaches_passed _ s (at + 64) (take 64 (drop at s)) (omega arith)
           (block_good bit left (drop at s) one long (may_be after e z true (sym f)) ∙ ap (passed (take 64 (drop at s))) (drop-drop 64 at s))
 
 -- ---- steps
 
-module _ (s : List ℕ) (x a whole : Read) (p : Place) (next : List ℕ → Read) (e : whole ≡ and_then a (next a.rest)) (al : Alike x whole) (r : ReadsTo a s p) where
+module _ (s : List ℕ) (x a whole : Read) (next : List ℕ → Read) (e : whole ≡ and_then a (next a.rest)) (al : Alike x whole) where
   -- an accepted step leaves the rest of the way
-  pub step_on : p.refusal ≡ 0 → Alike x (next (drop p.at s))
-  step_on z =
-      let z' : a.refusal ≡ 0 = sym r.told ∙ z in
-      alike_then al (subst (λ (l : List ℕ). Alike whole (next l)) (sym (r.rest z)) (then_alike whole a (next a.rest) e z'))
+  pub step_on : (at : ℕ) → ReadsTo a s (Ok at) → Alike x (next (drop at s))
+  step_on at r = alike_then al (subst (λ (l : List ℕ). Alike whole (next l)) (sym r.rest) (then_alike whole a (next a.rest) e (sym r.told)))
 
   -- a refused one is the answer
-  pub step_stop : (p.refusal ≡ 0 → ⊥) → p.refusal ≡ x.refusal
-  step_stop n = r.told ∙ sym (then_refused whole a (next a.rest) e (λ z. n (r.told ∙ z))) ∙ sym al.refusal
+  pub step_stop : (k : Refusal) → ReadsTo a s (Err k) → number_of k ≡ x.refusal
+  step_stop k r = r.told ∙ sym (then_refused whole a (next a.rest) e (λ z. omega (arith, number_some k, r.told, z))) ∙ sym al.refusal
 
-  pub reaches_stopped : (p.refusal ≡ 0 → ⊥) → ReadsTo x s p
-  reaches_stopped n = record { told = step_stop n; within = λ z. absurd (n z); rest = λ z. absurd (n z) }
+  pub reaches_stopped : (k : Refusal) → ReadsTo a s (Err k) → ReadsTo x s (Err k)
+  reaches_stopped k r = record { told = step_stop k r; within = tt; rest = tt }
 
 -- the last step is done
-pub reaches_end : (s : List ℕ) (at : ℕ) (x y : Read) → at ≤ length s → Alike x y → y ≡ passed [] (drop at s) → ReadsTo x s (record { refusal = 0; at = at })
+pub reaches_end : (s : List ℕ) (at : ℕ) (x y : Read) → at ≤ length s → Alike x y → y ≡ passed [] (drop at s) → ReadsTo x s (Ok at)
 unfolding passed
-reaches_end s at x y h al e = record { told = sym (al.refusal ∙ ap (λ (y : Read). y.refusal) e); within = λ z. h; rest = λ _. sym (al.rest ∙ ap (λ (y : Read). y.rest) e) }
+reaches_end s at x y h al e = record { told = sym (al.refusal ∙ ap (λ (y : Read). y.refusal) e); within = h; rest = sym (al.rest ∙ ap (λ (y : Read). y.rest) e) }
 
 -- ---- the whole body
 
 module _ (n at : ℕ) (s : List ℕ) where
   -- a refusal on the way
-  pub body_stop : (k : ℕ) → (k ≡ 0 → ⊥) → k ≡ (groups_of n (drop 4 s)).refusal → k ≡ (read_body n (drop 4 s)).refusal
-  body_stop k z e = e ∙ sym (then_refused _ _ _ (body_is_then n (drop 4 s)) (λ q. z (e ∙ q)))
+  pub body_stop : (k : Refusal) → number_of k ≡ (groups_of n (drop 4 s)).refusal → number_of k ≡ (read_body n (drop 4 s)).refusal
+  body_stop k e = e ∙ sym (then_refused _ _ _ (body_is_then n (drop 4 s)) (λ q. omega (arith, number_some k, e, q)))
 
   -- all groups are passed
   module _ (h : at ≤ length s) (al : Alike (groups_of n (drop 4 s)) (groups_of 0 (drop at s))) where

@@ -1,10 +1,8 @@
 -- What the call answers, case by case.
 use mathlib.Core.Path.{◌≡◌, ◌∙◌}
 use mathlib.Core.List.{List, ◌++◌}
-use Prim.Native.Nat.{ℕ, ◌-◌, ◌≤◌, ◌<◌}
-use native.Mathlib.Nat.{sub-zero}
+use Prim.Native.Nat.{ℕ, ◌≤◌, ◌<◌}
 use lib.ListN.{length, take, drop}
-use lib.Seq.{length-take-le}
 use borrow.Author.Tests.{lt-ltb, le-ltb, le-leb, lt-leb, eq-eqb, ne_eqb}
 use Rattle.stream.specs.Stream.{Read, stream_refusal, length_in, read_body, delivered, read_stream}
 use Rattle.stream_laws.proofs.Ranges.{has_yes, has_none, has_more}
@@ -16,16 +14,9 @@ module _ (n : ℕ) (a : Read) (output : List ℕ) where
   unfolding delivered stream_refusal
   body_refused k e z = rw (e, ne_eqb a.refusal 0 (λ q. z (e ∙ q)))
 
-  body_read : (front : List ℕ) → a.refusal ≡ 0 → front ≡ take n a.bytes → record { refusal = 0; length = n; output = front ++ drop n output } ≡ delivered n a output
+  pub body_read : (front : List ℕ) → a.refusal ≡ 0 → front ≡ take n a.bytes → record { refusal = 0; length = n; output = front ++ drop n output } ≡ delivered n a output
   unfolding delivered
   body_read front e f = rw (eq-eqb a.refusal 0 e, f)
-
-  -- the part that was lent
-  pub part_long : n ≤ length output → length (take (n - 0) output) ≡ n
-  part_long h = rw (sub-zero n) (length-take-le n output h)
-
-  pub part_read : (front : List ℕ) → a.refusal ≡ 0 → front ≡ take n a.bytes → record { refusal = 0; length = n; output = front ++ drop (n - 0) output } ≡ delivered n a output
-  part_read front e f = rw (sub-zero n) (body_read front e f)
 
 -- ---- the whole
 

@@ -1,6 +1,6 @@
 -- What an accepted restore wrote fits its output, and is written from there.
 use mathlib.Core.Path.{◌≡◌, refl, sym, ◌∙◌, subst}
-use mathlib.Core.List.{List, [], ◌∷◌}
+use mathlib.Core.List.{List}
 use mathlib.Core.Option.{Option, none, some}
 use Prim.Native.Nat.{ℕ, ◌≤◌}
 use native.Mathlib.Omega.{arith}
@@ -8,9 +8,9 @@ use lib.ListN.{length, take, replicate, length-take}
 use lib.Dec.{ltb, leb}
 use borrow.Author.Tests.{eq-eqb, ne_eqb, ltb-false}
 use Rattle.lists.proofs.Tests.{by_test}
-use Rattle.model.specs.State.{Storage, Version}
+use Rattle.model.specs.State.{Storage}
 use Rattle.model.specs.Sound.{Store, store_of}
-use Rattle.model.specs.Calls.{RestoreAnswer, restore_refusal, restore_from, restore, restore_in, restore_of, held_from, till_of, Lookup, found, missing, look_up}
+use Rattle.model.specs.Calls.{RestoreAnswer, restore_refusal, restore_from, restore, restore_in, restore_of, till_of, Lookup, found, missing, look_up}
 use Rattle.stream.specs.Stream.{StreamAnswer, stream_refusal, write_stream}
 use Rattle.stream.specs.Version.{longest_output, write_restored, write_stream_of}
 

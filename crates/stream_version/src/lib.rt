@@ -5,9 +5,9 @@ ghost use Rattle.std.specs.Prelude.{◌≡◌, ◌≤◌, length};
 ghost use Rattle.model.specs.Calls.{restore_of};
 ghost use Rattle.laws.specs.Stores.{Sound};
 ghost use Rattle.stream.specs.Version.{write_restored, write_stream_of};
-ghost use Rattle.stream_write.specs.Answers.{stream_written};
+ghost use Rattle.stream_write.specs.Answers.{write_result};
 
-use stream_write::StreamWritten;
+use refusals::Refusal;
 
 // The image that is restored goes to the lent array.
 fn write_through(
@@ -17,18 +17,12 @@ fn write_through(
     version: u32,
     image: &mut [u8],
     output: &mut [u8],
-) -> StreamWritten
+) -> Result<u32, Refusal>
     requires { Sound pool.now table.now × (length image.old ≤ 65536) }
-    ensures { stream_written result output.new ≡ write_restored (restore_of pool.now table.now till version image.old) output.old }
+    ensures { write_result result output.new ≡ write_restored (restore_of pool.now table.now till version image.old) output.old }
 {
-    let r = restore::restore_version(pool, table, till, version, image);
-    if r.refusal != 0 {
-        return StreamWritten {
-            refusal: r.refusal,
-            length: 0,
-        };
-    }
-    let end = r.length as usize;
+    let restored = restore::restore_version(pool, table, till, version, image)?;
+    let end = restored.length as usize;
     stream_write::write_stream(&image[..end], output)
 }
 
@@ -38,9 +32,9 @@ pub fn write_version(
     till: u32,
     version: u32,
     output: &mut [u8],
-) -> StreamWritten
+) -> Result<u32, Refusal>
     requires { Sound pool.now table.now }
-    ensures { stream_written result output.new ≡ write_stream_of pool.now table.now till version output.old }
+    ensures { write_result result output.new ≡ write_stream_of pool.now table.now till version output.old }
 {
     let mut image = [0u8; 65536];
     write_through(pool, table, till, version, &mut image, output)

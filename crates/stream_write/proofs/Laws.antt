@@ -27,7 +27,7 @@ use Rattle.stream.specs.Stream.{four_bytes, group_bytes, stream_of}
 use Rattle.stream.specs.Pieces.{block_part}
 use Rattle.stream_laws.proofs.Forward.{part_first, four_long}
 use Rattle.lists.specs.Written.{written}
-use Rattle.lists.proofs.Pieces.{written_none, written_one}
+use Rattle.lists.proofs.Pieces.{Putting, put_room, put_next, put_end, written_none, written_one}
 
 -- ---- blocks
 
@@ -116,9 +116,46 @@ module _ (image : List ℕ) where
       let p : (length image - from + 511) / 512 ≡ 0 = omega arith in
       rw p
 
+  pub length_next : (from : ℕ) → from < length image → length (groups_from from) ≡ length (group_bytes (blocks_from 64 image from 8)) + length (groups_from (from + 512))
+  length_next from h = ap length (groups_next from h) ∙ length-append (group_bytes (blocks_from 64 image from 8)) (groups_from (from + 512))
+
   pub stream_size : length (stream_of image) ≡ 4 + length (groups_from 0)
   unfolding stream_of
   stream_size = length-append (four_bytes (length image)) (rows group_bytes (image_segments 64 8 image)) ∙ omega (arith, four_long (length image), ap length groups_start)
+
+-- ---- pieces that are left to write: there is room for the first, and the others are left after it
+
+module _ (image : List ℕ) (from at₀ : ℕ) {out₀ out : List ℕ} {to : ℕ} (fits : at₀ + length (joined (keep is_filled (blocks_from 64 image from 8))) ≤ length out₀) (i : ℕ) (h : i < 8)
+    (p : Putting out₀ at₀ (bytes_left image from 0) out to (bytes_left image from i)) where
+  abbrev block : List ℕ
+  block = block_part (block_from 64 image (from + i * 64))
+
+  fit_blocks : at₀ + length (bytes_left image from 0) ≤ length out₀
+  fit_blocks = omega (arith, fits, ap length (bytes_start image from))
+
+  pub block_room : to + length block ≤ length out
+  block_room = put_room fit_blocks block (bytes_left image from (i + 1)) (rw (bytes_next image from i h) at p)
+
+  pub block_next : (out' : List ℕ) (to' : ℕ) → to' ≡ to + length block → out' ≡ written out to block → Putting out₀ at₀ (bytes_left image from 0) out' to' (bytes_left image from (i + 1))
+  block_next = put_next fit_blocks block (bytes_left image from (i + 1)) (rw (bytes_next image from i h) at p)
+
+module _ (image : List ℕ) {out₀ out : List ℕ} {at : ℕ} (fits : 4 + length (rows group_bytes (image_segments 64 8 image)) ≤ length out₀) (from : ℕ) (h : from < length image)
+    (p : Putting out₀ 4 (groups_from image 0) out at (groups_from image from)) where
+  abbrev group : List ℕ
+  group = group_bytes (blocks_from 64 image from 8)
+
+  fit_groups : 4 + length (groups_from image 0) ≤ length out₀
+  fit_groups = omega (arith, fits, ap length (groups_start image))
+
+  pub group_room : at + length group ≤ length out
+  group_room = put_room fit_groups group (groups_from image (from + 512)) (rw (groups_next image from h) at p)
+
+  pub group_next : (out' : List ℕ) (to' : ℕ) → to' ≡ at + length group → out' ≡ written out at group → Putting out₀ 4 (groups_from image 0) out' to' (groups_from image (from + 512))
+  group_next = put_next fit_groups group (groups_from image (from + 512)) (rw (groups_next image from h) at p)
+
+pub all_put : (image : List ℕ) {out₀ out : List ℕ} {at from : ℕ} → Putting out₀ 4 (groups_from image 0) out at (groups_from image from) → length image ≤ from
+    → out ≡ written out₀ 4 (rows group_bytes (image_segments 64 8 image))
+all_put image {from = from} p h = rw (groups_start image) (put_end p (groups_end image from h)).1
 
 -- ---- a block that is written where it is not null
 

@@ -9,29 +9,19 @@ ghost use Rattle.model.specs.Image.{block_from, blocks_from, image_segments};
 ghost use Rattle.model.specs.Sound.{is_filled};
 ghost use Rattle.stream.specs.Stream.{four_bytes, group_bytes, stream_of, write_stream};
 ghost use Rattle.stream.specs.Pieces.{block_part};
-ghost use Rattle.stream_write.specs.Answers.{stream_written};
+ghost use Rattle.stream_write.specs.Answers.{write_result};
 ghost use Rattle.lists.specs.Written.{written};
 
 use numbers::Block;
+use refusals::Refusal;
 use stream::Group;
-
-// Refusal 0 is an accepted call.
-#[repr(C)]
-#[derive(Clone, Copy)]
-pub struct StreamWritten {
-    pub refusal: u32,
-    pub length: u32,
-}
 
 // 0 for a null block, else 1.
 fn block_mark(image: &[u8], at: usize) -> u32
     requires { at ≤ 131072 }
     ensures { (result ≡ cond (is_filled (block_from 64 image.now at)) 1 0) × (result ≤ 1) }
 {
-    if blocks::block_zero(image, at, Block::BYTES) {
-        return 0;
-    }
-    1
+    u32::from(!blocks::block_zero(image, at, Block::BYTES))
 }
 
 // The bit map of the eight blocks from a byte on, the last block first.
@@ -39,10 +29,8 @@ fn group_map(image: &[u8], from: usize) -> u32
     requires { from ≤ 65536 }
     ensures { (result ≡ mask_of is_filled (blocks_from 64 image.now from 8)) × (result < 256) }
 {
-    let mut m: u32 = 0;
-    let mut i: usize = Group::BLOCKS;
-    while 0 < i {
-        i = i - 1;
+    let mut m = 0;
+    for i in (0..Group::BLOCKS).rev() {
         m = block_mark(image, from + i * Block::BYTES) + 2 * m;
     }
     m
@@ -53,7 +41,7 @@ fn group_length(image: &[u8], from: usize) -> usize
     requires { from ≤ 65536 }
     ensures { (result ≡ length (group_bytes (blocks_from 64 image.now from 8))) × (result ≤ 513) }
 {
-    let ones = u32::count_ones(group_map(image, from));
+    let ones = group_map(image, from).count_ones();
     1 + Block::BYTES * ones as usize
 }
 
@@ -62,11 +50,9 @@ fn stream_length(image: &[u8]) -> usize
     requires { length image.now ≤ 65536 }
     ensures { (result ≡ length (stream_of image.now)) × (result ≤ 132100) }
 {
-    let mut n: usize = 4;
-    let mut from: usize = 0;
-    while from < image.len() {
-        n = n + group_length(image, from);
-        from = from + Group::BYTES;
+    let mut n = 4;
+    for from in (0..image.len()).step_by(Group::BYTES) {
+        n += group_length(image, from);
     }
     n
 }
@@ -90,10 +76,8 @@ fn put_blocks(image: &[u8], from: usize, output: &mut [u8], at: usize) -> usize
     ensures { (result ≡ at + length (joined (keep is_filled (blocks_from 64 image.now from 8)))) × (output.new ≡ written output.old at (joined (keep is_filled (blocks_from 64 image.now from 8)))) }
 {
     let mut to = at;
-    let mut i: usize = 0;
-    while i < Group::BLOCKS {
+    for i in 0..Group::BLOCKS {
         to = put_if(image, from + i * Block::BYTES, output, to);
-        i = i + 1;
     }
     to
 }
@@ -113,23 +97,18 @@ fn put_groups(image: &[u8], output: &mut [u8])
     requires { (length image.now ≤ 65536) × (4 + length (rows group_bytes (image_segments 64 8 image.now)) ≤ length output.old) }
     ensures { output.new ≡ written output.old 4 (rows group_bytes (image_segments 64 8 image.now)) }
 {
-    let mut at: usize = 4;
-    let mut from: usize = 0;
-    while from < image.len() {
+    let mut at = 4;
+    for from in (0..image.len()).step_by(Group::BYTES) {
         at = put_group(image, from, output, at);
-        from = from + Group::BYTES;
     }
 }
 
 // A number in four bytes, lowest first, at the front of the output.
-fn put_length(n: usize, output: &mut [u8])
+fn put_length(n: u32, output: &mut [u8])
     requires { 4 ≤ length output.old }
     ensures { output.new ≡ written output.old 0 (four_bytes n) }
 {
-    output[0] = (n % 256) as u8;
-    output[1] = (n / 256 % 256) as u8;
-    output[2] = (n / 65536 % 256) as u8;
-    output[3] = (n / 16777216 % 256) as u8;
+    output[..4].copy_from_slice(&n.to_le_bytes());
 }
 
 // The whole stream, to the front of the output.
@@ -137,25 +116,19 @@ fn put_stream(image: &[u8], output: &mut [u8])
     requires { (length image.now ≤ 65536) × (length (stream_of image.now) ≤ length output.old) }
     ensures { output.new ≡ written output.old 0 (stream_of image.now) }
 {
-    put_length(image.len(), output);
+    put_length(image.len() as u32, output);
     put_groups(image, output);
 }
 
 // An image's stream, to the front of the output.
-pub fn write_stream(image: &[u8], output: &mut [u8]) -> StreamWritten
+pub fn write_stream(image: &[u8], output: &mut [u8]) -> Result<u32, Refusal>
     requires { length image.now ≤ 65536 }
-    ensures { stream_written result output.new ≡ write_stream image.now output.old }
+    ensures { write_result result output.new ≡ write_stream image.now output.old }
 {
     let n = stream_length(image);
     if output.len() < n {
-        return StreamWritten {
-            refusal: 5,
-            length: 0,
-        };
+        return Err(Refusal::ShortOutput);
     }
     put_stream(image, output);
-    StreamWritten {
-        refusal: 0,
-        length: n as u32,
-    }
+    Ok(n as u32)
 }

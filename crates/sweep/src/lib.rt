@@ -22,10 +22,8 @@ pub fn sweep_marked(pool: &mut [u8], words: &mut [u32], occupied: &mut [bool], m
     ensures { EncodesMarked (measures_of m) pool.new words.new occupied.new (sweep (measures_of m) (storage_in (measures_of m) pool.old words.old)) }
 {
     let n = numbers::rows(words.len(), m.blocks);
-    let mut k: usize = 0;
-    while k < n {
+    for k in 0..n {
         sweep_record::sweep_record(pool, words, occupied, RecordNumber(k as u32), m);
-        k = k + 1;
     }
 }
 
@@ -36,12 +34,10 @@ fn mark_record(words: &[u32], occupied: &mut [bool], number: RecordNumber, n: us
     ensures { occupied.new ≡ marked (cells_of (segment_at n words.now number.0)) occupied.old }
 {
     let at = number.word(n);
-    if words[at] == 0 {
-        return;
+    if words[at] != 0 {
+        let from = at + 3;
+        pool::take_marked(occupied, words[at], &words[from..from + n]);
     }
-    let from = at + 3;
-    let end = from + n;
-    pool::take_marked(occupied, words[at], &words[from..end]);
 }
 
 // The cells that the records name are marked.
@@ -51,10 +47,8 @@ pub fn mark_named(words: &[u32], occupied: &mut [bool], n: usize)
     ensures { occupied.new ≡ marked (named_cells (records_in n words.now)) occupied.old }
 {
     let count = numbers::rows(words.len(), n);
-    let mut k: usize = 0;
-    while k < count {
+    for k in 0..count {
         mark_record(words, occupied, RecordNumber(k as u32), n);
-        k = k + 1;
     }
 }
 
@@ -81,10 +75,8 @@ pub fn sweep_all(pool: &mut [u8], words: &mut [u32], m: Measures)
 fn flip(marks: &mut [bool])
     ensures { marks.new ≡ map not marks.old }
 {
-    let mut i: usize = 0;
-    while i < marks.len() {
-        marks[i] = !marks[i];
-        i = i + 1;
+    for mark in marks.iter_mut() {
+        *mark = !*mark;
     }
 }
 

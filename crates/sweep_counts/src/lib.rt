@@ -12,12 +12,6 @@ ghost use Rattle.storage.specs.Fits.{WithinRecords, NamesHeld};
 
 use numbers::{Pointer, RecordNumber};
 
-fn one_less(n: u32) -> u32
-    ensures { result ≡ pred n }
-{
-    if n == 0 { 0 } else { n - 1 }
-}
-
 // Where the count of a position stands, of n in a record.
 fn count_at(number: RecordNumber, position: u32, n: usize) -> usize
     requires { (n ≤ 16) × (position < n) }
@@ -32,8 +26,7 @@ pub fn lower_at(words: &mut [u32], number: RecordNumber, position: u32, n: usize
     ensures { let at = number.0 * record_words n + (3 + n + position) in words.new ≡ set words.old at (pred (get_or words.old at 0)) }
 {
     let at = count_at(number, position, n);
-    let count = words[at];
-    words[at] = one_less(count);
+    words[at] = words[at].saturating_sub(1);
 }
 
 // The same for the position that a pointer names, if it is direct.
@@ -53,21 +46,19 @@ pub fn release(words: &mut [u32], pointers: &[u32], n: usize)
     requires by_index { (i : ℕ) → i < length pointers.now → WithinRecords n (length words.old) (word_to_pointer (get_or pointers.now i 0)) }
     ensures { EncodesRecords n words.new (change_all one_less (records_in n words.old) (map word_to_pointer pointers.now)) }
 {
-    let mut i: usize = 0;
-    while i < pointers.len() {
-        lower(words, Pointer(pointers[i]), n);
-        i = i + 1;
+    for word in pointers {
+        lower(words, Pointer(*word), n);
     }
 }
 
 // One more at the count of a position, of n.
+// Kept: the new form is no plainer: a shared function that takes the change would need `F.pre` and `F.post` clauses for a body of two lines.
 fn raise_at(words: &mut [u32], number: RecordNumber, position: u32, n: usize)
     requires { (n ≤ 16) × (number.0 * record_words n + record_words n ≤ length words.old) × (position < n) × (get_or words.old (number.0 * record_words n + (3 + n + position)) 0 + 1 < 2 ^ 32) }
     ensures { let at = number.0 * record_words n + (3 + n + position) in words.new ≡ set words.old at (get_or words.old at 0 + 1) }
 {
     let at = count_at(number, position, n);
-    let count = words[at];
-    words[at] = count + 1;
+    words[at] += 1;
 }
 
 // The same for the position that a pointer names, if it is direct: it is held.
@@ -89,9 +80,7 @@ pub fn claim(words: &mut [u32], pointers: &[u32], n: usize)
     requires by_index_2 { (k i : ℕ) → count_of (position_in (records_in n words.old) k i) + length pointers.now < 2 ^ 32 }
     ensures { EncodesRecords n words.new (change_all one_more (records_in n words.old) (map word_to_pointer pointers.now)) }
 {
-    let mut i: usize = 0;
-    while i < pointers.len() {
-        raise(words, Pointer(pointers[i]), n);
-        i = i + 1;
+    for word in pointers {
+        raise(words, Pointer(*word), n);
     }
 }

@@ -26,8 +26,7 @@ pub fn free_record(
     requires loaded { Loaded m.blocks words.old number.0 old unreferenced }
     ensures { EncodesMarked (measures_of m) pool.new words.new occupied.new (freed (measures_of m) pool.old words.old number.0) }
 {
-    let cells = old.cells;
-    pool::clear_marked(pool, occupied, old.held, cells, m.bytes);
+    pool::clear_marked(pool, occupied, old.held, old.cells, m.bytes);
     let new = Record::free(m.blocks);
     new.store(words, number, m.blocks);
 }
@@ -46,8 +45,7 @@ pub fn strike_record(
     requires loaded { Loaded m.blocks words.old number.0 old unreferenced }
     ensures { EncodesMarked (measures_of m) pool.new words.new occupied.new (struck_only (measures_of m) pool.old words.old number.0) }
 {
-    let cells = old.cells;
-    pool::clear_marked(pool, occupied, unreferenced, cells, m.bytes);
+    pool::clear_marked(pool, occupied, unreferenced, old.cells, m.bytes);
     let new = old.strike_all(unreferenced);
     new.store(words, number, m.blocks);
 }
@@ -68,10 +66,9 @@ pub fn move_record(
     requires chosen { Chosen (measures_of m) pool.old words.old number.0 start.0 }
     ensures { EncodesMarked (measures_of m) pool.new words.new occupied.new (compacted (measures_of m) pool.old words.old number.0) }
 {
-    let cells = old.cells;
     let keep = old.held - unreferenced;
-    pool::copy_marked(pool, occupied, keep, cells, start, m.bytes);
-    pool::clear_marked(pool, occupied, old.held, cells, m.bytes);
+    pool::copy_marked(pool, occupied, keep, old.cells, start, m.bytes);
+    pool::clear_marked(pool, occupied, old.held, old.cells, m.bytes);
     let new = old.strike_all(unreferenced).renumber(start);
     new.store(words, number, m.blocks);
 }
@@ -92,14 +89,22 @@ pub fn compact_record(
     ensures { EncodesMarked (measures_of m) pool.new words.new occupied.new (compacted (measures_of m) pool.old words.old number.0) }
 {
     let keep = old.held - unreferenced;
-    let need = u32::count_ones(keep) as usize;
-    let run = runs::best_run(occupied, false, need);
-    if run.size == 0 {
-        strike_record(pool, words, occupied, number, old, unreferenced, m);
-        return;
+    let need = keep.count_ones() as usize;
+    match runs::best_run(occupied, false, need) {
+        Some(run) => {
+            move_record(
+                pool,
+                words,
+                occupied,
+                number,
+                old,
+                unreferenced,
+                run.start,
+                m,
+            );
+        }
+        None => strike_record(pool, words, occupied, number, old, unreferenced, m),
     }
-    let start = run.start;
-    move_record(pool, words, occupied, number, old, unreferenced, start, m);
 }
 
 // Whether r of s positions are less than the rebuild percentage.
@@ -132,13 +137,11 @@ pub fn remove_from(
     }
     if r == s {
         free_record(pool, words, occupied, number, old, unreferenced, m);
-        return;
-    }
-    if under_percent(r, s, m.percent) {
+    } else if under_percent(r, s, m.percent) {
         strike_record(pool, words, occupied, number, old, unreferenced, m);
-        return;
+    } else {
+        compact_record(pool, words, occupied, number, old, unreferenced, m);
     }
-    compact_record(pool, words, occupied, number, old, unreferenced, m);
 }
 
 // A record of which some position may go.
@@ -155,7 +158,7 @@ fn sweep_loaded(
 {
     let old = records::load(words, number, m.blocks);
     let unreferenced = old.unreferenced();
-    let r = u32::count_ones(unreferenced);
+    let r = unreferenced.count_ones();
     let s = old.size();
     remove_from(pool, words, occupied, number, old, unreferenced, r, s, m);
 }
@@ -172,8 +175,7 @@ pub fn sweep_record(
     requires number_in_bounds { number.0 < length (records_in m.blocks words.old) }
     ensures { EncodesMarked (measures_of m) pool.new words.new occupied.new (sweep_record (measures_of m) (storage_in (measures_of m) pool.old words.old) number.0) }
 {
-    if !records::any_unreferenced(words, number, m.blocks) {
-        return;
+    if records::any_unreferenced(words, number, m.blocks) {
+        sweep_loaded(pool, words, occupied, number, m);
     }
-    sweep_loaded(pool, words, occupied, number, m);
 }

@@ -12,7 +12,6 @@ use Rattle.lists.specs.Lists.{every, count, total}
 use Rattle.lists.specs.Each.{Each}
 use Rattle.lists.specs.Masks.{mask_of}
 use Rattle.lists.specs.Rows.{joined, rows}
-use Rattle.lists.proofs.Answers.{part_is}
 use Rattle.lists.proofs.Counts.{count_most, sum_map}
 use Rattle.lists.proofs.Masks.{ones_mask}
 use Rattle.lists.proofs.Places.{rows_few}
@@ -27,8 +26,8 @@ use Rattle.laws.proofs.RoundTrip.{length_record, segment_back, records_part_lem}
 use Rattle.laws.specs.Stores.{Sound}
 use Rattle.laws.proofs.Stores.{header, found, fit, fits}
 use Rattle.storage.specs.Stored.{EncodesRecords}
-use Rattle.storage.proofs.Read.{records_length, records_count, count_at, row_at, room_at}
-use Rattle.tally.specs.declared.Tally.{Tally}
+use Rattle.storage.proofs.Read.{records_length, records_count, count_at, row_at}
+use Rattle.tally.specs.declared.Tallied.{Tallied}
 use Rattle.tally.specs.Answers.{sum, in_use, TallyRow, TallyOfRecord, TallyRows, tally_of_records}
 
 -- the first k records are counted
@@ -99,7 +98,7 @@ module _ (n : ℕ) (row : List ℕ) (h : TallyRow n row) where
   counts_few = omega (arith, counts_sum, h.few)
 
   pub row_counted : (r k : ℕ) → r ≡ in_use (get_or row 0 0) (get_or row 1 0) (get_or row 2 0) → k ≡ sum (take (length row - (3 + n)) (drop (3 + n) row))
-      → TallyOfRecord seg (record { refusal = 0; cells = ones (get_or row 0 0); records = r; counts = k })
+      → TallyOfRecord seg (record { cells = ones (get_or row 0 0); records = r; counts = k })
   unfolding record_to_words
   row_counted r k e f = record {
     cells = ap (λ (ws : List ℕ). ones (get_or ws 0 0)) h.words ∙ ones_mask is_held seg ∙ held_cells seg;
@@ -143,16 +142,13 @@ module _ (n w : ℕ) (ew : w ≡ record_words n) (most : n ≤ 16) (ws : List �
 
   module _ (k : ℕ) (l : k < length ws / w) where
     abbrev row : List ℕ
-    row = take (k * w + w - k * w) (drop (k * w) ws)
+    row = take w (drop (k * w) ws)
 
     inside : k < length segs
     inside = omega (arith, l, count_is)
 
-    pub row_room : k * w + w ≤ length ws
-    row_room = rw ew (room_at n ws segs h.encodes k inside)
-
     row_is : row ≡ record_to_words (get_or segs k [])
-    row_is = part_is ws (k * w) w ∙ rw ew (row_at n ws segs h.encodes k inside)
+    row_is = rw ew (row_at n ws segs h.encodes k inside)
 
     segment_is : segment_in n row ≡ get_or segs k []
     segment_is = ap (segment_in n) row_is ∙ segment_back n (get_or segs k []) (count_at n ws segs h.encodes k inside)
@@ -168,7 +164,7 @@ module _ (n w : ℕ) (ew : w ≡ record_words n) (most : n ≤ 16) (ws : List �
     mask_is : get_or ws (k * w) 0 ≡ mask_of is_held (get_or segs k [])
     unfolding record_to_words
     mask_is =
-        sym (get_or-take (k * w + w - k * w) (drop (k * w) ws) 0 0 (omega (arith, ew)) ∙ get_or-drop (k * w) ws 0 0 ∙ ap (λ (j : ℕ). get_or ws j 0) (add-zero (k * w)))
+        sym (get_or-take w (drop (k * w) ws) 0 0 (omega (arith, ew)) ∙ get_or-drop (k * w) ws 0 0 ∙ ap (λ (j : ℕ). get_or ws j 0) (add-zero (k * w)))
         ∙ ap (λ (xs : List ℕ). get_or xs 0 0) row_is
 
     pub cells_next : (c : ℕ) → c + length (named_cells (drop k segs)) ≡ length (named_cells segs)
@@ -179,7 +175,7 @@ module _ (n w : ℕ) (ew : w ≡ record_words n) (most : n ≤ 16) (ws : List �
         let e = named_next (get_or segs k []) (drop (k + 1) segs) in
         (omega (arith, g, d, o, e), omega (arith, g, d, o, e, named_most n segs h.encodes.sized, mul-le-mul few_records most))
 
-    module _ (c r m : ℕ) (g : Going segs k c r m) (one : Tally) (o : TallyOfRecord (segment_in n row) one) where
+    module _ (c r m : ℕ) (g : Going segs k c r m) (one : Tallied) (o : TallyOfRecord (segment_in n row) one) where
       next : drop k segs ≡ get_or segs k [] ∷ drop (k + 1) segs
       next = drop_next segs k [] inside
 

@@ -1,5 +1,5 @@
 -- What a tally counts, in a record and in all of them.
-use Rattle.std.specs.Prelude.{◌≡◌, cond, not, List, ℕ, zero, suc, ◌*◌, ◌≤◌, length}
+use Rattle.std.specs.Prelude.{◌≡◌, cond, not, List, Result, Ok, Err, ℕ, zero, suc, ◌*◌, ◌≤◌, length}
 use Rattle.lists.specs.Lists.{count, total}
 use Rattle.model.specs.Measures.{record_words}
 use Rattle.model.specs.State.{Segment}
@@ -7,10 +7,13 @@ use Rattle.model.specs.Records.{is_free, cells_of, named_cells, count_of}
 use Rattle.model.specs.Table.{record_to_words, segment_in, records_in}
 use Rattle.model.specs.Calls as calls
 use Rattle.storage.specs.Stored.{EncodesRecords}
-use Rattle.tally.specs.declared.Tally.{Tally}
+use Rattle.refusals.specs.declared.Refusal.{Refusal}
+use Rattle.refusals.specs.Refusals.{number_of}
+use Rattle.tally.specs.declared.Tallied.{Tallied}
 
-abbrev pub tally_answer : Tally → calls.TallyAnswer
-tally_answer r = record { refusal = r.refusal; cells = r.cells; records = r.records; counts = r.counts }
+abbrev pub tally_result : Result Tallied Refusal → calls.TallyAnswer
+tally_result (Ok r) = record { refusal = 0; cells = r.cells; records = r.records; counts = r.counts }
+tally_result (Err e) = record { refusal = number_of e; cells = 0; records = 0; counts = 0 }
 
 -- the sum of numbers
 abbrev pub sum : List ℕ → ℕ
@@ -30,7 +33,7 @@ pub record TallyRow (n : ℕ) (row : List ℕ) : Type 0 where
   pub few : total count_of (segment_in n row) ≤ 1048576
 
 -- the tally of one record
-pub record TallyOfRecord (seg : Segment) (r : Tally) : Type 0 where
+pub record TallyOfRecord (seg : Segment) (r : Tallied) : Type 0 where
   pub cells : r.cells ≡ length (cells_of seg)
   pub records : r.records ≡ cond (not (is_free seg)) 1 0
   pub counts : r.counts ≡ total count_of seg

@@ -6,13 +6,11 @@ ghost use Rattle.model.specs.Records.{named_cells};
 ghost use Rattle.model.specs.Table.{segment_in, records_in};
 ghost use Rattle.model.specs.Calls.{tally_of};
 ghost use Rattle.laws.specs.Stores.{Sound};
-ghost use Rattle.tally.specs.Answers.{sum, in_use, TallyRow, TallyOfRecord, TallyRows, tally_of_records, tally_answer};
+ghost use Rattle.tally.specs.Answers.{sum, in_use, TallyRow, TallyOfRecord, TallyRows, tally_of_records, tally_result};
 
-// Refusal 0 is an accepted call.
-#[repr(C)]
-#[derive(Clone, Copy)]
-pub struct Tally {
-    pub refusal: u32,
+// What a tally counts.
+#[derive(Clone, Copy, Debug, PartialEq, Eq)]
+pub struct Tallied {
     pub cells: u32,
     pub records: u32,
     pub counts: u32,
@@ -23,10 +21,8 @@ fn add_all(words: &[u32]) -> u32
     ensures { result ≡ sum words.now }
 {
     let mut n: u32 = 0;
-    let mut i: usize = 0;
-    while i < words.len() {
-        n = n + words[i];
-        i = i + 1;
+    for &word in words {
+        n += word;
     }
     n
 }
@@ -35,64 +31,49 @@ fn add_all(words: &[u32]) -> u32
 fn in_use(held: u32, removed: u32, blank: u32) -> u32
     ensures { result ≡ in_use held removed blank }
 {
-    if held != 0 {
-        return 1;
-    }
-    if removed != 0 {
-        return 1;
-    }
-    if blank != 0 {
-        return 1;
-    }
-    0
+    u32::from(held != 0 || removed != 0 || blank != 0)
 }
 
 // One record, of n positions.
-fn tally_row(row: &[u32], n: usize) -> Tally
+fn tally_row(row: &[u32], n: usize) -> Tallied
     requires { (n ≤ 16) × TallyRow n row.now }
     ensures { TallyOfRecord (segment_in n row.now) result }
 {
     let records = in_use(row[0], row[1], row[2]);
     let from = 3 + n;
     let counts = add_all(&row[from..]);
-    Tally {
-        refusal: 0,
+    Tallied {
         cells: u32::count_ones(row[0]),
-        records: records,
-        counts: counts,
+        records,
+        counts,
     }
 }
 
 // All records.
-fn tally_rows(words: &[u32], n: usize) -> Tally
+fn tally_rows(words: &[u32], n: usize) -> Tallied
     requires { (n ≤ 16) × TallyRows n words.now }
-    ensures { tally_answer result ≡ tally_of_records (records_in n words.now) }
+    ensures { tally_result (Ok result) ≡ tally_of_records (records_in n words.now) }
 {
     let width = numbers::row_words(n);
-    let count = numbers::parts(words.len(), width);
     let mut cells: u32 = 0;
     let mut records: u32 = 0;
     let mut counts: u32 = 0;
-    let mut k: usize = 0;
-    while k < count {
-        let at = k * width;
-        let one = tally_row(&words[at..at + width], n);
-        cells = cells + one.cells;
-        records = records + one.records;
-        counts = counts + one.counts;
-        k = k + 1;
+    for row in words.chunks_exact(width) {
+        let one = tally_row(row, n);
+        cells += one.cells;
+        records += one.records;
+        counts += one.counts;
     }
-    Tally {
-        refusal: 0,
-        cells: cells,
-        records: records,
-        counts: counts,
+    Tallied {
+        cells,
+        records,
+        counts,
     }
 }
 
-pub fn tally_store(pool: &[u8], table: &[u32]) -> Tally
+pub fn tally_store(pool: &[u8], table: &[u32]) -> Tallied
     requires { Sound pool.now table.now }
-    ensures { tally_answer result ≡ tally_of pool.now table.now }
+    ensures { tally_result (Ok result) ≡ tally_of pool.now table.now }
 {
     let m = layout::measures_in(table);
     let at = layout::records_at(table);
@@ -105,12 +86,9 @@ fn cells_in(words: &[u32], n: usize) -> u32
     ensures { (result ≡ length (named_cells (records_in n words.now))) × (result ≤ 65536) }
 {
     let width = numbers::row_words(n);
-    let count = numbers::parts(words.len(), width);
     let mut cells: u32 = 0;
-    let mut k: usize = 0;
-    while k < count {
-        cells = cells + u32::count_ones(words[k * width]);
-        k = k + 1;
+    for row in words.chunks_exact(width) {
+        cells += u32::count_ones(row[0]);
     }
     cells
 }

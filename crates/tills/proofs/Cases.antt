@@ -5,8 +5,11 @@ use mathlib.Core.List.{List, [], ◌∷◌, map}
 use Prim.Native.Nat.{ℕ, ◌+◌, ◌*◌, ◌-◌, ◌≤◌, ◌<◌}
 use native.Mathlib.Omega.{arith}
 use lib.ListN.{length, get_or, take, drop, length-drop}
+use Rattle.std.proofs.Common.{Some, None, Ok, Err}
+use Rattle.refusals.specs.declared.Refusal.{Refusal}
+use Rattle.refusals.specs.Refusals.{number_of}
 use lib.Dec.{leb}
-use borrow.Author.Tests.{le-leb, lt-leb, leb-true, leb-false, eq-eqb, ne_eqb, le-ltb, lt-ltb}
+use borrow.Author.Tests.{le-leb, lt-leb, leb-true, leb-false}
 use Rattle.lists.specs.Lists.{last_of}
 use Rattle.model.specs.Measures.{till_words}
 use Rattle.model.specs.State.{Version, Till}
@@ -15,7 +18,7 @@ use Rattle.model.specs.Calls.{till_of, held_before, missing, first_of, not_held,
 use Rattle.laws.proofs.Measures.{sizes}
 use Rattle.laws.specs.Stores.{till_at, Sound, HeaderRanges}
 use Rattle.laws.proofs.Stores.{header}
-use Rattle.laws.proofs.Tills.{till, in_words, last_word, held_word, held_place, not_held_some, oldest_at, newest_at_lem, slot_in, number_word}
+use Rattle.laws.proofs.Tills.{till, in_words, last_word, held_word, held_place, oldest_at, newest_at_lem, slot_in, number_word}
 use Rattle.tills.specs.declared.Head.{Head}
 use Rattle.tills.specs.Answers.{HeadOf, versions_held, numbers_held, PlaceFound, LookedUp}
 use Rattle.lists.proofs.Slices.{drop_end, none_left}
@@ -106,56 +109,45 @@ module _ {pool table : List ℕ} (h : Sound pool table) (t : ℕ) (in_table : t 
       → get_or table (at + (4 + j * (3 + get_or table 2 0))) 0 ≡ get_or (numbers_held pool table t) j 0
   number_is at j e l = ap (λ (a : ℕ). get_or table (a + (4 + j * (3 + get_or table 2 0))) 0) e ∙ number_word h t in_table j l
 
-  pub place_here : (n j : ℕ) → j < length (versions_held pool table t) → NoneBefore (numbers_held pool table t) n j → get_or (numbers_held pool table t) j 0 ≡ n → PlaceFound pool table t n j
-  place_here n j l f e = let q = held_place n (versions_held pool table t) j (omega (arith, l)) f (λ k. e) in record { most = omega (arith, l); from = q.0; before = q.1 }
+  pub place_here : (n j : ℕ) → j < length (versions_held pool table t) → NoneBefore (numbers_held pool table t) n j → get_or (numbers_held pool table t) j 0 ≡ n → PlaceFound pool table t n (Some j)
+  place_here n j l f e =
+      let q = held_place n (versions_held pool table t) j (omega (arith, l)) f (λ k. e) in
+      record { inside = λ i s. let k : j ≡ i = cc in omega (arith, l, k); from = q.0; before = q.1 }
 
-  pub place_none : (n j : ℕ) → j ≡ length (versions_held pool table t) → NoneBefore (numbers_held pool table t) n j → PlaceFound pool table t n j
-  place_none n j e f =
-      let q = held_place n (versions_held pool table t) j (omega (arith, e)) f (λ k. absurd (omega (arith, k, e))) in
-      record { most = omega (arith, e); from = q.0; before = q.1 }
-
--- ---- the refusal of a number that is not held
-
-pub zero_missing : (last n : ℕ) → n ≡ 0 → 17 ≡ not_held last n
-unfolding not_held
-zero_missing last n e = rw (eq-eqb n 0 e)
-
-pub above_missing : (last n : ℕ) → (n ≡ 0 → ⊥) → last < n → 17 ≡ not_held last n
-unfolding not_held
-above_missing last n e h = rw (ne_eqb n 0 e, lt-ltb last n h)
-
-pub given_missing : (last n : ℕ) → (n ≡ 0 → ⊥) → n ≤ last → 18 ≡ not_held last n
-unfolding not_held
-given_missing last n e h = rw (ne_eqb n 0 e, le-ltb last n h)
+  pub place_none : (n : ℕ) → NoneBefore (numbers_held pool table t) n (length (versions_held pool table t)) → PlaceFound pool table t n None
+  place_none n f =
+      let q = held_place n (versions_held pool table t) (length (versions_held pool table t)) (omega arith) f (λ k. absurd (omega (arith, k))) in
+      record { inside = λ i s. absurd (cc); from = q.0; before = q.1 }
 
 -- ---- a number looked up, from its place
 
-module _ {pool table : List ℕ} (t n : ℕ) (h : Head) (o : HeadOf pool table t h) (j : ℕ) (p : PlaceFound pool table t n j) where
-  past_missing : (r : ℕ) → r ≡ not_held h.last n → h.held ≤ j → look_up (till_of (state_in (shape_of table) pool table) t) n ≡ missing r
+module _ {pool table : List ℕ} (t n : ℕ) (h : Head) (o : HeadOf pool table t h) where
+  past_missing : PlaceFound pool table t n None → (r : ℕ) → r ≡ not_held h.last n → look_up (till_of (state_in (shape_of table) pool table) t) n ≡ missing r
   unfolding look_up first_of
-  past_missing r e l =
-      let past : drop j (versions_held pool table t) ≡ [] = drop_end (versions_held pool table t) j (omega (arith, l, o.held)) in
+  past_missing p r e =
+      let past : drop (length (versions_held pool table t)) (versions_held pool table t) ≡ [] = drop_end (versions_held pool table t) (length (versions_held pool table t)) (omega arith) in
       ap (first_of (not_held (till_of (state_in (shape_of table) pool table) t).last n) (held_before n (versions_held pool table t))) (p.from ∙ past)
       ∙ ap (λ (x : ℕ). missing x) (ap (λ (x : ℕ). not_held x n) (sym o.last) ∙ sym e)
 
-  pub looked_past : (r : ℕ) → r ≡ not_held h.last n → h.held ≤ j → LookedUp pool table t n (record { refusal = r; place = 0 })
-  looked_past r e l =
-      let some : 0 < r = rw e (not_held_some h.last n) in
-      record {
-        inside = λ z. absurd (omega (arith, some, z));
-        held = λ z. absurd (omega (arith, some, z));
-        missing = λ z. past_missing r e l;
-      }
+  pub looked_past : PlaceFound pool table t n None → (r : Refusal) → number_of r ≡ not_held h.last n → LookedUp pool table t n (Err r)
+  looked_past p r e = record {
+    inside = λ j q. absurd (cc);
+    held = λ j q. absurd (cc);
+    missing = λ k q. let same : r ≡ k = cc in past_missing p (number_of k) (ap number_of (sym same) ∙ e);
+  }
 
-  pub looked_at : j < h.held → LookedUp pool table t n (record { refusal = 0; place = j })
+  pub looked_at : (j : ℕ) → PlaceFound pool table t n (Some j) → LookedUp pool table t n (Ok j)
   unfolding look_up
-  looked_at l = record {
-    inside = λ z. omega (arith, l, o.held);
-    held = λ z. ap₂ (first_of (not_held (till_of (state_in (shape_of table) pool table) t).last n)) p.before p.from ∙ there (drop j (versions_held pool table t)) refl;
-    missing = λ z. absurd (z refl);
+  looked_at j p = record {
+    inside = λ i q. let same : j ≡ i = cc in omega (arith, p.inside j refl, same);
+    held = λ i q. let same : j ≡ i = cc in
+        ap₂ (first_of (not_held (till_of (state_in (shape_of table) pool table) t).last n)) p.before p.from
+        ∙ there (drop j (versions_held pool table t)) refl
+        ∙ ap (λ (k : ℕ). first_of 0 (take k (versions_held pool table t)) (drop k (versions_held pool table t))) same;
+    missing = λ e q. absurd (cc);
   }
     where
       there : (vs : List Version) → drop j (versions_held pool table t) ≡ vs
           → first_of (not_held (till_of (state_in (shape_of table) pool table) t).last n) (take j (versions_held pool table t)) vs ≡ first_of 0 (take j (versions_held pool table t)) vs
-      there [] e = absurd (omega (arith, l, o.held, ap length e, length-drop j (versions_held pool table t)))
+      there [] e = absurd (omega (arith, p.inside j refl, ap length e, length-drop j (versions_held pool table t)))
       there (v ∷ vs) e = unfold first_of in refl

@@ -1,10 +1,10 @@
 -- The days of a till's versions: the newest one's, and the newest version not after a day.
-use mathlib.Core.Path.{◌≡◌, sym, ap, ◌∙◌}
+use mathlib.Core.Path.{◌≡◌, refl, sym, ap, ◌∙◌}
 use mathlib.Core.List.{List, [], ◌∷◌, ◌++◌, map}
 use Prim.Native.Nat.{ℕ, ◌+◌, ◌-◌, ◌*◌, ◌≤◌, ◌<◌}
 use native.Mathlib.Omega.{arith}
+use Rattle.std.proofs.Common.{Some, None}
 use lib.ListN.{length, get_or, take, get_or-map, get_or-eq_default}
-use lib.Seq.{take_all}
 use lib.Dec.{leb}
 use borrow.Author.Tests.{le-leb, lt-leb}
 use Rattle.lists.specs.Lists.{keep, last_of}
@@ -91,29 +91,21 @@ module _ {pool table : List ℕ} (h : Sound pool table) (t : ℕ) where
     unfolding version_on_of version_on_in shape_of
     on_till day = rw (h.is, lt-leb _ _ in_table)
 
-    pub none_on : (day n : ℕ) → UptoDay pool table t day n → n ≡ 0 → record { refusal = 29; version = 0 } ≡ version_on_of pool table t day
+    pub none_on : (day : ℕ) → UptoDay pool table t day None → record { refusal = 29; version = 0 } ≡ version_on_of pool table t day
     unfolding newest_or_none not_after keep
-    none_on day n u e = sym (on_till day ∙ ap newest_or_none (u.all ∙ ap (λ (i : ℕ). not_after day (take i versions)) e))
+    none_on day u = sym (on_till day ∙ ap newest_or_none u.all)
 
-    pub found_on_lem : (day n : ℕ) → UptoDay pool table t day n → (n ≡ 0 → ⊥) → (v : ℕ) → v ≡ get_or (numbers_held pool table t) (n - 1) 0
+    pub found_on_lem : (day j : ℕ) → UptoDay pool table t day (Some j) → (v : ℕ) → v ≡ get_or (numbers_held pool table t) j 0
         → record { refusal = 0; version = v } ≡ version_on_of pool table t day
-    found_on_lem day n u z v e =
-        let q : n ≡ n - 1 + 1 = omega (arith, z) in
-        let some : 0 < n = omega (arith, z) in
+    found_on_lem day j u v e =
         ap {B = VersionOnAnswer} (λ (i : ℕ). record { refusal = 0; version = i }) e
-        ∙ sym (
-        on_till day ∙ ap newest_or_none (u.all ∙ ap (λ (i : ℕ). not_after day (take i versions)) q)
-        ∙ newest_kept_lem day versions (n - 1) (omega (arith, u.most, some)) (u.last some)
-        )
+        ∙ sym (on_till day ∙ ap newest_or_none u.all ∙ newest_kept_lem day versions j (omega (arith, u.most)) (u.last j refl))
 
 -- ---- the walk, from the newest down: all that are not after the day are among the first j
 
 module _ (pool table : List ℕ) (t day : ℕ) where
   abbrev pub Among : ℕ → Type 0
   Among j = not_after day (versions_held pool table t) ≡ not_after day (take j (versions_held pool table t))
-
-  pub among_all : (j : ℕ) → j ≡ length (versions_held pool table t) → Among j
-  among_all j e = ap (not_after day) (sym (take_all j (versions_held pool table t) (omega (arith, e))))
 
   pub among_less : (j : ℕ) → 0 < j → j ≤ length (versions_held pool table t) → Among j → day < get_or (days_held pool table t) (j - 1) 0 → Among (j - 1)
   among_less j s l a h =

@@ -30,11 +30,9 @@ fn each_version(
     notes: &[u32],
     counts: &mut [u64],
 ) {
-    let mut place = 0;
-    while place < trial_keeper::PLACES {
+    for place in 0..trial_keeper::PLACES {
         let version = trial_keeper::number_at(notes, till, place);
         restored(c, till, version, pool, table, images, notes, counts);
-        place += 1;
     }
 }
 
@@ -46,11 +44,9 @@ fn each_till(
     notes: &[u32],
     counts: &mut [u64],
 ) {
-    let mut till = 0;
-    while till < c.tills {
+    for till in 0..c.tills {
         trial_calls::list(c, 0, till, pool, table, notes, counts);
         each_version(c, till, pool, table, images, notes, counts);
-        till += 1;
     }
 }
 

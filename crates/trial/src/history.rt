@@ -1,4 +1,5 @@
 // Long histories of drawn calls on one store.
+use answers::TableLength;
 use layout::Capacities;
 use numbers::Cell;
 use trial_draw::dice::Dice;
@@ -15,11 +16,9 @@ fn play(
     counts: &mut [u64],
 ) {
     let mut d = Dice { state: seed };
-    let mut i = 0;
-    while i < count {
+    for _ in 0..count {
         d = d.rolled();
         crate::turns::turn(c, d, pool, table, images, notes, counts);
-        i += 1;
     }
 }
 
@@ -64,7 +63,7 @@ pub fn history(
     counts: &mut [u64],
 ) {
     let bytes = Cell(c.cells).byte(trial_keeper::block_bytes(c));
-    let words = store::table_length(c).words as usize;
+    let words = TableLength::from(store::table_length(c)).words as usize;
     let b = trial_choice::at_most(bytes, pool.len());
     let w = trial_choice::at_most(words, table.len());
     counts::expect(counts, b == bytes);

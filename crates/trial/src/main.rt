@@ -22,9 +22,10 @@ fn capacities(tills: u32, versions: u32, blocks: u32, records: u32, cells: u32) 
 }
 
 fn measured(five: Capacities, bytes: u32, blocks: u32, percent: u32) -> Capacities {
-    let mut c = five;
-    c.measures = Measures::chosen(bytes, blocks, percent);
-    c
+    Capacities {
+        measures: Measures::chosen(bytes, blocks, percent),
+        ..five
+    }
 }
 
 // The page's store, some that run out of records or of cells, the least, a roomy one; and some of other measures.
@@ -44,10 +45,8 @@ fn store_of(n: u32) -> Capacities {
 }
 
 fn histories(count: u32, pool: &mut [u8], table: &mut [u32], counts: &mut [u64]) {
-    let mut n = 0;
-    while n < count {
-        history::history(store_of(n), n as u64 + 1, 1000, pool, table, counts);
-        n += 1;
+    for n in 0..count {
+        history::history(store_of(n), u64::from(n) + 1, 1000, pool, table, counts);
     }
 }
 

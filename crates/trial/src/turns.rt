@@ -57,32 +57,29 @@ fn back_up(
 
 // That at a drawn place, or the oldest if the place is free: 0 if none is held.
 fn held_of(d: Dice, till: u32, notes: &[u32]) -> u32 {
-    let version = trial_keeper::number_at(notes, till, d.pick(24, trial_keeper::PLACES));
-    if version == 0 {
-        return trial_keeper::oldest(notes, till);
+    match trial_keeper::number_at(notes, till, d.pick(24, trial_keeper::PLACES)) {
+        0 => trial_keeper::oldest(notes, till),
+        version => version,
     }
-    version
 }
 
 // 0, one above the last given, or a number given before and mostly gone.
 fn other_of(d: Dice, till: u32, notes: &[u32]) -> u32 {
     let last = trial_keeper::last(notes, till);
-    let kind = d.pick(36, 4);
-    if kind == 0 {
-        return 0;
+    match d.pick(36, 4) {
+        0 => 0,
+        1 => last.wrapping_add(1),
+        _ => d.pick(40, last).wrapping_add(1),
     }
-    if kind == 1 {
-        return last.wrapping_add(1);
-    }
-    d.pick(40, last).wrapping_add(1)
 }
 
 // Mostly a held version.
 fn version_of(d: Dice, till: u32, notes: &[u32]) -> u32 {
     if d.pick(32, 8) == 0 {
-        return other_of(d, till, notes);
+        other_of(d, till, notes)
+    } else {
+        held_of(d, till, notes)
     }
-    held_of(d, till, notes)
 }
 
 fn retire(
@@ -131,16 +128,11 @@ fn set_rights(
 
 // The whole output, a byte too few, or just enough.
 fn room_of(d: Dice, bytes: u32) -> usize {
-    let kind = d.pick(20, 4);
-    if kind == 0 {
-        return trial_calls::ROOM;
+    match d.pick(20, 4) {
+        0 => trial_calls::ROOM,
+        1 => bytes.saturating_sub(1) as usize,
+        _ => bytes as usize,
     }
-    if kind == 1 {
-        if 0 < bytes {
-            return bytes as usize - 1;
-        }
-    }
-    bytes as usize
 }
 
 fn restore(
@@ -161,28 +153,6 @@ fn restore(
     );
 }
 
-// A version comes, or some do, or one goes, or a user gets other rights.
-fn change(
-    c: Capacities,
-    d: Dice,
-    kind: u32,
-    pool: &mut [u8],
-    table: &mut [u32],
-    images: &mut [u8],
-    notes: &mut [u32],
-    counts: &mut [u64],
-) {
-    if kind < 11 {
-        back_up(c, d, pool, table, images, notes, counts);
-    } else if kind < 13 {
-        trial_closing::drawn::close(c, d, pool, table, images, notes, counts);
-    } else if kind < 21 {
-        retire(c, d, pool, table, notes, counts);
-    } else {
-        set_rights(c, d, pool, table, notes, counts);
-    }
-}
-
 fn list(c: Capacities, d: Dice, pool: &[u8], table: &[u32], notes: &[u32], counts: &mut [u64]) {
     let user = trial_choice::user_of(d);
     trial_calls::list(
@@ -197,26 +167,7 @@ fn list(c: Capacities, d: Dice, pool: &[u8], table: &[u32], notes: &[u32], count
     trial_calls::tally_as(user, pool, table, counts);
 }
 
-// Nothing changes, though a damaged store is mended again.
-fn look(
-    c: Capacities,
-    d: Dice,
-    kind: u32,
-    pool: &mut [u8],
-    table: &mut [u32],
-    images: &[u8],
-    notes: &[u32],
-    counts: &mut [u64],
-) {
-    if kind < 30 {
-        restore(c, d, pool, table, images, notes, counts);
-    } else if kind < 31 {
-        list(c, d, pool, table, notes, counts);
-    } else {
-        trial_unsound::damaged(d, pool, table, counts);
-    }
-}
-
+// A version comes, or some do, or one goes, or a user gets other rights. At the last three nothing changes, though a damaged store is mended again.
 pub fn turn(
     c: Capacities,
     d: Dice,
@@ -227,10 +178,16 @@ pub fn turn(
     counts: &mut [u64],
 ) {
     let kind = d.pick(0, 32);
+    match kind {
+        0..=10 => back_up(c, d, pool, table, images, notes, counts),
+        11..=12 => trial_closing::drawn::close(c, d, pool, table, images, notes, counts),
+        13..=20 => retire(c, d, pool, table, notes, counts),
+        21..=22 => set_rights(c, d, pool, table, notes, counts),
+        23..=29 => restore(c, d, pool, table, images, notes, counts),
+        30 => list(c, d, pool, table, notes, counts),
+        _ => trial_unsound::damaged(d, pool, table, counts),
+    }
     if kind < 23 {
-        change(c, d, kind, pool, table, images, notes, counts);
         crate::checks::all(c, pool, table, images, notes, counts);
-    } else {
-        look(c, d, kind, pool, table, images, notes, counts);
     }
 }

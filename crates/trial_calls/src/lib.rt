@@ -3,10 +3,9 @@
 
 ghost use Rattle.std.specs.Prelude.{◌≡◌, ◌+◌, ◌*◌, ◌≤◌, length};
 
-use backup::BackedUp;
+use answers::{BackedUp, Listing, Restored, Retired, TableLength, Tally};
 use layout::Capacities;
-use restore::Restored;
-use retire::Retired;
+use refusals::answered;
 use rights::Rights;
 use trial_report::counts;
 
@@ -22,34 +21,22 @@ fn segment_of(c: Capacities) -> u32
     ensures { result ≤ 16 }
 {
     let m = c.measures;
-    if m.blocks < 16 {
-        return m.blocks as u32;
-    }
-    16
+    m.blocks.min(16) as u32
 }
 
-// 0 for capacities that no store has.
-fn words_of(c: Capacities) -> u32 {
-    if 16 < c.tills {
-        return 0;
+// None for capacities that no store has.
+fn words_of(c: Capacities) -> Option<u32> {
+    if 16 < c.tills || 64 < c.versions || 1024 < c.blocks || 4096 < c.records {
+        return None;
     }
-    if 64 < c.versions {
-        return 0;
-    }
-    if 1024 < c.blocks {
-        return 0;
-    }
-    if 4096 < c.records {
-        return 0;
-    }
-    words_in(c.tills, c.versions, c.blocks, c.records, segment_of(c))
+    Some(words_in(c.tills, c.versions, c.blocks, c.records, segment_of(c)))
 }
 
 pub fn table_length(c: Capacities, counts: &mut [u64], expected: u32) {
-    let a = store::table_length(c);
+    let a: TableLength = store::table_length(c).into();
     counts::answered(counts, counts::LENGTHS, a.refusal, expected);
     if a.refusal == 0 {
-        counts::expect(counts, a.words == words_of(c));
+        counts::expect(counts, words_of(c) == Some(a.words));
     } else {
         counts::expect(counts, a.words == 0);
     }
@@ -65,7 +52,7 @@ pub fn lay_out(
     let mut bytes = [0u8; trial_compare::POOL];
     let mut entries = [0u32; trial_compare::TABLE];
     trial_compare::copy(pool, table, &mut bytes, &mut entries);
-    let refusal = store::lay_out(pool, table, c);
+    let refusal = answered(&store::lay_out(pool, table, c));
     counts::answered(counts, counts::LAYOUTS, refusal, expected);
     trial_judge::buffers(refusal, &bytes, &entries, pool, table, counts);
 }
@@ -82,7 +69,7 @@ fn backed_up(
     let mut bytes = [0u8; trial_compare::POOL];
     let mut entries = [0u32; trial_compare::TABLE];
     trial_compare::copy(pool, table, &mut bytes, &mut entries);
-    let a = store::backup(pool, table, user, till, image);
+    let a: BackedUp = store::backup(pool, table, user, till, image).into();
     trial_judge::buffers(a.refusal, &bytes, &entries, pool, table, counts);
     a
 }
@@ -113,7 +100,7 @@ fn retired(
     let mut bytes = [0u8; trial_compare::POOL];
     let mut entries = [0u32; trial_compare::TABLE];
     trial_compare::copy(pool, table, &mut bytes, &mut entries);
-    let a = store::retire(pool, table, user, till, version);
+    let a: Retired = store::retire(pool, table, user, till, version).into();
     trial_judge::buffers(a.refusal, &bytes, &entries, pool, table, counts);
     a
 }
@@ -145,7 +132,7 @@ fn restore_into(
     requires { room ≤ length output.old }
 {
     trial_compare::mark(output);
-    store::restore(pool, table, user, till, version, &mut output[0..room])
+    store::restore(pool, table, user, till, version, &mut output[0..room]).into()
 }
 
 fn restore_and_judge(
@@ -211,13 +198,13 @@ pub fn list(
     notes: &[u32],
     counts: &mut [u64],
 ) {
-    let a = store::listing(pool, table, user, till);
+    let a: Listing = store::listing(pool, table, user, till).into();
     trial_judge::listed(a, c, user, till, notes, counts);
 }
 
 // The cells tallied are those with a byte other than zero; each has a count, and each record a cell.
 pub fn tally(c: Capacities, pool: &[u8], table: &[u32], counts: &mut [u64]) {
-    let a = store::tally(pool, table, 0);
+    let a: Tally = store::tally(pool, table, 0).into();
     counts::answered(counts, counts::TALLIES, a.refusal, 0);
     counts::expect(
         counts,
@@ -230,11 +217,11 @@ pub fn tally(c: Capacities, pool: &[u8], table: &[u32], counts: &mut [u64]) {
 // As a user who is not the owner it gives nothing away.
 pub fn tally_as(user: u32, pool: &[u8], table: &[u32], counts: &mut [u64]) {
     let expected = trial_keeper::owner_refusal(user);
-    let a = store::tally(pool, table, user);
-    if expected == 0 {
+    let a: Tally = store::tally(pool, table, user).into();
+    if expected.is_ok() {
         counts::answered(counts, counts::TALLIES, a.refusal, 0);
     } else {
-        trial_judge::tally_refused(a, expected, counts);
+        trial_judge::tally_refused(a, answered(&expected), counts);
     }
 }
 
@@ -250,7 +237,7 @@ fn rights_set(
     let mut bytes = [0u8; trial_compare::POOL];
     let mut entries = [0u32; trial_compare::TABLE];
     trial_compare::copy(pool, table, &mut bytes, &mut entries);
-    let refusal = store::set_rights(pool, table, user, subject, till, rights);
+    let refusal = answered(&store::set_rights(pool, table, user, subject, till, rights));
     trial_judge::buffers(refusal, &bytes, &entries, pool, table, counts);
     refusal
 }

@@ -1,15 +1,11 @@
 // The page's case 6 as its fourth request changes it, and case 11, on fresh stores of 1 till, 4 versions, 16 blocks per image, 8 records and 32 cells.
 #![tactic(auto)]
 
-use backup::BackedUp;
+use answers::{BackedUp, Restored, Retired, Tally};
 use layout::Capacities;
 use numbers::Measures;
-use restore::Restored;
-use retire::Retired;
 use std::io;
-use tally::Tally;
 use trial_draw::images;
-use trial_report::tell;
 
 fn capacities() -> Capacities {
     Capacities {
@@ -31,32 +27,27 @@ fn print_image(
     kept: Tally,
     wrong: usize,
 ) -> io::Result<()> {
-    tell::text(rt, b"image")?;
-    tell::number(rt, bytes as u64)?;
-    tell::number(rt, given.refusal as u64)?;
-    tell::number(rt, given.version as u64)?;
-    tell::number(rt, back.length as u64)?;
-    tell::number(rt, kept.cells as u64)?;
-    tell::number(rt, kept.records as u64)?;
-    tell::number(rt, wrong as u64)?;
-    tell::end(rt)
+    println!(rt;
+        "image {bytes} {} {} {} {} {} {wrong}",
+        given.refusal, given.version, back.length, kept.cells, kept.records
+    )
 }
 
 // A fresh store gets the image.
 fn taken(pool: &mut [u8], table: &mut [u32], image: &[u8]) -> BackedUp {
-    store::lay_out(pool, table, capacities());
-    store::backup(pool, table, 0, 0, image)
+    let _ = store::lay_out(pool, table, capacities());
+    store::backup(pool, table, 0, 0, image).into()
 }
 
 // At how many places the output's first bytes and the image differ, if the image was taken.
 fn wrong_in(image: &[u8], output: &[u8], bytes: usize) -> usize {
     if bytes == 0 {
-        return 0;
+        0
+    } else if output.len() < bytes {
+        bytes
+    } else {
+        trial_compare::wrong_bytes(image, &output[..bytes])
     }
-    if output.len() < bytes {
-        return bytes;
-    }
-    trial_compare::wrong_bytes(image, &output[0..bytes])
 }
 
 fn image_on(
@@ -67,8 +58,8 @@ fn image_on(
     output: &mut [u8],
 ) -> io::Result<()> {
     let given = taken(pool, table, image);
-    let back = store::restore(pool, table, 0, 0, given.version, output);
-    let kept = store::tally(pool, table, 0);
+    let back: Restored = store::restore(pool, table, 0, 0, given.version, output).into();
+    let kept: Tally = store::tally(pool, table, 0).into();
     let wrong = wrong_in(image, output, back.length as usize);
     print_image(rt, image.len(), given, back, kept, wrong)
 }
@@ -96,12 +87,8 @@ fn output_on(
     output: &mut [u8],
 ) -> io::Result<()> {
     let given = taken(pool, table, image);
-    let back = store::restore(pool, table, 0, 0, given.version, output);
-    tell::text(rt, b"output")?;
-    tell::number(rt, output.len() as u64)?;
-    tell::number(rt, image.len() as u64)?;
-    tell::number(rt, back.refusal as u64)?;
-    tell::end(rt)
+    let back: Restored = store::restore(pool, table, 0, 0, given.version, output).into();
+    println!(rt; "output {} {} {}", output.len(), image.len(), back.refusal)
 }
 
 fn output_case(rt: &impl Print, image: &[u8], output: &mut [u8]) -> io::Result<()> {
@@ -118,10 +105,7 @@ fn short_output(rt: &impl Print, image: &[u8], bytes: usize, output: &mut [u8]) 
 }
 
 fn images_tried(rt: &impl Print, image: &[u8]) -> io::Result<()> {
-    tell::text(
-        rt,
-        b"image bytes refusal version length cells records wrong\n",
-    )?;
+    println!(rt; "image bytes refusal version length cells records wrong")?;
     first_bytes(rt, image, 500)?;
     first_bytes(rt, image, 0)?;
     first_bytes(rt, image, 1024)?;
@@ -131,38 +115,33 @@ fn images_tried(rt: &impl Print, image: &[u8]) -> io::Result<()> {
 fn outputs_tried(rt: &impl Print, image: &[u8]) -> io::Result<()> {
     let mut less = [0u8; 511];
     let mut enough = [0u8; 512];
-    tell::text(rt, b"output bytes for refusal\n")?;
+    println!(rt; "output bytes for refusal")?;
     short_output(rt, image, 512, &mut less)?;
     short_output(rt, image, 512, &mut enough)
 }
 
 // The version, the retire's number and length, the cells left.
 fn print_retired(rt: &impl Print, version: u32, gone: Retired, cells: u32) -> io::Result<()> {
-    tell::text(rt, b"retire")?;
-    tell::number(rt, version as u64)?;
-    tell::number(rt, gone.refusal as u64)?;
-    tell::number(rt, gone.length as u64)?;
-    tell::number(rt, cells as u64)?;
-    tell::end(rt)
+    println!(rt; "retire {version} {} {} {cells}", gone.refusal, gone.length)
 }
 
 fn retire_one(rt: &impl Print, pool: &mut [u8], table: &mut [u32], version: u32) -> io::Result<()> {
-    let gone = store::retire(pool, table, 0, 0, version);
-    let kept = store::tally(pool, table, 0);
+    let gone: Retired = store::retire(pool, table, 0, 0, version).into();
+    let kept: Tally = store::tally(pool, table, 0).into();
     print_retired(rt, version, gone, kept.cells)
 }
 
 // Cases 1 to 4.
 fn four_taken(pool: &mut [u8], table: &mut [u32], first: &[u8], second: &[u8]) {
     taken(pool, table, first);
-    store::backup(pool, table, 0, 0, second);
-    store::backup(pool, table, 0, 0, first);
-    store::backup(pool, table, 0, 0, first);
+    let _ = store::backup(pool, table, 0, 0, second);
+    let _ = store::backup(pool, table, 0, 0, first);
+    let _ = store::backup(pool, table, 0, 0, first);
 }
 
 // From the middle, gone already, the oldest.
 fn three_retired(rt: &impl Print, pool: &mut [u8], table: &mut [u32]) -> io::Result<()> {
-    tell::text(rt, b"retire version refusal length cells\n")?;
+    println!(rt; "retire version refusal length cells")?;
     retire_one(rt, pool, table, 3)?;
     retire_one(rt, pool, table, 3)?;
     retire_one(rt, pool, table, 1)

@@ -2,11 +2,11 @@
 // their limit. Each line has the call, the store, the limit or the version, the refusal, the number that is answered, and the cells of both stores after it.
 #![tactic(auto)]
 
+use answers::{BackedUp, Restored, Retired, Tally};
 use layout::Capacities;
 use numbers::Measures;
 use std::io;
 use trial_draw::images;
-use trial_report::tell;
 
 fn capacities() -> Capacities {
     Capacities {
@@ -21,49 +21,51 @@ fn capacities() -> Capacities {
 
 // Both stores, in buffers of 1,536 bytes and 102 words each.
 fn lay_out_first(pools: &mut [u8], tables: &mut [u32]) {
-    if pools.len() < 1536 {
+    if pools.len() < 1536 || tables.len() < 102 {
         return;
     }
-    if tables.len() < 102 {
-        return;
-    }
-    store::lay_out(&mut pools[0..1536], &mut tables[0..102], capacities());
+    let _ = store::lay_out(&mut pools[0..1536], &mut tables[0..102], capacities());
 }
 
+// Kept: the new form is no plainer: one function for both needs a bound on the store, to name the same two ranges.
 fn lay_out_second(pools: &mut [u8], tables: &mut [u32]) {
-    if pools.len() < 3072 {
+    if pools.len() < 3072 || tables.len() < 204 {
         return;
     }
-    if tables.len() < 204 {
-        return;
-    }
-    store::lay_out(&mut pools[1536..3072], &mut tables[102..204], capacities());
+    let _ = store::lay_out(&mut pools[1536..3072], &mut tables[102..204], capacities());
 }
 
 fn cells_of(pools: &[u8], tables: &[u32], store: u32) -> u32 {
     let pool_lengths = [1536u32; 2];
     let table_lengths = [102u32; 2];
-    let t = chain_calls::tally(pools, tables, &pool_lengths, &table_lengths, store, 0);
+    let t: Tally = chain_calls::tally(
+        pools,
+        tables,
+        &pool_lengths,
+        &table_lengths,
+        store,
+        0,
+    ).into();
     t.cells
 }
 
 fn print_call(
     rt: &impl Print,
+    call: &str,
     store: u32,
     argument: u32,
     refusal: u32,
     answer: u32,
 ) -> io::Result<()> {
-    tell::number(rt, store as u64)?;
-    tell::number(rt, argument as u64)?;
-    tell::number(rt, refusal as u64)?;
-    tell::number(rt, answer as u64)
+    print!(rt; "{call} {store} {argument} {refusal} {answer}")
 }
 
 fn print_cells(rt: &impl Print, pools: &[u8], tables: &[u32]) -> io::Result<()> {
-    tell::number(rt, cells_of(pools, tables, 0) as u64)?;
-    tell::number(rt, cells_of(pools, tables, 1) as u64)?;
-    tell::end(rt)
+    println!(rt;
+        " {} {}",
+        cells_of(pools, tables, 0),
+        cells_of(pools, tables, 1)
+    )
 }
 
 fn back_up(
@@ -76,7 +78,7 @@ fn back_up(
 ) -> io::Result<()> {
     let pool_lengths = [1536u32; 2];
     let table_lengths = [102u32; 2];
-    let r = chain_calls::backup(
+    let r: BackedUp = chain_calls::backup(
         pools,
         tables,
         &pool_lengths,
@@ -86,9 +88,9 @@ fn back_up(
         0,
         0,
         image,
-    );
-    tell::text(rt, b"backup")?;
-    print_call(rt, store, limit, r.refusal, r.version)?;
+    )
+    .into();
+    print_call(rt, "backup", store, limit, r.refusal, r.version)?;
     print_cells(rt, pools, tables)
 }
 
@@ -101,7 +103,7 @@ fn retire(
 ) -> io::Result<()> {
     let pool_lengths = [1536u32; 2];
     let table_lengths = [102u32; 2];
-    let r = chain_calls::retire(
+    let r: Retired = chain_calls::retire(
         pools,
         tables,
         &pool_lengths,
@@ -110,15 +112,10 @@ fn retire(
         0,
         0,
         version,
-    );
-    tell::text(rt, b"retire")?;
-    print_call(rt, store, version, r.refusal, r.length)?;
+    )
+    .into();
+    print_call(rt, "retire", store, version, r.refusal, r.length)?;
     print_cells(rt, pools, tables)
-}
-
-// At how many places the output and the image differ.
-fn wrong_in(image: &[u8], output: &[u8]) -> usize {
-    trial_compare::wrong_bytes(image, output)
 }
 
 fn restore(
@@ -128,10 +125,10 @@ fn restore(
     store: u32,
     version: u32,
     output: &mut [u8],
-) -> io::Result<u32> {
+) -> io::Result<()> {
     let pool_lengths = [1536u32; 2];
     let table_lengths = [102u32; 2];
-    let r = chain_calls::restore(
+    let r: Restored = chain_calls::restore(
         pools,
         tables,
         &pool_lengths,
@@ -141,10 +138,9 @@ fn restore(
         0,
         version,
         output,
-    );
-    tell::text(rt, b"restore")?;
-    print_call(rt, store, version, r.refusal, r.length)?;
-    Ok(r.refusal)
+    )
+    .into();
+    print_call(rt, "restore", store, version, r.refusal, r.length)
 }
 
 fn restored(
@@ -157,8 +153,7 @@ fn restored(
 ) -> io::Result<()> {
     let mut output = [0u8; 512];
     restore(rt, pools, tables, store, version, &mut output)?;
-    tell::number(rt, wrong_in(image, &output) as u64)?;
-    tell::end(rt)
+    println!(rt; " {}", trial_compare::wrong_bytes(image, &output))
 }
 
 // A limit just at the sum, and one below it.
@@ -223,14 +218,11 @@ fn disk(
     first: &[u8],
     second: &[u8],
 ) -> io::Result<()> {
-    tell::text(
-        rt,
-        b"call store limit or version refusal answer cells cells\n",
-    )?;
+    println!(rt; "call store limit or version refusal answer cells cells")?;
     lay_out_first(pools, tables);
     lay_out_second(pools, tables);
     limits(rt, pools, tables, first, second)?;
-    tell::text(rt, b"call store version refusal length wrong\n")?;
+    println!(rt; "call store version refusal length wrong")?;
     all_restored(rt, pools, tables, first, second)
 }
 

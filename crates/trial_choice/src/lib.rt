@@ -13,9 +13,10 @@ pub fn till_of(c: Capacities, d: Dice) -> u32
     ensures { result ≤ c.tills }
 {
     if d.pick(8, 16) == 0 {
-        return c.tills;
+        c.tills
+    } else {
+        d.pick(12, c.tills)
     }
-    d.pick(12, c.tills)
 }
 
 // Mostly the owner; one time in four any, of which two are unknown.
@@ -23,9 +24,10 @@ pub fn user_of(d: Dice) -> u32
     ensures { result ≤ 9 }
 {
     if d.pick(28, 4) == 0 {
-        return d.pick(16, 10);
+        d.pick(16, 10)
+    } else {
+        0
     }
-    0
 }
 
 // None, a byte too many, full, or any length.
@@ -33,17 +35,12 @@ fn bytes_of(c: Capacities, d: Dice) -> usize
     ensures { result ≤ most_bytes c.blocks c.measures.bytes + 1 }
 {
     let most = trial_keeper::image_bytes(c);
-    let kind = d.pick(48, 16);
-    if kind == 0 {
-        return 0;
+    match d.pick(48, 16) {
+        0 => 0,
+        1 => most + 1,
+        2..=7 => most,
+        _ => d.drawn(50, most as u64) as usize + 1,
     }
-    if kind == 1 {
-        return most + 1;
-    }
-    if kind < 8 {
-        return most;
-    }
-    d.drawn(50, most as u64) as usize + 1
 }
 
 // How many bytes the image has that now stands at the front; more than there is room for: none.
@@ -61,8 +58,5 @@ pub fn draw_image(c: Capacities, d: Dice, image: &mut [u8]) -> usize
 pub fn at_most(n: usize, most: usize) -> usize
     ensures { (result ≡ min n most) × (result ≤ most) }
 {
-    if n < most {
-        return n;
-    }
-    most
+    n.min(most)
 }

@@ -38,12 +38,10 @@ fn draw_each(
     sent: &mut [u8],
 ) -> usize {
     let mut e = seeded(d);
-    let mut bytes: usize = 0;
-    let mut i: usize = 0;
-    while i < images {
+    let mut bytes = 0;
+    for i in 0..images {
         e = e.rolled();
         bytes = draw_one(c, e, i, bytes, tills, lengths, sent);
-        i += 1;
     }
     bytes
 }

@@ -6,19 +6,16 @@ pub mod whole;
 
 ghost use Rattle.std.specs.Prelude.{◌≡◌, ◌<◌};
 
-use backup::BackedUp;
-use closing_backup::AllBackedUp;
+use answers::{AllBackedUp, BackedUp};
 use layout::Capacities;
+use refusals::Refusal;
 use trial_report::counts;
 
 // How many images have an answer of their own: none of a call that is refused whole.
 fn answered(refusal: u32, images: usize) -> usize
     ensures { (refusal ≡ 0 → result ≡ images) × (0 < refusal → result ≡ 0) }
 {
-    if refusal == 0 {
-        return images;
-    }
-    0
+    if refusal == 0 { images } else { 0 }
 }
 
 // Past the last image stands 0.
@@ -31,22 +28,19 @@ fn judge_rest(words: &[u32], images: usize, counts: &mut [u64]) {
 }
 
 // What can be told of an answer without a keeper.
-fn judge_answer(a: AllBackedUp, images: usize, expected: u32, counts: &mut [u64]) {
+fn judge_answer(a: AllBackedUp, images: usize, expected: Result<(), Refusal>, counts: &mut [u64]) {
     let refusals = a.refusals;
     let versions = a.versions;
     let n = answered(a.refusal, images);
-    counts::answered(counts, counts::CLOSINGS, a.refusal, expected);
+    let wanted = refusals::answered(&expected);
+    counts::answered(counts, counts::CLOSINGS, a.refusal, wanted);
     judge_rest(&refusals, n, counts);
     judge_rest(&versions, n, counts);
 }
 
-// 0 if an image is taken.
-fn none_taken(a: AllBackedUp) -> u32 {
+fn none_taken(a: AllBackedUp) -> bool {
     let versions = a.versions;
-    if trial_compare::filled_words(&versions) == 0 {
-        return 1;
-    }
-    0
+    trial_compare::filled_words(&versions) == 0
 }
 
 // The call, which leaves the buffers where no version is given.
@@ -62,8 +56,10 @@ fn call(
     let mut bytes = [0u8; trial_compare::POOL];
     let mut entries = [0u32; trial_compare::TABLE];
     trial_compare::copy(pool, table, &mut bytes, &mut entries);
-    let a = store::backup_all(pool, table, user, tills, lengths, sent);
-    trial_judge::buffers(none_taken(a), &bytes, &entries, pool, table, counts);
+    let a: AllBackedUp = store::backup_all(pool, table, user, tills, lengths, sent).into();
+    if none_taken(a) {
+        trial_judge::unaltered(&bytes, &entries, pool, table, counts);
+    }
     a
 }
 
@@ -72,9 +68,10 @@ fn outcome_of(refusal: u32) -> usize
     ensures { (refusal ≡ 0 → result ≡ 60) × (0 < refusal → result ≡ 61) }
 {
     if refusal == 0 {
-        return counts::TAKEN;
+        counts::TAKEN
+    } else {
+        counts::TURNED_AWAY
     }
-    counts::TURNED_AWAY
 }
 
 // The keeper gets the image as a backup of its own.
@@ -104,23 +101,12 @@ fn judge_each(
     notes: &mut [u32],
     counts: &mut [u64],
 ) {
-    let mut from: usize = 0;
-    let mut i: usize = 0;
-    while i < tills.len() {
+    let mut from = 0;
+    for (i, till) in tills.iter().enumerate() {
         let end = trial_images::end_of(lengths, i, from, sent.len());
         let a = trial_images::answer_at(refusals, versions, i);
-        judge_one(
-            a,
-            c,
-            user,
-            tills[i],
-            &sent[from..end],
-            images,
-            notes,
-            counts,
-        );
+        judge_one(a, c, user, *till, &sent[from..end], images, notes, counts);
         from = end;
-        i += 1;
     }
 }
 
@@ -140,7 +126,7 @@ fn back_up(
     let a = call(user, tills, lengths, sent, pool, table, counts);
     let refusals = a.refusals;
     let versions = a.versions;
-    judge_answer(a, tills.len(), 0, counts);
+    judge_answer(a, tills.len(), Ok(()), counts);
     judge_each(
         c, user, tills, lengths, sent, &refusals, &versions, images, notes, counts,
     );

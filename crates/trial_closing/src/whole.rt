@@ -3,6 +3,7 @@ ghost use Rattle.std.specs.Prelude.{◌≤◌, length};
 
 use layout::Capacities;
 use numbers::Measures;
+use refusals::Refusal;
 
 fn capacities() -> Capacities {
     Capacities {
@@ -39,17 +40,17 @@ fn refuse_parts(
         table,
         counts,
     );
-    crate::judge_answer(a, t, p.expected, counts);
+    crate::judge_answer(a, t, Err(p.expected), counts);
 }
 
-// How many tills, lengths and bytes; the till's reserved word; the number that is expected.
+// How many tills, lengths and bytes; the till's reserved word; the refusal that is expected.
 #[derive(Clone, Copy)]
 struct Parts {
     tills: usize,
     lengths: usize,
     bytes: usize,
     reserved: u32,
-    expected: u32,
+    expected: Refusal,
 }
 
 fn malformed(tills: usize, lengths: usize, bytes: usize) -> Parts
@@ -57,15 +58,15 @@ fn malformed(tills: usize, lengths: usize, bytes: usize) -> Parts
     ensures { (result.tills ≤ 17) × (result.lengths ≤ 17) × (result.bytes ≤ 17) }
 {
     Parts {
-        tills: tills,
-        lengths: lengths,
-        bytes: bytes,
+        tills,
+        lengths,
+        bytes,
         reserved: 0,
-        expected: 4,
+        expected: Refusal::ImageLength,
     }
 }
 
-// With a reserved word that is not zero: 10, also for what would be 4.
+// With a reserved word that is not zero: what is no sound store goes before what would be a wrong length.
 fn unsound(images: usize) -> Parts
     requires { images ≤ 17 }
     ensures { (result.tills ≤ 17) × (result.lengths ≤ 17) × (result.bytes ≤ 17) }
@@ -75,7 +76,7 @@ fn unsound(images: usize) -> Parts
         lengths: images,
         bytes: images,
         reserved: 1,
-        expected: 10,
+        expected: Refusal::Unsound,
     }
 }
 
@@ -112,10 +113,8 @@ fn refuse_one(n: u32, pool: &mut [u8], table: &mut [u32], counts: &mut [u64]) {
 }
 
 fn refuse_each(pool: &mut [u8], table: &mut [u32], counts: &mut [u64]) {
-    let mut n = 0;
-    while n < 8 {
+    for n in 0..8 {
         refuse_one(n, pool, table, counts);
-        n += 1;
     }
 }
 
@@ -124,7 +123,7 @@ fn wrapped(pool: &mut [u8], table: &mut [u32], counts: &mut [u64]) {
     let tills = [0u32; 2];
     let lengths = [4294967295u32, 2];
     let a = crate::call(0, &tills, &lengths, b"A", pool, table, counts);
-    crate::judge_answer(a, 2, 4, counts);
+    crate::judge_answer(a, 2, Err(Refusal::ImageLength), counts);
 }
 
 fn refused(pool: &mut [u8], table: &mut [u32], counts: &mut [u64]) {

@@ -1,15 +1,16 @@
 -- The counts of wrong bytes, taken place by place. Assumes nothing.
 use mathlib.Core.Path.{◌≡◌, refl, sym, ap, ◌∙◌}
 use mathlib.Core.Bool.{Bool, true, false}
-use mathlib.Core.List.{List, [], ◌∷◌, ◌++◌, append-nil}
+use mathlib.Core.List.{List, [], ◌∷◌}
 use Prim.Native.Nat.{ℕ, zero, suc, ◌+◌, ◌-◌, ◌≤◌, ◌<◌}
-use native.Mathlib.Nat.{le_of_suc-le-suc, not-suc-le-zero}
 use native.Mathlib.Numerals.{add-one}
 use native.Mathlib.Omega.{arith}
-use borrow.Author.Tests.{eqb-true, eqb-false, eq-eqb, ne_eqb}
+use borrow.Author.Tests.{eqb-true}
 use lib.Dec.{eqb}
-use lib.ListN.{length, get_or, take, drop, replicate, drop_of_length-le}
+use lib.ListN.{length, get_or, take, drop, drop_of_length-le}
 use lib.Seq.{drop-cons, take_all}
+use mir.Val.{bool_byte}
+use Rattle.std.proofs.Common.{fold, cond, not, leb, count_by, le-leb}
 use Rattle.trial_compare.specs.Bytes.{one_if_not, wrong_head, tail, differing, wrong_bytes, others}
 
 pub drop_next : (l : List ℕ) (i : ℕ) → i < length l → drop i l ≡ get_or l i 0 ∷ drop (i + 1) l
@@ -27,17 +28,26 @@ tail_drop l i = rw (add-one i) (tail_drop_suc l i)
 
 -- ---- one place
 
-pub head_same : (l : List ℕ) (i x : ℕ) → i < length l → get_or l i 0 ≡ x → wrong_head x (drop i l) ≡ 0
-unfolding wrong_head one_if_not
-head_same l i x h e = rw (drop_next l i h, eq-eqb (get_or l i 0) x e)
+at_most_one : (b : Bool) → bool_byte b ≤ 1
+at_most_one true = omega arith
+at_most_one false = omega arith
 
-pub head_other : (l : List ℕ) (i x : ℕ) → i < length l → (get_or l i 0 ≡ x → ⊥) → wrong_head x (drop i l) ≡ 1
-unfolding wrong_head one_if_not
-head_other l i x h e = rw (drop_next l i h, ne_eqb (get_or l i 0) x e)
+told : (t : Bool) → bool_byte (not t) ≡ one_if_not t
+unfolding one_if_not
+told true = refl
+told false = refl
 
-pub head_none : (l : List ℕ) (i x : ℕ) → length l ≤ i → wrong_head x (drop i l) ≡ 1
-unfolding wrong_head
-head_none l i x h = rw (drop_of_length-le l {i = i} h)
+module _ (l : List ℕ) (i x r : ℕ) (b : Bool) (g : r ≡ bool_byte b) where
+  bound : r ≤ 1
+  bound = omega (arith, at_most_one b)
+
+  pub none_there : length l ≤ i → b ≡ leb (length l) i → (r ≡ wrong_head x (drop i l)) × (r ≤ 1)
+  unfolding wrong_head
+  none_there h f = (rw (drop_of_length-le l {i = i} h) (g ∙ ap bool_byte (f ∙ le-leb (length l) i h)), bound)
+
+  pub one_there : i < length l → b ≡ not (eqb (get_or l i 0) x) → (r ≡ wrong_head x (drop i l)) × (r ≤ 1)
+  unfolding wrong_head
+  one_there h f = (rw (drop_next l i h) (g ∙ (ap bool_byte f ∙ told (eqb (get_or l i 0) x))), bound)
 
 -- ---- two lists
 
@@ -71,10 +81,6 @@ none_differing (x ∷ a) b e =
     let t : differing a (tail b) ≡ 0 = omega arith in
     ap (take (suc (length a))) (head_zero x b h) ∙ ap (λ (l : List ℕ). x ∷ l) (none_differing a (tail b) t)
 
-pub wrong_is : (a b : List ℕ) (d p : ℕ) → d ≡ differing a b → p ≡ length b - length a → d + p ≡ wrong_bytes a b
-unfolding wrong_bytes
-wrong_is a b d p e f = rw (e, f)
-
 pub none_wrong : (a b : List ℕ) → wrong_bytes a b ≡ 0 → a ≡ b
 unfolding wrong_bytes
 none_wrong a b e =
@@ -85,25 +91,15 @@ none_wrong a b e =
 
 -- ---- one list against one byte
 
-pub others_next : (x : ℕ) (l : List ℕ) (i : ℕ) → i < length l → others x (drop i l) ≡ wrong_head x (drop i l) + others x (drop (i + 1) l)
-unfolding others wrong_head
-others_next x l i h = rw (drop_next l i h)
+others_more : (n o s : ℕ) (t : Bool) → s ≡ n + cond (not t) 1 0 + o → s ≡ n + (one_if_not t + o)
+unfolding one_if_not
+others_more n o s true h = omega arith
+others_more n o s false h = omega arith
 
-pub others_end : (x : ℕ) (l : List ℕ) (i : ℕ) → length l ≤ i → others x (drop i l) ≡ 0
+others_from : (x n : ℕ) (l : List ℕ) → fold (λ a y. a + cond (not (eqb y x)) 1 0) n l ≡ n + others x l
 unfolding others
-others_end x l i h = rw (drop_of_length-le l {i = i} h)
+others_from x n [] = omega arith
+others_from x n (y ∷ l) = others_more n (others x l) _ (eqb y x) (others_from x (n + cond (not (eqb y x)) 1 0) l)
 
-pub filled_next :
-    (l : List ℕ) (i r : ℕ) → i < length l → (get_or l i 0 ≡ 0 → r ≡ 0) → (0 < get_or l i 0 → r ≡ 1) → others 0 (drop i l) ≡ r + others 0 (drop (i + 1) l)
-filled_next l i r h z o = others_next 0 l i h ∙ ap (λ (n : ℕ). n + others 0 (drop (i + 1) l)) (go (eqb (get_or l i 0) 0) refl)
-  where
-    go : (t : Bool) → eqb (get_or l i 0) 0 ≡ t → wrong_head 0 (drop i l) ≡ r
-    go true q = let e : get_or l i 0 ≡ 0 = eqb-true (get_or l i 0) 0 q in head_same l i 0 h e ∙ sym (z e)
-    go false q =
-        let e : get_or l i 0 ≡ 0 → ⊥ = eqb-false (get_or l i 0) 0 q in
-        head_other l i 0 h e ∙ sym (o (omega (arith, e)))
-
--- ---- a list filled to its end
-
-pub filled_up : (v : ℕ) (l : List ℕ) (i : ℕ) → i ≡ length l → replicate i v ++ drop i l ≡ replicate (length l) v
-filled_up v l i e = rw e (ap (λ (t : List ℕ). replicate (length l) v ++ t) (drop_of_length-le l {i = length l} (omega arith)) ∙ append-nil (replicate (length l) v))
+pub others_count : (x : ℕ) (l : List ℕ) → count_by (λ y. not (eqb y x)) l ≡ others x l
+others_count x l = omega (arith, others_from x 0 l)

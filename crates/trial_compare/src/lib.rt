@@ -6,24 +6,11 @@ ghost use Rattle.trial_compare.specs.Bytes.{wrong_head, others, Compared, FirstC
 
 use numbers::Cell;
 
+// 1 if another byte stands there, or none.
 fn differs_at(bytes: &[u8], at: usize, byte: u8) -> usize
     ensures { (result ≡ wrong_head byte (drop at bytes.now)) × (result ≤ 1) }
 {
-    if at < bytes.len() {
-        if bytes[at] == byte {
-            return 0;
-        }
-    }
-    1
-}
-
-fn past(a: usize, b: usize) -> usize
-    ensures { result ≡ b - a }
-{
-    if a < b {
-        return b - a;
-    }
-    0
+    usize::from(bytes.len() <= at || bytes[at] != byte)
 }
 
 // At how many of the first list's places the second, which may be longer, has another byte or none.
@@ -31,10 +18,8 @@ pub fn differing_bytes(a: &[u8], b: &[u8]) -> usize
     ensures { FirstCompared a.now b.now result }
 {
     let mut n = 0;
-    let mut i = 0;
-    while i < a.len() {
-        n += differs_at(b, i, a[i]);
-        i += 1;
+    for (i, byte) in a.iter().enumerate() {
+        n += differs_at(b, i, *byte);
     }
     n
 }
@@ -43,18 +28,14 @@ pub fn differing_bytes(a: &[u8], b: &[u8]) -> usize
 pub fn wrong_bytes(a: &[u8], b: &[u8]) -> usize
     ensures { Compared a.now b.now result }
 {
-    differing_bytes(a, b) + past(a.len(), b.len())
+    differing_bytes(a, b) + b.len().saturating_sub(a.len())
 }
 
+// Kept: the new form is no plainer: the contract counts numbers, and the values of a type parameter are none.
 fn word_differs_at(words: &[u32], at: usize, word: u32) -> usize
     ensures { (result ≡ wrong_head word (drop at words.now)) × (result ≤ 1) }
 {
-    if at < words.len() {
-        if words[at] == word {
-            return 0;
-        }
-    }
-    1
+    usize::from(words.len() <= at || words[at] != word)
 }
 
 // The same of words.
@@ -62,10 +43,8 @@ pub fn differing_words(words: &[u32], copy: &[u32]) -> usize
     ensures { FirstCompared words.now copy.now result }
 {
     let mut n = 0;
-    let mut i = 0;
-    while i < words.len() {
-        n += word_differs_at(copy, i, words[i]);
-        i += 1;
+    for (i, word) in words.iter().enumerate() {
+        n += word_differs_at(copy, i, *word);
     }
     n
 }
@@ -75,19 +54,12 @@ pub const POOL: usize = 4096;
 
 pub const TABLE: usize = 600;
 
-fn copy_bytes(pool: &[u8], bytes: &mut [u8])
-    ensures { length pool.now ≤ length bytes.old → bytes.new ≡ pool.now ++ drop (length pool.now) bytes.old }
+// One that has no room is not made.
+fn copy_in<T: Copy>(items: &[T], room: &mut [T])
+    ensures { length items.now ≤ length room.old → room.new ≡ items.now ++ drop (length items.now) room.old }
 {
-    if pool.len() <= bytes.len() {
-        blocks::copy_in(pool, bytes);
-    }
-}
-
-fn copy_words(table: &[u32], entries: &mut [u32])
-    ensures { length table.now ≤ length entries.old → entries.new ≡ table.now ++ drop (length table.now) entries.old }
-{
-    if table.len() <= entries.len() {
-        words::copy_in(table, entries);
+    if items.len() <= room.len() {
+        room[..items.len()].copy_from_slice(items);
     }
 }
 
@@ -95,8 +67,8 @@ fn copy_words(table: &[u32], entries: &mut [u32])
 pub fn copy(pool: &[u8], table: &[u32], bytes: &mut [u8], entries: &mut [u32])
     ensures { (length pool.now ≤ length bytes.old → bytes.new ≡ pool.now ++ drop (length pool.now) bytes.old) × (length table.now ≤ length entries.old → entries.new ≡ table.now ++ drop (length table.now) entries.old) }
 {
-    copy_bytes(pool, bytes);
-    copy_words(table, entries);
+    copy_in(pool, bytes);
+    copy_in(table, entries);
 }
 
 // What an output is filled with before a restore.
@@ -105,24 +77,14 @@ const MARK: u8 = 170;
 pub fn mark(output: &mut [u8])
     ensures { output.new ≡ replicate (length output.old) 170 }
 {
-    let mut i = 0;
-    while i < output.len() {
-        output[i] = MARK;
-        i += 1;
-    }
+    output.fill(MARK);
 }
 
 // How many are another byte.
 pub fn others_than(byte: u8, bytes: &[u8]) -> usize
     ensures { result ≡ others byte bytes.now }
 {
-    let mut n = 0;
-    let mut i = 0;
-    while i < bytes.len() {
-        n += differs_at(bytes, i, byte);
-        i += 1;
-    }
-    n
+    bytes.iter().filter(|b| **b != byte).count()
 }
 
 pub fn unmarked(output: &[u8]) -> usize
@@ -131,42 +93,20 @@ pub fn unmarked(output: &[u8]) -> usize
     others_than(MARK, output)
 }
 
-fn one_if_filled(word: u32) -> usize
-    ensures { (word ≡ 0 → result ≡ 0) × (0 < word → result ≡ 1) × (result ≤ 1) }
-{
-    if word == 0 {
-        return 0;
-    }
-    1
-}
-
 // How many words are other than zero.
 pub fn filled_words(words: &[u32]) -> usize
     ensures { result ≡ others 0 words.now }
 {
-    let mut n = 0;
-    let mut i = 0;
-    while i < words.len() {
-        n += one_if_filled(words[i]);
-        i += 1;
-    }
-    n
+    words.iter().filter(|word| **word != 0).count()
 }
 
-// 1 if it has a byte other than zero.
-fn filled_at(pool: &[u8], cell: Cell, bytes: usize) -> u32
+// Whether it has a byte other than zero.
+fn is_filled(pool: &[u8], cell: Cell, bytes: usize) -> bool
     requires { bytes ≤ 512 }
-    ensures { result ≤ 1 }
 {
     let at = cell.byte(bytes);
     let end = at + bytes;
-    if pool.len() < end {
-        return 0;
-    }
-    if others_than(0, &pool[at..end]) == 0 {
-        return 0;
-    }
-    1
+    end <= pool.len() && others_than(0, &pool[at..end]) != 0
 }
 
 // How many cells, of so many bytes, have a byte other than zero.
@@ -175,10 +115,8 @@ pub fn filled_cells(pool: &[u8], cells: u32, bytes: usize) -> u32
     ensures { result ≤ cells }
 {
     let mut n = 0;
-    let mut cell = 0;
-    while cell < cells {
-        n += filled_at(pool, Cell(cell), bytes);
-        cell += 1;
+    for cell in 0..cells {
+        n += u32::from(is_filled(pool, Cell(cell), bytes));
     }
     n
 }

@@ -1,31 +1,22 @@
 // A day at the box: the page's cases 1 to 4, then version 1 is restored and retired. A line for each call, with what the store answered.
 #![tactic(auto)]
 
+use answers::{BackedUp, Restored, Retired, Tally};
 use layout::Capacities;
 use numbers::Measures;
 use std::io;
 use trial_draw::images;
 
-fn print_number(rt: &impl Print, n: u32) -> io::Result<()> {
-    print!(rt; " {n}")
-}
-
 // The call, its till, the version given or named, that version's length, hops, cells.
 fn print_call(
     rt: &impl Print,
-    call: &[u8],
+    call: &str,
     version: u32,
     length: u32,
     hops: u32,
     cells: u32,
 ) -> io::Result<()> {
-    rt.write_all(call)?;
-    print_number(rt, 0)?;
-    print_number(rt, version)?;
-    print_number(rt, length)?;
-    print_number(rt, hops)?;
-    print_number(rt, cells)?;
-    rt.write_all(b"\n")
+    println!(rt; "{call} 0 {version} {length} {hops} {cells}")
 }
 
 // A length counts if the bytes are the image's.
@@ -35,26 +26,26 @@ fn length_if_same(length: u32, output: &[u8], image: &[u8]) -> u32 {
 
 // A backup answers no length: the version is restored at once.
 fn back_up(rt: &impl Print, pool: &mut [u8], table: &mut [u32], image: &[u8]) -> io::Result<()> {
-    let given = store::backup(pool, table, 0, 0, image);
+    let given: BackedUp = store::backup(pool, table, 0, 0, image).into();
     let mut output = [0u8; 512];
-    let back = store::restore(pool, table, 0, 0, given.version, &mut output);
+    let back: Restored = store::restore(pool, table, 0, 0, given.version, &mut output).into();
     let length = length_if_same(back.length, &output, image);
-    let kept = store::tally(pool, table, 0);
-    print_call(rt, b"backup", given.version, length, 0, kept.cells)
+    let kept: Tally = store::tally(pool, table, 0).into();
+    print_call(rt, "backup", given.version, length, 0, kept.cells)
 }
 
 fn restore_first(rt: &impl Print, pool: &[u8], table: &[u32], image: &[u8]) -> io::Result<()> {
     let mut output = [0u8; 512];
-    let back = store::restore(pool, table, 0, 0, 1, &mut output);
+    let back: Restored = store::restore(pool, table, 0, 0, 1, &mut output).into();
     let length = length_if_same(back.length, &output, image);
-    let kept = store::tally(pool, table, 0);
-    print_call(rt, b"restore", 1, length, back.hops, kept.cells)
+    let kept: Tally = store::tally(pool, table, 0).into();
+    print_call(rt, "restore", 1, length, back.hops, kept.cells)
 }
 
 fn retire_first(rt: &impl Print, pool: &mut [u8], table: &mut [u32]) -> io::Result<()> {
-    let gone = store::retire(pool, table, 0, 0, 1);
-    let kept = store::tally(pool, table, 0);
-    print_call(rt, b"retire", 1, gone.length, 0, kept.cells)
+    let gone: Retired = store::retire(pool, table, 0, 0, 1).into();
+    let kept: Tally = store::tally(pool, table, 0).into();
+    print_call(rt, "retire", 1, gone.length, 0, kept.cells)
 }
 
 fn day(
@@ -64,7 +55,7 @@ fn day(
     first: &[u8],
     second: &[u8],
 ) -> io::Result<()> {
-    rt.write_all(b"call till version length hops cells\n")?;
+    println!(rt; "call till version length hops cells")?;
     back_up(rt, pool, table, first)?;
     back_up(rt, pool, table, second)?;
     back_up(rt, pool, table, first)?;
@@ -80,7 +71,7 @@ fn open(
     first: &[u8],
     second: &[u8],
 ) -> io::Result<()> {
-    store::lay_out(
+    let _ = store::lay_out(
         pool,
         table,
         Capacities {

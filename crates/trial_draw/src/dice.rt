@@ -29,19 +29,13 @@ impl Dice {
         requires { from < 64 }
         ensures { (result ≤ n) × (0 < n → result < n) }
     {
-        if n == 0 {
-            return 0;
-        }
-        (self.state >> from) % n
+        if n == 0 { 0 } else { (self.state >> from) % n }
     }
 
     pub fn pick(self, from: u32, n: u32) -> u32
         requires { from < 64 }
         ensures { (result ≤ n) × (0 < n → result < n) }
     {
-        if n == 0 {
-            return 0;
-        }
-        self.drawn(from, n as u64) as u32
+        self.drawn(from, u64::from(n)) as u32
     }
 }

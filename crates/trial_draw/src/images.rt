@@ -29,10 +29,7 @@ fn letter_of(x: u64) -> u8
     ensures { result ≤ 9 }
 {
     let n = x % 12;
-    if n < 10 {
-        return n as u8;
-    }
-    0
+    if n < 10 { n as u8 } else { 0 }
 }
 
 fn letter_at(p: Plan, block: usize) -> u8
@@ -41,10 +38,7 @@ fn letter_at(p: Plan, block: usize) -> u8
     if block == p.changed {
         return p.letter;
     }
-    let mut n = block as u64;
-    if p.repeats {
-        n = n % 8;
-    }
+    let n = if p.repeats { block % 8 } else { block } as u64;
     letter_of(mixed(mixed(p.seed ^ (n << 20))))
 }
 
@@ -52,21 +46,19 @@ fn byte_of(letter: u8, at: usize) -> u8
     ensures { letter ≤ 9 → (result ≤ 8) ⊎ (result ≡ 255) }
 {
     if letter == 9 {
-        return 255;
+        255
+    } else if at == 63 {
+        letter
+    } else {
+        letter / 2
     }
-    if at == 63 {
-        return letter;
-    }
-    letter / 2
 }
 
 pub fn fill(image: &mut [u8], p: Plan)
     ensures { (k : ℕ) → k < length image.old → p.letter ≤ 9 → (get_or image.new k 0 ≤ 8) ⊎ (get_or image.new k 0 ≡ 255) }
 {
-    let mut i = 0;
-    while i < image.len() {
-        image[i] = byte_of(letter_at(p, i / 64), i % 64);
-        i += 1;
+    for (i, byte) in image.iter_mut().enumerate() {
+        *byte = byte_of(letter_at(p, i / 64), i % 64);
     }
 }
 
@@ -74,18 +66,13 @@ pub fn fill(image: &mut [u8], p: Plan)
 pub fn spell(image: &mut [u8], letters: &[u8])
     ensures { (k : ℕ) → k < length image.old → get_or image.new k 0 ≡ get_or letters.now (k / 64) 0 }
 {
-    let mut i = 0;
-    while i < image.len() {
-        image[i] = letter_or_null(letters, i / 64);
-        i += 1;
+    for (i, byte) in image.iter_mut().enumerate() {
+        *byte = letter_or_null(letters, i / 64);
     }
 }
 
 fn letter_or_null(letters: &[u8], block: usize) -> u8
     ensures { result ≡ get_or letters.now block 0 }
 {
-    if block < letters.len() {
-        return letters[block];
-    }
-    0
+    letters.get(block).copied().unwrap_or(0)
 }

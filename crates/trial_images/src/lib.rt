@@ -3,7 +3,7 @@
 
 ghost use Rattle.std.specs.Prelude.{◌≡◌, ◌+◌, ◌≤◌, min, get_or};
 
-use backup::BackedUp;
+use answers::BackedUp;
 
 // The answer to the image at a place.
 pub fn answer_at(refusals: &[u32], versions: &[u32], at: usize) -> BackedUp
@@ -22,7 +22,8 @@ pub fn end_of(lengths: &[u32], at: usize, from: usize, bytes: usize) -> usize
 {
     let length = trial_keeper::note_at(lengths, at) as usize;
     if length < bytes - from {
-        return from + length;
+        from + length
+    } else {
+        bytes
     }
-    bytes
 }

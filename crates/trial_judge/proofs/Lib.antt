@@ -1,3 +1,2 @@
--- The modules of the crate's proofs.
-pub mod Judging
+-- The module of the crate's proofs.
 pub mod Wanted

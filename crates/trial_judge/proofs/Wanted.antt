@@ -1,45 +1,45 @@
--- The number that is wanted of a call, case by case. Assumes nothing.
-use mathlib.Core.Path.{◌≡◌}
-use mathlib.Core.List.{List}
-use Prim.Native.Nat.{ℕ}
-use borrow.Author.Tests.{eq-eqb, ne_eqb}
-use Rattle.trial_report.specs.Counts.{answered_with}
-use Rattle.trial_judge.specs.Judge.{first_refusal, or_full}
+-- What the user may do goes before what the call may. Assumes nothing.
+use Rattle.std.proofs.Common.{◌≡◌, ℕ, false, eqb, Result, Ok, Err, refl, ap, ◌∙◌}
+use Rattle.std.specs.Result.{result_and}
+use Rattle.refusals.specs.declared.Refusal.{Refusal}
+use Rattle.refusals.specs.declared.Refusal.TheVariants.{Capacity, Lengths, NoSuchTill, ImageLength, ShortOutput, Unsound, TillFull, NumbersSpent, NoRecord, NoRun, NeverGiven, NoLongerHeld, OtherSegment, NoSegment, OverLimit, UnknownUser, NoRight, StreamSize, StreamLength, StreamBits, NoTurn, EarlierDay, NoneSoEarly, HighPrice}
+use Rattle.refusals.specs.Refusals.{number_of, refusal_of}
+use Rattle.trial_judge.specs.Judge.{first_refusal}
 
-pub the_first : (a b : ℕ) → (a ≡ 0 → ⊥) → a ≡ first_refusal a b
+-- no reason has the number of an accepted call
+some : (r : Refusal) → eqb (number_of r) 0 ≡ false
+some Capacity = refl
+some Lengths = refl
+some NoSuchTill = refl
+some ImageLength = refl
+some ShortOutput = refl
+some Unsound = refl
+some TillFull = refl
+some NumbersSpent = refl
+some NoRecord = refl
+some NoRun = refl
+some NeverGiven = refl
+some NoLongerHeld = refl
+some OtherSegment = refl
+some NoSegment = refl
+some OverLimit = refl
+some UnknownUser = refl
+some NoRight = refl
+some StreamSize = refl
+some StreamLength = refl
+some StreamBits = refl
+some NoTurn = refl
+some EarlierDay = refl
+some NoneSoEarly = refl
+some HighPrice = refl
+
+first : {A B : Type 0} (may : Result A Refusal) (own : Result B Refusal) → refusal_of (result_and may own) ≡ first_refusal (refusal_of may) (refusal_of own)
 unfolding first_refusal
-the_first a b h = rw (ne_eqb a 0 h)
+first (Ok _) own = refl
+first (Err r) own = rw (some r) refl
 
-pub the_second : (a b : ℕ) → a ≡ 0 → b ≡ first_refusal a b
-unfolding first_refusal
-the_second a b h = rw (eq-eqb a 0 h)
-
-module _ (wanted refusal : ℕ) where
-  pub its_own : (wanted ≡ 0 → ⊥) → wanted ≡ or_full wanted refusal
-  unfolding or_full
-  its_own h = rw (ne_eqb wanted 0 h)
-
-  module _ (h : wanted ≡ 0) where
-    pub no_cells : refusal ≡ 14 → refusal ≡ or_full wanted refusal
-    unfolding or_full
-    no_cells e = rw (eq-eqb wanted 0 h, eq-eqb refusal 14 e) e
-
-    module _ (n : refusal ≡ 14 → ⊥) where
-      pub no_records : refusal ≡ 16 → refusal ≡ or_full wanted refusal
-      unfolding or_full
-      no_records e = rw (eq-eqb wanted 0 h, ne_eqb refusal 14 n, eq-eqb refusal 16 e) e
-
-      pub no_refusal : (refusal ≡ 16 → ⊥) → 0 ≡ or_full wanted refusal
-      unfolding or_full
-      no_refusal m = rw (eq-eqb wanted 0 h, ne_eqb refusal 14 n, ne_eqb refusal 16 m)
-
--- ---- the user's refusal goes before the call's own
-pub number_told :
-    (l m : List ℕ) (kind refusal may own wanted u r : ℕ) → may ≡ u → own ≡ r → wanted ≡ first_refusal may own → m ≡ answered_with l kind refusal wanted
-    → m ≡ answered_with l kind refusal (first_refusal u r)
-number_told l m kind refusal may own wanted u r e f g h = rw (h, g, f, e)
-
-pub backup_told :
-    (l m : List ℕ) (kind refusal may own wanted full u r : ℕ) → may ≡ u → own ≡ r → wanted ≡ first_refusal may own → full ≡ or_full wanted refusal
-    → m ≡ answered_with l kind refusal full → m ≡ answered_with l kind refusal (or_full (first_refusal u r) refusal)
-backup_told l m kind refusal may own wanted full u r e f g h i = rw (i, h, g, f, e)
+pub wanted_told :
+    {A B : Type 0} (may : Result A Refusal) (own wanted : Result B Refusal) (u r : ℕ) → refusal_of may ≡ u → refusal_of own ≡ r → wanted ≡ result_and may own
+    → refusal_of wanted ≡ first_refusal u r
+wanted_told may own wanted u r e f g =
+    ap refusal_of g ∙ (first may own ∙ (ap (λ (k : ℕ). first_refusal k (refusal_of own)) e ∙ ap (first_refusal u) f))

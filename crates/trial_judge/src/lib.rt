@@ -2,20 +2,19 @@
 #![tactic(auto)]
 
 ghost use Rattle.std.specs.Prelude.{cond, [], ◌∷◌, ◌≡◌, eqb, length};
+ghost use Rattle.refusals.specs.Refusals.{refusal_of};
 ghost use Rattle.trial_report.specs.Counts.{expected, answered_with};
 ghost use Rattle.trial_keeper.specs.Notes.{last_given, newer_than, place_of, newest_of, oldest_of, length_of, struck, filed, image_at, filed_images, wrong_from, most_bytes, user_refusal, set_refusal, rights_set};
-ghost use Rattle.trial_judge.specs.Judge.{backups, restores, retires, listings, tallies, rights_calls, zeros, refused_as, first_refusal, or_full, wanted_backup, wanted_restore, wanted_retire, compared, backup_version, count_retired, restored_bytes, restored_chain, not_restored, listed_as};
+ghost use Rattle.trial_judge.specs.Judge.{backups, restores, retires, listings, tallies, rights_calls, zeros, refused_as, or_full, wanted_backup, wanted_restore, wanted_retire, compared, backup_version, count_retired, restored_bytes, restored_chain, not_restored, listed_as};
 
-use backup::BackedUp;
+use answers::{BackedUp, Listing, Restored, Retired, Tally};
 use layout::Capacities;
-use restore::Restored;
-use retire::Retired;
+use refusals::Refusal;
 use rights::Rights;
-use tally::Tally;
-use tills::Listing;
 use trial_report::counts;
 
 // The buffers have the bytes and words of their copies.
+#[tactic(auto, unfolding(crate::specs::Judge::compared))]
 pub fn unaltered(bytes: &[u8], entries: &[u32], pool: &[u8], table: &[u32], counts: &mut [u64])
     ensures { counts.new ≡ compared counts.old bytes.now entries.now pool.now table.now }
 {
@@ -40,6 +39,7 @@ pub fn buffers(
 }
 
 // A refusal has its number, and every other field is 0.
+#[tactic(auto, unfolding(crate::specs::Judge::refused_as, crate::specs::Judge::zeros))]
 pub fn backup_refused(a: BackedUp, wanted: u32, counts: &mut [u64])
     ensures { counts.new ≡ refused_as counts.old backups a.refusal wanted (a.version ∷ []) }
 {
@@ -47,6 +47,7 @@ pub fn backup_refused(a: BackedUp, wanted: u32, counts: &mut [u64])
     counts::expect(counts, a.version == 0);
 }
 
+#[tactic(auto, unfolding(crate::specs::Judge::refused_as, crate::specs::Judge::zeros))]
 pub fn retire_refused(a: Retired, wanted: u32, counts: &mut [u64])
     ensures { counts.new ≡ refused_as counts.old retires a.refusal wanted (a.length ∷ []) }
 {
@@ -54,6 +55,7 @@ pub fn retire_refused(a: Retired, wanted: u32, counts: &mut [u64])
     counts::expect(counts, a.length == 0);
 }
 
+#[tactic(auto, unfolding(crate::specs::Judge::refused_as, crate::specs::Judge::zeros))]
 pub fn tally_refused(a: Tally, wanted: u32, counts: &mut [u64])
     ensures { counts.new ≡ refused_as counts.old tallies a.refusal wanted (a.cells ∷ a.records ∷ a.counts ∷ []) }
 {
@@ -63,6 +65,7 @@ pub fn tally_refused(a: Tally, wanted: u32, counts: &mut [u64])
     counts::expect(counts, a.counts == 0);
 }
 
+#[tactic(auto, unfolding(crate::specs::Judge::zeros))]
 fn not_listed(a: Listing, counts: &mut [u64])
     ensures { counts.new ≡ zeros counts.old (a.oldest ∷ a.newest ∷ a.last ∷ []) }
 {
@@ -71,6 +74,7 @@ fn not_listed(a: Listing, counts: &mut [u64])
     counts::expect(counts, a.last == 0);
 }
 
+#[tactic(auto, unfolding(crate::specs::Judge::refused_as, crate::specs::Judge::zeros))]
 pub fn listing_refused(a: Listing, wanted: u32, counts: &mut [u64])
     ensures { counts.new ≡ refused_as counts.old listings a.refusal wanted (a.oldest ∷ a.newest ∷ a.last ∷ []) }
 {
@@ -79,6 +83,7 @@ pub fn listing_refused(a: Listing, wanted: u32, counts: &mut [u64])
 }
 
 // The output is as it was marked.
+#[tactic(auto, unfolding(crate::specs::Judge::not_restored))]
 fn not_restored(a: Restored, output: &[u8], counts: &mut [u64])
     ensures { counts.new ≡ not_restored counts.old a.length a.hops output.now }
 {
@@ -87,6 +92,7 @@ fn not_restored(a: Restored, output: &[u8], counts: &mut [u64])
     counts::expect_unaltered(counts, trial_compare::unmarked(output) == 0);
 }
 
+#[tactic(auto, unfolding(crate::specs::Judge::not_restored))]
 pub fn restore_refused(a: Restored, wanted: u32, output: &[u8], counts: &mut [u64])
     ensures { counts.new ≡ not_restored (answered_with counts.old restores a.refusal wanted) a.length a.hops output.now }
 {
@@ -94,32 +100,18 @@ pub fn restore_refused(a: Restored, wanted: u32, output: &[u8], counts: &mut [u6
     not_restored(a, output, counts);
 }
 
-// The first refusal, if there is one, or the second.
-fn first_of(a: u32, b: u32) -> u32
-    ensures { result ≡ first_refusal a b }
-{
-    if a != 0 {
-        return a;
-    }
-    b
-}
-
 // Whether there is room, 14 and 16, is for the store to say.
-fn or_full(wanted: u32, refusal: u32) -> u32
-    ensures { result ≡ or_full wanted refusal }
+#[tactic(auto, unfolding(crate::specs::Judge::or_full))]
+fn or_full(wanted: Result<(), Refusal>, refusal: u32) -> u32
+    ensures { result ≡ or_full (refusal_of wanted) refusal }
 {
-    if wanted != 0 {
-        return wanted;
+    match wanted {
+        Ok(()) if matches!(refusal, 14 | 16) => refusal,
+        _ => refusals::answered(&wanted),
     }
-    if refusal == 14 {
-        return refusal;
-    }
-    if refusal == 16 {
-        return refusal;
-    }
-    0
 }
 
+#[tactic(auto, unfolding(crate::specs::Judge::first_refusal))]
 fn backup_number(
     c: Capacities,
     user: u32,
@@ -132,11 +124,12 @@ fn backup_number(
     ensures { counts.new ≡ answered_with counts.old backups refusal (or_full (wanted_backup c.tills c.versions (most_bytes c.blocks c.measures.bytes) notes.now user till bytes) refusal) }
 {
     let may = trial_keeper::refusal_of(c, notes, user, till, trial_keeper::BACK_UP);
-    let wanted = first_of(may, trial_keeper::backup_refusal(c, notes, till, bytes));
+    let wanted = may.and(trial_keeper::backup_refusal(c, notes, till, bytes));
     counts::answered(counts, counts::BACKUPS, refusal, or_full(wanted, refusal));
 }
 
 // An accepted image is filed.
+#[tactic(auto, unfolding(crate::specs::Judge::backup_version))]
 fn backup_version(
     a: BackedUp,
     till: u32,
@@ -171,6 +164,7 @@ pub fn backed_up(
     backup_version(a, till, image, images, notes, counts);
 }
 
+#[tactic(auto, unfolding(crate::specs::Judge::first_refusal))]
 fn retire_number(
     c: Capacities,
     user: u32,
@@ -183,21 +177,28 @@ fn retire_number(
     ensures { counts.new ≡ answered_with counts.old retires refusal (wanted_retire c.tills notes.now user till version) }
 {
     let may = trial_keeper::refusal_of(c, notes, user, till, trial_keeper::RETIRE);
-    let wanted = first_of(may, trial_keeper::retire_refusal(c, notes, till, version));
-    counts::answered(counts, counts::RETIRES, refusal, wanted);
+    let wanted = may.and(trial_keeper::retire_refusal(c, notes, till, version));
+    counts::answered(
+        counts,
+        counts::RETIRES,
+        refusal,
+        refusals::answered(&wanted),
+    );
 }
 
+#[tactic(auto, unfolding(crate::specs::Judge::count_retired))]
 fn count_retired(till: u32, version: u32, notes: &[u32], counts: &mut [u64])
     ensures { counts.new ≡ count_retired counts.old (oldest_of notes.now till) (newest_of notes.now till) version }
 {
     if version == trial_keeper::oldest(notes, till) {
         return;
     }
-    if version == trial_keeper::newest(notes, till) {
-        counts::add(counts, counts::NEWEST, 1);
-        return;
-    }
-    counts::add(counts, counts::BETWEEN, 1);
+    let place = if version == trial_keeper::newest(notes, till) {
+        counts::NEWEST
+    } else {
+        counts::BETWEEN
+    };
+    counts::add(counts, place, 1);
 }
 
 // A retired version is struck.
@@ -229,6 +230,7 @@ pub fn retired(
     }
 }
 
+#[tactic(auto, unfolding(crate::specs::Judge::restored_bytes))]
 fn restored_bytes(
     a: Restored,
     till: u32,
@@ -242,21 +244,23 @@ fn restored_bytes(
 {
     let wrong = trial_keeper::wrong_in(images, notes, till, version, output);
     counts::add(counts, counts::VERSIONS, 1);
-    counts::add(counts, counts::BYTES, a.length as u64);
+    counts::add(counts, counts::BYTES, u64::from(a.length));
     counts::add(counts, counts::WRONG_BYTES, wrong as u64);
 }
 
 // The chain is no longer than there are newer versions held: 0 for the newest.
+#[tactic(auto, unfolding(crate::specs::Judge::restored_chain))]
 fn restored_chain(a: Restored, till: u32, version: u32, notes: &[u32], counts: &mut [u64])
     ensures { counts.new ≡ restored_chain counts.old a.length a.hops (length_of notes.now till version) (newer_than notes.now till version) }
 {
     let bytes = trial_keeper::length(notes, till, version);
     let newer = trial_keeper::newer(notes, till, version);
-    counts::raise(counts, counts::CHAIN, a.hops as u64);
+    counts::raise(counts, counts::CHAIN, u64::from(a.hops));
     counts::expect(counts, a.length == bytes);
     counts::expect(counts, a.hops <= newer);
 }
 
+#[tactic(auto, unfolding(crate::specs::Judge::first_refusal))]
 fn restore_number(
     c: Capacities,
     user: u32,
@@ -270,11 +274,13 @@ fn restore_number(
     ensures { counts.new ≡ answered_with counts.old restores refusal (wanted_restore c.tills notes.now user till version room) }
 {
     let may = trial_keeper::refusal_of(c, notes, user, till, trial_keeper::RESTORE);
-    let wanted = first_of(
-        may,
-        trial_keeper::restore_refusal(c, notes, till, version, room),
+    let wanted = may.and(trial_keeper::restore_refusal(c, notes, till, version, room));
+    counts::answered(
+        counts,
+        counts::RESTORES,
+        refusal,
+        refusals::answered(&wanted),
     );
-    counts::answered(counts, counts::RESTORES, refusal, wanted);
 }
 
 pub fn restored(
@@ -300,6 +306,7 @@ pub fn restored(
     }
 }
 
+#[tactic(auto, unfolding(crate::specs::Judge::listed_as))]
 fn listed_as(a: Listing, till: u32, notes: &[u32], counts: &mut [u64])
     ensures { counts.new ≡ listed_as counts.old a.oldest a.newest a.last (oldest_of notes.now till) (newest_of notes.now till) (last_given notes.now till) }
 {
@@ -308,12 +315,18 @@ fn listed_as(a: Listing, till: u32, notes: &[u32], counts: &mut [u64])
     counts::expect(counts, a.last == trial_keeper::last(notes, till));
 }
 
+#[tactic(auto, unfolding(crate::specs::Judge::refused_as))]
 pub fn listed(a: Listing, c: Capacities, user: u32, till: u32, notes: &[u32], counts: &mut [u64])
     ensures { counts.new ≡ cond (eqb (user_refusal c.tills notes.now user till 0) 0) (listed_as (answered_with counts.old listings a.refusal (user_refusal c.tills notes.now user till 0)) a.oldest a.newest a.last (oldest_of notes.now till) (newest_of notes.now till) (last_given notes.now till)) (refused_as counts.old listings a.refusal (user_refusal c.tills notes.now user till 0) (a.oldest ∷ a.newest ∷ a.last ∷ [])) }
 {
     let wanted = trial_keeper::refusal_of(c, notes, user, till, trial_keeper::LIST);
-    counts::answered(counts, counts::LISTINGS, a.refusal, wanted);
-    if wanted == 0 {
+    counts::answered(
+        counts,
+        counts::LISTINGS,
+        a.refusal,
+        refusals::answered(&wanted),
+    );
+    if wanted.is_ok() {
         listed_as(a, till, notes, counts);
     } else {
         not_listed(a, counts);
@@ -334,7 +347,7 @@ pub fn rights_set(
     ensures { (counts.new ≡ answered_with counts.old rights_calls refusal (set_refusal c.tills user subject till)) × (notes.new ≡ cond (eqb refusal 0) (rights_set notes.old till subject rights.list rights.back_up rights.restore rights.retire) notes.old) }
 {
     let wanted = trial_keeper::set_refusal(c, user, subject, till);
-    counts::answered(counts, counts::RIGHTS, refusal, wanted);
+    counts::answered(counts, counts::RIGHTS, refusal, refusals::answered(&wanted));
     if refusal == 0 {
         trial_keeper::set_rights(notes, till, subject, rights);
     }

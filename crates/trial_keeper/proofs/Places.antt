@@ -1,5 +1,6 @@
 -- The five places of a till gone through from the last to the first. Assumes nothing.
-use Rattle.std.proofs.Common.{◌≡◌, ℕ, zero, suc, ◌+◌, ◌-◌, ◌<◌, ◌≤◌, max, false, cond, eqb, ltb, List, ◌∷◌, sym, refl, ap, ◌∙◌, subst, arith, ltb-false, ltb-true, eqb-true}
+use mir.Val.{bool_byte}
+use Rattle.std.proofs.Common.{◌≡◌, ℕ, zero, suc, ◌+◌, ◌-◌, ◌<◌, ◌≤◌, max, eq-eqb, ne_eqb, Bool, true, false, cond, eqb, ltb, List, ◌∷◌, sym, refl, ap, ◌∙◌, subst, arith, ltb-false, ltb-true, eqb-true}
 use borrow.Author.Tests.{eqb-false}
 use Rattle.lists.specs.Lists.{counted, count, largest}
 use Rattle.lists.proofs.Tests.{by_test}
@@ -22,22 +23,20 @@ step f (suc (suc (suc (suc (suc i))))) l = absurd (omega arith)
 pub steps : (f : ℕ → ℕ) (i j x : ℕ) → j ≡ suc i → i < 5 → x ≡ f i → from f i ≡ x ∷ from f j
 steps f i j x e l h = subst (λ k. from f i ≡ x ∷ from f k) (sym e) (subst (λ y. from f i ≡ y ∷ from f (suc i)) (sym h) (step f i l))
 
-pub count_more :
-    (f : ℕ → ℕ) (v i j x n r : ℕ) → j ≡ suc i → i < 5 → x ≡ f i → n ≡ count (ltb v) (from f j) → (v < x → r ≡ 1) → (x ≤ v → r ≡ 0)
-    → n + r ≡ count (ltb v) (from f i)
-unfolding count
-count_more f v i j x n r e l g h above below =
-    let a : count (ltb v) (from f i) ≡ cond (ltb v x) 1 0 + count (ltb v) (from f j) = ap (count (ltb v)) (steps f i j x e l g) in
-    let b : cond (ltb v x) 1 0 ≡ r = by_test (λ k. k ≡ r) (ltb v x) (λ t. sym (above (ltb-true v x t))) (λ t. sym (below (ltb-false v x t))) in
-    omega (arith, a, b, h)
+as_one : (t : Bool) → bool_byte t ≡ cond t 1 0
+as_one true = refl
+as_one false = refl
 
-pub largest_more :
-    (f : ℕ → ℕ) (i j x n r : ℕ) → j ≡ suc i → i < 5 → x ≡ f i → n ≡ largest (from f j) → (x ≤ n → r ≡ n) → (n < x → r ≡ x) → r ≡ largest (from f i)
+pub count_more :
+    (f : ℕ → ℕ) (v i j x n r : ℕ) → j ≡ suc i → i < 5 → x ≡ f i → n ≡ count (ltb v) (from f j) → r ≡ bool_byte (ltb v x) → n + r ≡ count (ltb v) (from f i)
+unfolding count
+count_more f v i j x n r e l g h b =
+    let a : count (ltb v) (from f i) ≡ cond (ltb v x) 1 0 + count (ltb v) (from f j) = ap (count (ltb v)) (steps f i j x e l g) in
+    omega (arith, a, as_one (ltb v x))
+
+pub largest_more : (f : ℕ → ℕ) (i j x n r : ℕ) → j ≡ suc i → i < 5 → x ≡ f i → n ≡ largest (from f j) → r ≡ max x n → r ≡ largest (from f i)
 unfolding largest
-largest_more f i j x n r e l g h low high =
-    let a : largest (from f i) ≡ max x (largest (from f j)) = ap largest (steps f i j x e l g) in
-    by_test (λ (k : ℕ). r ≡ largest (from f i)) (ltb n x) {x = 0} {y = 0} (λ t. omega (arith, a, h, high (ltb-true n x t), ltb-true n x t))
-    (λ t. omega (arith, a, h, low (ltb-false n x t), ltb-false n x t))
+largest_more f i j x n r e l g h m = rw (m, h) (sym (ap largest (steps f i j x e l g)))
 
 pub least_more :
     (f : ℕ → ℕ) (i j x n r : ℕ) → j ≡ suc i → i < 5 → x ≡ f i → n ≡ least_held (from f j)
@@ -54,14 +53,11 @@ least_more f i j x n r e l g h a b c d =
     some : (m : ℕ) → eqb m 0 ≡ false → 0 < m
     some m s = omega (arith, eqb-false m 0 s)
 
-pub first_more :
-    (f : ℕ → ℕ) (y i j x n r : ℕ) → j ≡ suc i → i < 5 → x ≡ f i → n ≡ first_place y j (from f j)
-    → (x ≡ y → r ≡ i) → (x < y → r ≡ n) → (y < x → r ≡ n) → r ≡ first_place y i (from f i)
-unfolding first_place
-first_more f y i j x n r e l g h same below above =
-    sym (ap (first_place y i) (steps f i j x e l g)
-    ∙ by_test (λ k. k ≡ r) (eqb x y) (λ t. sym (same (eqb-true x y t)))
-    (λ s. sym (ap (λ k. first_place y k (from f j)) e) ∙ (sym h ∙ other (eqb-false x y s))))
-  where
-    other : (x ≡ y → ⊥) → n ≡ r
-    other ne = by_test (λ (k : ℕ). n ≡ r) (ltb x y) {x = 0} {y = 0} (λ t. sym (below (ltb-true x y t))) (λ t. sym (above (omega (arith, ltb-false x y t, ne))))
+module _ (f : ℕ → ℕ) (y i j x : ℕ) (e : j ≡ suc i) (l : i < 5) (g : x ≡ f i) where
+  pub first_here : x ≡ y → i ≡ first_place y i (from f i)
+  unfolding first_place
+  first_here h = rw (steps f i j x e l g, eq-eqb x y h)
+
+  pub first_later : (n : ℕ) → (x ≡ y → ⊥) → n ≡ first_place y j (from f j) → n ≡ first_place y i (from f i)
+  unfolding first_place
+  first_later n h k = rw (steps f i j x e l g, ne_eqb x y h, ← e) k

@@ -1,6 +1,6 @@
 -- The keeper's notes, eleven for each till: the last number given, the number held at each of five places (0 at a free one), a length for each place; and then
 -- the rights, 1 for one that is given, four for each of eight users on each till.
-use Rattle.std.specs.Prelude.{ℕ, suc, ◌+◌, ◌-◌, ◌*◌, ◌%◌, ◌^◌, min, Bool, false, cond, ltb, List, [], ◌∷◌, ◌++◌, length, take, drop, set, ◌==◌, nat_le, nat_lt, slice_index, slice_set}
+use Rattle.std.specs.Prelude.{ℕ, suc, ◌+◌, ◌*◌, ◌%◌, ◌^◌, min, Bool, false, cond, ltb, List, [], ◌∷◌, ◌++◌, length, take, drop, set, ◌==◌, nat_le, nat_lt, slice_index, slice_set}
 use Rattle.lists.specs.Lists.{counted, count, largest}
 use Rattle.trial_compare.specs.Bytes.{wrong_bytes, others}
 

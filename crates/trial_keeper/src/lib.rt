@@ -5,9 +5,11 @@
 
 ghost use Rattle.std.specs.Prelude.{◌≡◌, ◌+◌, ◌*◌, ◌<◌, ◌≤◌, min, length, slice_index, slice_set};
 ghost use Rattle.trial_keeper.specs.Notes.{last_given, number_at, newer_than, place_of, newest_of, oldest_of, length_of, is_held, struck, noted, filed, image_at, with_image, filed_images, wrong_from, most_bytes, missing_number, right_at, user_refusal, owner_refusal, set_refusal, rights_set, backup_refusal, restore_refusal, retire_refusal};
+ghost use Rattle.refusals.specs.Refusals.{number_of, refusal_of};
 
 use layout::Capacities;
 use numbers::Block;
+use refusals::Refusal;
 use rights::Rights;
 
 // So many versions at most are kept of a till.
@@ -24,10 +26,7 @@ pub const IMAGES: usize = 19200;
 pub fn note_at(notes: &[u32], at: usize) -> u32
     ensures { result ≡ slice_index notes.now at }
 {
-    if at < notes.len() {
-        return notes[at];
-    }
-    0
+    notes.get(at).copied().unwrap_or(0)
 }
 
 pub fn put_note(notes: &mut [u32], at: usize, note: u32)
@@ -63,24 +62,13 @@ pub fn number_at(notes: &[u32], till: u32, place: u32) -> u32
     note_at(notes, number_note(till, place))
 }
 
-fn one_if_above(floor: u32, n: u32) -> u32
-    ensures { (floor < n → result ≡ 1) × (n ≤ floor → result ≡ 0) × (result ≤ 1) }
-{
-    if floor < n {
-        return 1;
-    }
-    0
-}
-
 // How many held versions of the till are newer.
 pub fn newer(notes: &[u32], till: u32, version: u32) -> u32
     ensures { (result ≡ newer_than notes.now till version) × (result ≤ 5) }
 {
     let mut n = 0;
-    let mut place = PLACES;
-    while 0 < place {
-        place -= 1;
-        n += one_if_above(version, number_at(notes, till, place));
+    for place in (0..PLACES).rev() {
+        n += u32::from(version < number_at(notes, till, place));
     }
     n
 }
@@ -91,88 +79,64 @@ fn held(notes: &[u32], till: u32) -> u32
     newer(notes, till, 0)
 }
 
-fn larger(a: u32, b: u32) -> u32
-    ensures { (a ≤ b → result ≡ b) × (b < a → result ≡ a) }
-{
-    if b < a {
-        return a;
-    }
-    b
-}
-
 pub fn newest(notes: &[u32], till: u32) -> u32
     ensures { result ≡ newest_of notes.now till }
 {
     let mut most = 0;
-    let mut place = PLACES;
-    while 0 < place {
-        place -= 1;
-        most = larger(number_at(notes, till, place), most);
+    for place in (0..PLACES).rev() {
+        most = number_at(notes, till, place).max(most);
     }
     most
 }
 
 // The lesser of two, where 0 is none.
+// Kept: a promise that may not change: a free place has the number 0 in the notes, as the contracts have it (least_held).
 fn lesser(a: u32, b: u32) -> u32
     ensures { (a ≡ 0 → result ≡ b) × (0 < a → b ≡ 0 → result ≡ a) × (0 < a → 0 < b → a ≤ b → result ≡ a) × (0 < a → 0 < b → b < a → result ≡ b) }
 {
     if a == 0 {
-        return b;
+        b
+    } else if b == 0 {
+        a
+    } else {
+        a.min(b)
     }
-    if b == 0 {
-        return a;
-    }
-    if b < a {
-        return b;
-    }
-    a
 }
 
 pub fn oldest(notes: &[u32], till: u32) -> u32
     ensures { result ≡ oldest_of notes.now till }
 {
     let mut least = 0;
-    let mut place = PLACES;
-    while 0 < place {
-        place -= 1;
+    for place in (0..PLACES).rev() {
         least = lesser(number_at(notes, till, place), least);
     }
     least
 }
 
-fn place_if(n: u32, number: u32, place: u32, later: u32) -> u32
-    ensures { (n ≡ number → result ≡ place) × (n < number → result ≡ later) × (number < n → result ≡ later) × (place ≤ 5 → later ≤ 5 → result ≤ 5) }
-{
-    if n == number {
-        return place;
-    }
-    later
-}
-
 // The first place with this number, or 5. The first free place has the number 0.
+// Kept: a promise that may not change: wrong_in reads an image at the place past the last where a version is not held.
 fn place_of(notes: &[u32], till: u32, number: u32) -> u32
     ensures { (result ≡ place_of notes.now till number) × (result ≤ 5) }
 {
     let mut found = PLACES;
-    let mut place = PLACES;
-    while 0 < place {
-        place -= 1;
-        found = place_if(number_at(notes, till, place), number, place, found);
+    for place in (0..PLACES).rev() {
+        if number_at(notes, till, place) == number {
+            found = place;
+        }
     }
     found
 }
 
 // No version has the number 0.
+#[tactic(auto, unfolding(crate::specs::Notes::is_held))]
 pub fn holds(notes: &[u32], till: u32, version: u32) -> bool
     ensures { result ≡ is_held notes.now till version }
 {
-    if version == 0 {
-        return false;
-    }
-    place_of(notes, till, version) < PLACES
+    version != 0 && place_of(notes, till, version) < PLACES
 }
 
 // 0 for a version not held.
+#[tactic(auto, unfolding(crate::specs::Notes::length_of))]
 pub fn length(notes: &[u32], till: u32, version: u32) -> u32
     ensures { result ≡ length_of notes.now till version }
 {
@@ -185,10 +149,7 @@ pub fn length(notes: &[u32], till: u32, version: u32) -> u32
 fn short(n: usize) -> u32
     ensures { result ≡ min n 65536 }
 {
-    if n < 65536 {
-        return n as u32;
-    }
-    65536
+    n.min(65536) as u32
 }
 
 // Where the image of a place starts.
@@ -199,16 +160,13 @@ fn image_at(till: u32, place: u32) -> usize
 }
 
 // An image without room is not kept.
+#[tactic(auto, unfolding(crate::specs::Notes::with_image))]
 fn copy(images: &mut [u8], at: usize, image: &[u8])
     ensures { images.new ≡ with_image images.old at image.now }
 {
-    if images.len() < at {
-        return;
+    if at <= images.len() && image.len() <= images.len() - at {
+        images[at..at + image.len()].copy_from_slice(image);
     }
-    if images.len() - at < image.len() {
-        return;
-    }
-    blocks::copy_part(image, 0, images, at, image.len());
 }
 
 fn note_version(notes: &mut [u32], till: u32, place: u32, version: u32, bytes: usize)
@@ -226,6 +184,7 @@ fn file_at(images: &mut [u8], notes: &mut [u32], till: u32, place: u32, version:
 }
 
 // An image takes the first free place. One without is not kept, and shows as a wrong answer.
+#[tactic(auto, unfolding(crate::specs::Notes::filed, crate::specs::Notes::filed_images))]
 pub fn file(images: &mut [u8], notes: &mut [u32], till: u32, image: &[u8])
     ensures { (notes.new ≡ filed notes.old till (length image.now)) × (images.new ≡ filed_images images.old notes.old till image.now) }
 {
@@ -248,13 +207,11 @@ pub fn strike(notes: &mut [u32], till: u32, version: u32)
 }
 
 // How many bytes of an output are not the image's that starts there, or not as they were marked after it.
+#[tactic(auto, unfolding(crate::specs::Notes::wrong_from))]
 fn wrong_from(images: &[u8], at: usize, bytes: usize, output: &[u8]) -> usize
     ensures { result ≡ wrong_from images.now at bytes output.now }
 {
-    if images.len() < at {
-        return output.len();
-    }
-    if images.len() - at < bytes {
+    if images.len() < at || images.len() - at < bytes {
         return output.len();
     }
     if output.len() < bytes {
@@ -277,24 +234,18 @@ pub fn block_bytes(c: Capacities) -> usize
     ensures { (result ≡ min c.measures.bytes 512) × (result ≤ 512) }
 {
     let m = c.measures;
-    if m.bytes < Block::MOST_BYTES {
-        return m.bytes;
-    }
-    Block::MOST_BYTES
+    m.bytes.min(Block::MOST_BYTES)
 }
 
 // An image's most bytes.
 pub fn image_bytes(c: Capacities) -> usize
     ensures { (result ≡ most_bytes c.blocks c.measures.bytes) × (result ≤ 65536) }
 {
-    let bytes = Block(c.blocks).byte(block_bytes(c));
-    if bytes < 65536 {
-        return bytes;
-    }
-    65536
+    Block(c.blocks).byte(block_bytes(c)).min(65536)
 }
 
 // The four rights.
+// Kept: a promise that may not change, that of refusal_of, is about any number for a right.
 pub const LIST: u32 = 0;
 
 pub const BACK_UP: u32 = 1;
@@ -309,50 +260,53 @@ fn right_note(till: u32, user: u32, right: u32) -> usize
     33 + (till as usize * 8 + user as usize) * 4 + right as usize
 }
 
-// The number that the page's order gives a user for a call on a till: 3, 22, 23; 0 if the user may make it.
-pub fn refusal_of(c: Capacities, notes: &[u32], user: u32, till: u32, right: u32) -> u32
-    ensures { result ≡ user_refusal c.tills notes.now user till right }
+// The refusal that the page's order gives a user for a call on a till.
+pub fn refusal_of(
+    c: Capacities,
+    notes: &[u32],
+    user: u32,
+    till: u32,
+    right: u32,
+) -> Result<(), Refusal>
+    ensures { refusal_of result ≡ user_refusal c.tills notes.now user till right }
 {
     if c.tills <= till {
-        return 3;
+        return Err(Refusal::NoSuchTill);
     }
     if 7 < user {
-        return 22;
+        return Err(Refusal::UnknownUser);
     }
     if user == 0 {
-        return 0;
+        return Ok(());
     }
     if note_at(notes, right_note(till, user, right)) == 0 {
-        return 23;
+        return Err(Refusal::NoRight);
     }
-    0
+    Ok(())
 }
 
 // For a call that is the owner's only.
-pub fn owner_refusal(user: u32) -> u32
-    ensures { result ≡ owner_refusal user }
+pub fn owner_refusal(user: u32) -> Result<(), Refusal>
+    ensures { refusal_of result ≡ owner_refusal user }
 {
     if 7 < user {
-        return 22;
+        return Err(Refusal::UnknownUser);
     }
     if 0 < user {
-        return 23;
+        return Err(Refusal::NoRight);
     }
-    0
+    Ok(())
 }
 
 // For setting the rights of a user, the subject.
-pub fn set_refusal(c: Capacities, user: u32, subject: u32, till: u32) -> u32
-    ensures { result ≡ set_refusal c.tills user subject till }
+pub fn set_refusal(c: Capacities, user: u32, subject: u32, till: u32) -> Result<(), Refusal>
+    ensures { refusal_of result ≡ set_refusal c.tills user subject till }
 {
     if c.tills <= till {
-        return 3;
+        return Err(Refusal::NoSuchTill);
     }
-    if subject == 0 {
-        return 22;
-    }
-    if 7 < subject {
-        return 22;
+    if subject == 0 || 7 < subject {
+        return Err(Refusal::UnknownUser);
     }
     owner_refusal(user)
 }
@@ -361,78 +315,83 @@ pub fn set_refusal(c: Capacities, user: u32, subject: u32, till: u32) -> u32
 pub fn set_rights(notes: &mut [u32], till: u32, user: u32, rights: Rights)
     ensures { notes.new ≡ rights_set notes.old till user rights.list rights.back_up rights.restore rights.retire }
 {
-    put_note(notes, right_note(till, user, LIST), rights.list as u32);
+    put_note(notes, right_note(till, user, LIST), u32::from(rights.list));
     put_note(
         notes,
         right_note(till, user, BACK_UP),
-        rights.back_up as u32,
+        u32::from(rights.back_up),
     );
     put_note(
         notes,
         right_note(till, user, RESTORE),
-        rights.restore as u32,
+        u32::from(rights.restore),
     );
-    put_note(notes, right_note(till, user, RETIRE), rights.retire as u32);
+    put_note(
+        notes,
+        right_note(till, user, RETIRE),
+        u32::from(rights.retire),
+    );
 }
 
-// The number that the page's order gives a backup, 14 and 16 apart.
-pub fn backup_refusal(c: Capacities, notes: &[u32], till: u32, bytes: usize) -> u32
-    ensures { result ≡ backup_refusal c.tills c.versions (most_bytes c.blocks c.measures.bytes) notes.now till bytes }
+// The refusal that the page's order gives a backup, 14 and 16 apart.
+pub fn backup_refusal(c: Capacities, notes: &[u32], till: u32, bytes: usize) -> Result<(), Refusal>
+    ensures { refusal_of result ≡ backup_refusal c.tills c.versions (most_bytes c.blocks c.measures.bytes) notes.now till bytes }
 {
     if c.tills <= till {
-        return 3;
+        return Err(Refusal::NoSuchTill);
     }
-    if bytes == 0 {
-        return 4;
-    }
-    if image_bytes(c) < bytes {
-        return 4;
+    if bytes == 0 || image_bytes(c) < bytes {
+        return Err(Refusal::ImageLength);
     }
     if c.versions <= held(notes, till) {
-        return 11;
+        return Err(Refusal::TillFull);
     }
     if 65535 <= last(notes, till) {
-        return 12;
+        return Err(Refusal::NumbersSpent);
     }
-    0
+    Ok(())
 }
 
-// The number of a version that is not held.
-fn missing(notes: &[u32], till: u32, version: u32) -> u32
-    ensures { result ≡ missing_number (last_given notes.now till) version }
+// Why a version is not held.
+fn missing(notes: &[u32], till: u32, version: u32) -> Refusal
+    ensures { number_of result ≡ missing_number (last_given notes.now till) version }
 {
-    if 0 == version {
-        return 17;
+    if 0 == version || last(notes, till) < version {
+        Refusal::NeverGiven
+    } else {
+        Refusal::NoLongerHeld
     }
-    if last(notes, till) < version {
-        return 17;
-    }
-    18
 }
 
-pub fn restore_refusal(c: Capacities, notes: &[u32], till: u32, version: u32, room: usize) -> u32
-    ensures { result ≡ restore_refusal c.tills notes.now till version room }
+pub fn restore_refusal(
+    c: Capacities,
+    notes: &[u32],
+    till: u32,
+    version: u32,
+    room: usize,
+) -> Result<(), Refusal>
+    ensures { refusal_of result ≡ restore_refusal c.tills notes.now till version room }
 {
     if c.tills <= till {
-        return 3;
+        return Err(Refusal::NoSuchTill);
     }
     if !holds(notes, till, version) {
-        return missing(notes, till, version);
+        return Err(missing(notes, till, version));
     }
     if room < length(notes, till, version) as usize {
-        return 5;
+        return Err(Refusal::ShortOutput);
     }
-    0
+    Ok(())
 }
 
-pub fn retire_refusal(c: Capacities, notes: &[u32], till: u32, version: u32) -> u32
-    ensures { result ≡ retire_refusal c.tills notes.now till version }
+pub fn retire_refusal(c: Capacities, notes: &[u32], till: u32, version: u32) -> Result<(), Refusal>
+    ensures { refusal_of result ≡ retire_refusal c.tills notes.now till version }
 {
     if c.tills <= till {
-        return 3;
+        return Err(Refusal::NoSuchTill);
     }
     if !holds(notes, till, version) {
-        return missing(notes, till, version);
+        return Err(missing(notes, till, version));
     }
-    0
+    Ok(())
 }

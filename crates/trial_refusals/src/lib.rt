@@ -5,8 +5,10 @@ pub mod sending;
 
 ghost use Rattle.std.specs.Prelude.{◌≤◌};
 
+use answers::{BackedUp, Listing, Retired};
 use layout::Capacities;
 use numbers::Measures;
+use refusals::{Refusal, answered};
 use trial_report::counts;
 
 // The n-th of the first five capacities is `value`, the others 1.
@@ -19,16 +21,12 @@ fn with_one(n: u32, value: u32) -> Capacities {
         cells: 1,
         measures: Measures::base(),
     };
-    if n == 0 {
-        c.tills = value;
-    } else if n == 1 {
-        c.versions = value;
-    } else if n == 2 {
-        c.blocks = value;
-    } else if n == 3 {
-        c.records = value;
-    } else {
-        c.cells = value;
+    match n {
+        0 => c.tills = value,
+        1 => c.versions = value,
+        2 => c.blocks = value,
+        3 => c.records = value,
+        _ => c.cells = value,
     }
     c
 }
@@ -45,97 +43,87 @@ fn most_of(n: u32) -> u32
     }
 }
 
-// Capacities, and the number that they get.
+// Capacities, and the answer that they get.
 #[derive(Clone, Copy)]
 struct Sizes {
     c: Capacities,
-    expected: u32,
+    expected: Result<(), Refusal>,
 }
 
 // The least and the most of each of the five, and one past each.
 fn range_of(n: u32) -> Sizes {
     let most = most_of(n / 4);
-    let kind = n % 4;
-    if kind == 0 {
-        return Sizes {
-            c: with_one(n / 4, 1),
-            expected: 0,
-        };
-    }
-    if kind == 1 {
-        return Sizes {
-            c: with_one(n / 4, most),
-            expected: 0,
-        };
-    }
-    if kind == 2 {
-        return Sizes {
-            c: with_one(n / 4, 0),
-            expected: 1,
-        };
-    }
+    let (value, expected) = match n % 4 {
+        0 => (1, Ok(())),
+        1 => (most, Ok(())),
+        2 => (0, Err(Refusal::Capacity)),
+        _ => (most + 1, Err(Refusal::Capacity)),
+    };
     Sizes {
-        c: with_one(n / 4, most + 1),
-        expected: 1,
+        c: with_one(n / 4, value),
+        expected,
     }
 }
 
 // An image of so many blocks of these measures, the other four capacities 1.
-fn measured(bytes: u32, blocks: u32, percent: u32, image: u32, expected: u32) -> Sizes {
-    let mut c = with_one(2, image);
-    c.measures = Measures::chosen(bytes, blocks, percent);
-    Sizes {
-        c: c,
-        expected: expected,
+fn measured(bytes: u32, blocks: u32, percent: u32, image: u32) -> Capacities {
+    Capacities {
+        measures: Measures::chosen(bytes, blocks, percent),
+        ..with_one(2, image)
     }
 }
 
 // Measures in range; then no such block, or too many; then no such segment, or percentage.
 fn measures_of(n: u32) -> Sizes {
-    match n {
-        0 => measured(64, 4, 0, 1024, 0),
-        1 => measured(128, 8, 100, 512, 0),
-        2 => measured(256, 16, 50, 256, 0),
-        3 => measured(512, 16, 20, 128, 0),
-        4 => measured(0, 8, 20, 1, 1),
-        5 => measured(96, 8, 20, 1, 1),
-        6 => measured(1024, 8, 20, 1, 1),
-        7 => measured(512, 8, 20, 129, 1),
-        8 => measured(64, 0, 20, 1, 1),
-        9 => measured(64, 5, 20, 1, 1),
-        10 => measured(64, 32, 20, 1, 1),
-        _ => measured(64, 8, 101, 1, 1),
-    }
+    let c = match n {
+        0 => measured(64, 4, 0, 1024),
+        1 => measured(128, 8, 100, 512),
+        2 => measured(256, 16, 50, 256),
+        3 => measured(512, 16, 20, 128),
+        4 => measured(0, 8, 20, 1),
+        5 => measured(96, 8, 20, 1),
+        6 => measured(1024, 8, 20, 1),
+        7 => measured(512, 8, 20, 129),
+        8 => measured(64, 0, 20, 1),
+        9 => measured(64, 5, 20, 1),
+        10 => measured(64, 32, 20, 1),
+        _ => measured(64, 8, 101, 1),
+    };
+    let expected = if n < 4 {
+        Ok(())
+    } else {
+        Err(Refusal::Capacity)
+    };
+    Sizes { c, expected }
 }
 
 fn sizes_of(n: u32) -> Sizes {
     if n < 20 {
-        return range_of(n);
+        range_of(n)
+    } else {
+        measures_of(n - 20)
     }
-    measures_of(n - 20)
 }
 
 fn length_of(n: u32, counts: &mut [u64]) {
     let s = sizes_of(n);
     let c = s.c;
-    trial_calls::table_length(c, counts, s.expected);
+    trial_calls::table_length(c, counts, answered(&s.expected));
 }
 
 pub fn lengths(counts: &mut [u64]) {
-    let mut n = 0;
-    while n < 32 {
+    for n in 0..32 {
         length_of(n, counts);
-        n += 1;
     }
 }
 
-// Capacities, the bytes and words lent, and the number that they get.
+// Capacities, the bytes and words lent, and the answer that they get.
 #[derive(Clone, Copy)]
 struct Lent {
     c: Capacities,
     bytes: usize,
     words: usize,
-    expected: u32,
+    expected: Result<(), Refusal>,
 }
 
 // One past the least and the most of each of the five: ten numbers in a row. All of the buffers is lent.
@@ -143,7 +131,7 @@ fn out_of_range(n: u32) -> Lent {
     let s = range_of(n / 2 % 5 * 4 + 2 + n % 2);
     let c = s.c;
     Lent {
-        c: c,
+        c,
         bytes: trial_compare::POOL,
         words: trial_compare::TABLE,
         expected: s.expected,
@@ -154,10 +142,10 @@ fn out_of_range(n: u32) -> Lent {
 fn of_other_length(bytes: usize, words: usize) -> Lent {
     let c = with_one(0, 1);
     Lent {
-        c: c,
-        bytes: bytes,
-        words: words,
-        expected: 2,
+        c,
+        bytes,
+        words,
+        expected: Err(Refusal::Lengths),
     }
 }
 
@@ -184,35 +172,31 @@ fn lay_out_one(n: u32, pool: &mut [u8], table: &mut [u32], counts: &mut [u64]) {
         &mut pool[0..bytes],
         &mut table[0..words],
         counts,
-        l.expected,
+        answered(&l.expected),
     );
 }
 
 pub fn layouts(pool: &mut [u8], table: &mut [u32], counts: &mut [u64]) {
-    let mut n = 0;
-    while n < 14 {
+    for n in 0..14 {
         lay_out_one(n, pool, table, counts);
-        n += 1;
     }
 }
 
 // Version n comes to a store of ones.
 fn come(n: u32, image: &[u8], pool: &mut [u8], table: &mut [u32], counts: &mut [u64]) {
-    let a = store::backup(pool, table, 0, 0, image);
+    let a: BackedUp = store::backup(pool, table, 0, 0, image).into();
     counts::answered(counts, counts::BACKUPS, a.refusal, 0);
     counts::expect(counts, a.version == n);
 }
 
 fn go(n: u32, pool: &mut [u8], table: &mut [u32], counts: &mut [u64]) {
-    let a = store::retire(pool, table, 0, 0, n);
+    let a: Retired = store::retire(pool, table, 0, 0, n).into();
     counts::answered(counts, counts::RETIRES, a.refusal, 0);
     counts::expect(counts, a.length == 50);
 }
 
 fn every_number(image: &[u8], pool: &mut [u8], table: &mut [u32], counts: &mut [u64]) {
-    let mut n = 0;
-    while n < 65535 {
-        n += 1;
+    for n in 1..=65535 {
         come(n, image, pool, table, counts);
         go(n, pool, table, counts);
     }
@@ -222,13 +206,13 @@ fn no_more(image: &[u8], pool: &mut [u8], table: &mut [u32], counts: &mut [u64])
     let mut bytes = [0u8; 64];
     let mut entries = [0u32; 35];
     trial_compare::copy(pool, table, &mut bytes, &mut entries);
-    let a = store::backup(pool, table, 0, 0, image);
-    trial_judge::backup_refused(a, 12, counts);
+    let a: BackedUp = store::backup(pool, table, 0, 0, image).into();
+    trial_judge::backup_refused(a, Refusal::NumbersSpent.into(), counts);
     trial_judge::unaltered(&bytes, &entries, pool, table, counts);
 }
 
 fn none_held(pool: &[u8], table: &[u32], counts: &mut [u64]) {
-    let a = store::listing(pool, table, 0, 0);
+    let a: Listing = store::listing(pool, table, 0, 0).into();
     counts::answered(counts, counts::LISTINGS, a.refusal, 0);
     counts::expect(counts, a.oldest == 0);
     counts::expect(counts, a.newest == 0);

@@ -1,6 +1,10 @@
 // Both messages, on a store of 1 till, 4 versions, 16 blocks per image, 8 records and 32 cells: an image of 576 bytes, two segments.
+ghost use Rattle.std.specs.Prelude.{◌≤◌};
+
+use answers::BackedUp;
 use layout::Capacities;
 use numbers::Measures;
+use refusals::{Refusal, answered};
 use trial_draw::images;
 use trial_report::counts;
 
@@ -22,64 +26,84 @@ fn refuse_offer(
     pool: &[u8],
     table: &[u32],
     counts: &mut [u64],
-    expected: u32,
+    expected: Refusal,
 ) {
     trial_compare::mark(marks);
-    let refusal = store::offer(pool, table, 0, 0, prints, marks);
-    counts::answered(counts, counts::OFFERS, refusal, expected);
+    let refusal = answered(&store::offer(pool, table, 0, 0, prints, marks));
+    counts::answered(counts, counts::OFFERS, refusal, u32::from(expected));
     counts::expect_unaltered(counts, trial_compare::unmarked(marks) == 0);
 }
 
 // A fingerprint and part of one, and one mark for two.
 fn offered_wrong(prints: &[u8], pool: &[u8], table: &[u32], counts: &mut [u64]) {
     let mut marks = [0u8; 1];
-    refuse_offer(b"part of a fingerprint", &mut marks, pool, table, counts, 4);
-    refuse_offer(prints, &mut marks, pool, table, counts, 4);
+    let part = b"part of a fingerprint";
+    refuse_offer(part, &mut marks, pool, table, counts, Refusal::ImageLength);
+    refuse_offer(
+        prints,
+        &mut marks,
+        pool,
+        table,
+        counts,
+        Refusal::ImageLength,
+    );
 }
 
 // On what is no sound store.
 fn offered_unsound(prints: &[u8], pool: &[u8], table: &[u32], counts: &mut [u64]) {
     let mut marks = [0u8; 2];
-    refuse_offer(prints, &mut marks, pool, table, counts, 10);
+    refuse_offer(prints, &mut marks, pool, table, counts, Refusal::Unsound);
 }
 
-// What can follow a second message, by where it starts: the segments of the image, those of another one, nothing.
-const IMAGE: usize = 0;
+// What can follow a second message: the segments of the image, those of another one, nothing.
+#[derive(Clone, Copy)]
+enum Follows {
+    Image,
+    Other,
+    Nothing,
+}
 
-const OTHER: usize = 1024;
+// As many bytes as the image has, whole segments of them.
+const WHOLE: usize = 1024;
 
-const NOTHING: usize = 2048;
+// Where it starts among the segments, of which the other's follow the image's.
+fn start_of(follows: Follows) -> usize
+    ensures { result ≤ 2048 }
+{
+    match follows {
+        Follows::Image => 0,
+        Follows::Other => WHOLE,
+        Follows::Nothing => 2 * WHOLE,
+    }
+}
 
-// A second message: the length, both marks, where what follows starts; the number and the version that are expected.
+// A second message: the length, both marks, what follows; the version that is expected, or the refusal.
 #[derive(Clone, Copy)]
 struct Message {
     bytes: u32,
     first: u8,
     second: u8,
-    follows: usize,
-    expected: u32,
-    version: u32,
+    follows: Follows,
+    expected: Result<u32, Refusal>,
 }
 
-fn refused(bytes: u32, first: u8, second: u8, follows: usize, expected: u32) -> Message {
+fn refused(bytes: u32, first: u8, second: u8, follows: Follows, expected: Refusal) -> Message {
     Message {
-        bytes: bytes,
-        first: first,
-        second: second,
-        follows: follows,
-        expected: expected,
-        version: 0,
+        bytes,
+        first,
+        second,
+        follows,
+        expected: Err(expected),
     }
 }
 
-fn taken(mark: u8, follows: usize, version: u32) -> Message {
+fn taken(mark: u8, follows: Follows, version: u32) -> Message {
     Message {
         bytes: 576,
         first: mark,
         second: mark,
-        follows: follows,
-        expected: 0,
-        version: version,
+        follows,
+        expected: Ok(version),
     }
 }
 
@@ -87,14 +111,14 @@ fn taken(mark: u8, follows: usize, version: u32) -> Message {
 // box has the image and nothing needs to be sent; but a byte follows a lesser length. The last is for what is no sound store.
 fn message_of(n: u32) -> Message {
     match n {
-        0 => refused(576, 1, 1, OTHER, 19),
-        1 => refused(575, 1, 1, IMAGE, 19),
-        2 => refused(576, 2, 0, IMAGE, 4),
-        3 => refused(576, 0, 0, NOTHING, 20),
-        4 => taken(1, IMAGE, 1),
-        5 => taken(0, NOTHING, 2),
-        6 => refused(575, 0, 0, NOTHING, 19),
-        _ => refused(576, 1, 1, IMAGE, 10),
+        0 => refused(576, 1, 1, Follows::Other, Refusal::OtherSegment),
+        1 => refused(575, 1, 1, Follows::Image, Refusal::OtherSegment),
+        2 => refused(576, 2, 0, Follows::Image, Refusal::ImageLength),
+        3 => refused(576, 0, 0, Follows::Nothing, Refusal::NoSegment),
+        4 => taken(1, Follows::Image, 1),
+        5 => taken(0, Follows::Nothing, 2),
+        6 => refused(575, 0, 0, Follows::Nothing, Refusal::OtherSegment),
+        _ => refused(576, 1, 1, Follows::Image, Refusal::Unsound),
     }
 }
 
@@ -108,9 +132,9 @@ fn send(
     counts: &mut [u64],
 ) {
     let marks = [m.first, m.second];
-    let from = trial_choice::at_most(m.follows, segments.len());
-    let end = from + trial_choice::at_most(OTHER, segments.len() - from);
-    let a = store::backup_sent(
+    let from = start_of(m.follows).min(segments.len());
+    let end = from + WHOLE.min(segments.len() - from);
+    let a: BackedUp = store::backup_sent(
         pool,
         table,
         0,
@@ -119,9 +143,11 @@ fn send(
         prints,
         &marks,
         &segments[from..end],
-    );
-    counts::answered(counts, counts::BACKUPS, a.refusal, m.expected);
-    counts::expect(counts, a.version == m.version);
+    )
+    .into();
+    let wanted = refusals::answered(&m.expected);
+    counts::answered(counts, counts::BACKUPS, a.refusal, wanted);
+    counts::expect(counts, a.version == m.expected.unwrap_or(0));
 }
 
 // A refusal leaves the buffers.
@@ -137,7 +163,9 @@ fn send_judged(
     let mut entries = [0u32; 240];
     trial_compare::copy(pool, table, &mut bytes, &mut entries);
     send(m, prints, segments, pool, table, counts);
-    trial_judge::buffers(m.expected, &bytes, &entries, pool, table, counts);
+    if m.expected.is_err() {
+        trial_judge::unaltered(&bytes, &entries, pool, table, counts);
+    }
 }
 
 fn send_each(
@@ -147,10 +175,8 @@ fn send_each(
     table: &mut [u32],
     counts: &mut [u64],
 ) {
-    let mut n = 0;
-    while n < 7 {
+    for n in 0..7 {
         send_judged(message_of(n), prints, segments, pool, table, counts);
-        n += 1;
     }
 }
 
@@ -177,8 +203,8 @@ fn on_store(prints: &[u8], segments: &[u8], counts: &mut [u64]) {
 // The image's segments, with null blocks up to the end, then the other's.
 fn spelt(prints: &mut [u8], segments: &mut [u8], counts: &mut [u64]) {
     images::spell(segments, b"ABCDEFGHI\0\0\0\0\0\0\0ZBCDEFGHI");
-    let end = trial_choice::at_most(OTHER, segments.len());
-    trial_sent::print_all(&segments[0..end], 512, prints);
+    let end = WHOLE.min(segments.len());
+    trial_sent::print_all(&segments[..end], 512, prints);
     on_store(prints, segments, counts);
 }
 

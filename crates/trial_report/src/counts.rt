@@ -2,6 +2,7 @@
 ghost use Rattle.std.specs.Prelude.{◌≡◌, slice_index, slice_set};
 ghost use Rattle.trial_report.specs.Counts.{added, added_if, raised, expected, unaltered, answered_with};
 
+// Kept: the new form is no plainer: a counter is a place in a list, by whose number the judges' contracts tell it.
 pub const LENGTHS: usize = 40;
 
 pub const LAYOUTS: usize = 41;
@@ -54,10 +55,7 @@ pub const RIGHTS: usize = 62;
 pub fn count_at(counts: &[u64], at: usize) -> u64
     ensures { result ≡ slice_index counts.now at }
 {
-    if at < counts.len() {
-        return counts[at];
-    }
-    0
+    counts.get(at).copied().unwrap_or(0)
 }
 
 fn put(counts: &mut [u64], at: usize, n: u64)
@@ -68,6 +66,7 @@ fn put(counts: &mut [u64], at: usize, n: u64)
     }
 }
 
+#[tactic(auto, unfolding(crate::specs::Counts::added))]
 pub fn add(counts: &mut [u64], at: usize, n: u64)
     ensures { counts.new ≡ added counts.old at n }
 {
@@ -75,6 +74,7 @@ pub fn add(counts: &mut [u64], at: usize, n: u64)
     put(counts, at, sum);
 }
 
+#[tactic(auto, unfolding(crate::specs::Counts::added_if))]
 fn add_if(counts: &mut [u64], ok: bool, at: usize)
     ensures { counts.new ≡ added_if ok counts.old at }
 {
@@ -84,6 +84,7 @@ fn add_if(counts: &mut [u64], ok: bool, at: usize)
 }
 
 // The largest seen.
+#[tactic(auto, unfolding(crate::specs::Counts::raised))]
 pub fn raise(counts: &mut [u64], at: usize, n: u64)
     ensures { counts.new ≡ raised counts.old at n }
 {
@@ -92,6 +93,7 @@ pub fn raise(counts: &mut [u64], at: usize, n: u64)
     }
 }
 
+#[tactic(auto, unfolding(crate::specs::Counts::expected))]
 pub fn expect(counts: &mut [u64], ok: bool)
     ensures { counts.new ≡ expected counts.old ok }
 {
@@ -100,6 +102,7 @@ pub fn expect(counts: &mut [u64], ok: bool)
     }
 }
 
+#[tactic(auto, unfolding(crate::specs::Counts::unaltered))]
 pub fn expect_unaltered(counts: &mut [u64], ok: bool)
     ensures { counts.new ≡ unaltered counts.old ok }
 {
@@ -109,6 +112,7 @@ pub fn expect_unaltered(counts: &mut [u64], ok: bool)
 }
 
 // A call got a number where one was expected.
+#[tactic(auto, unfolding(crate::specs::Counts::answered_with))]
 pub fn answered(counts: &mut [u64], kind: usize, refusal: u32, wanted: u32)
     ensures { counts.new ≡ answered_with counts.old kind refusal wanted }
 {

@@ -2,170 +2,59 @@
 use crate::counts;
 use std::io;
 
-pub fn text(rt: &impl Print, words: &[u8]) -> io::Result<()> {
-    rt.write_all(words)
-}
-
-pub fn number(rt: &impl Print, n: u64) -> io::Result<()> {
-    print!(rt; " {n}")
-}
-
-pub fn end(rt: &impl Print) -> io::Result<()> {
-    rt.write_all(b"\n")
-}
-
-fn line(rt: &impl Print, words: &[u8], n: u64) -> io::Result<()> {
-    text(rt, words)?;
-    number(rt, n)?;
-    end(rt)
-}
-
-fn refusals(rt: &impl Print, counts: &[u64]) -> io::Result<()> {
-    line(rt, b"refused with 1:", counts::count_at(counts, 1))?;
-    line(rt, b"refused with 2:", counts::count_at(counts, 2))?;
-    line(rt, b"refused with 3:", counts::count_at(counts, 3))?;
-    line(rt, b"refused with 4:", counts::count_at(counts, 4))?;
-    line(rt, b"refused with 5:", counts::count_at(counts, 5))?;
-    line(rt, b"refused with 10:", counts::count_at(counts, 10))?;
-    line(rt, b"refused with 11:", counts::count_at(counts, 11))?;
-    line(rt, b"refused with 12:", counts::count_at(counts, 12))?;
-    line(rt, b"refused with 14:", counts::count_at(counts, 14))?;
-    line(rt, b"refused with 16:", counts::count_at(counts, 16))?;
-    line(rt, b"refused with 17:", counts::count_at(counts, 17))?;
-    line(rt, b"refused with 18:", counts::count_at(counts, 18))?;
-    line(rt, b"refused with 19:", counts::count_at(counts, 19))?;
-    line(rt, b"refused with 20:", counts::count_at(counts, 20))?;
-    line(rt, b"refused with 22:", counts::count_at(counts, 22))?;
-    line(rt, b"refused with 23:", counts::count_at(counts, 23))
-}
-
-fn retires(rt: &impl Print, counts: &[u64]) -> io::Result<()> {
-    line(
-        rt,
-        b"newest retired, an older one held:",
-        counts::count_at(counts, counts::NEWEST),
-    )?;
-    line(
-        rt,
-        b"retired from between two held:",
-        counts::count_at(counts, counts::BETWEEN),
-    )
-}
-
-fn segments(rt: &impl Print, counts: &[u64]) -> io::Result<()> {
-    line(
-        rt,
-        b"first messages accepted:",
-        counts::count_at(counts, counts::OFFERS),
-    )?;
-    line(rt, b"segments had:", counts::count_at(counts, counts::HAD))?;
-    line(
-        rt,
-        b"segments sent:",
-        counts::count_at(counts, counts::SENT),
-    )
-}
-
-fn closings(rt: &impl Print, counts: &[u64]) -> io::Result<()> {
-    line(
-        rt,
-        b"closings accepted:",
-        counts::count_at(counts, counts::CLOSINGS),
-    )?;
-    line(
-        rt,
-        b"images taken at closing:",
-        counts::count_at(counts, counts::TAKEN),
-    )?;
-    line(
-        rt,
-        b"images refused at closing:",
-        counts::count_at(counts, counts::TURNED_AWAY),
-    )
+// Each counter on a line of its own, after its words.
+fn lines(rt: &impl Print, counts: &[u64], named: &[(&str, usize)]) -> io::Result<()> {
+    for (words, at) in named {
+        println!(rt; "{words}: {}", counts::count_at(counts, *at))?;
+    }
+    Ok(())
 }
 
 fn accepted(rt: &impl Print, counts: &[u64]) -> io::Result<()> {
-    line(rt, b"calls:", counts::count_at(counts, counts::CALLS))?;
-    line(
-        rt,
-        b"table lengths accepted:",
-        counts::count_at(counts, counts::LENGTHS),
-    )?;
-    line(
-        rt,
-        b"lay outs accepted:",
-        counts::count_at(counts, counts::LAYOUTS),
-    )?;
-    line(
-        rt,
-        b"backups accepted:",
-        counts::count_at(counts, counts::BACKUPS),
-    )?;
-    line(
-        rt,
-        b"restores accepted:",
-        counts::count_at(counts, counts::RESTORES),
-    )?;
-    line(
-        rt,
-        b"retires accepted:",
-        counts::count_at(counts, counts::RETIRES),
-    )?;
-    line(
-        rt,
-        b"listings accepted:",
-        counts::count_at(counts, counts::LISTINGS),
-    )?;
-    line(
-        rt,
-        b"tallies accepted:",
-        counts::count_at(counts, counts::TALLIES),
-    )
+    let named = [
+        ("calls", counts::CALLS),
+        ("table lengths accepted", counts::LENGTHS),
+        ("lay outs accepted", counts::LAYOUTS),
+        ("backups accepted", counts::BACKUPS),
+        ("restores accepted", counts::RESTORES),
+        ("retires accepted", counts::RETIRES),
+        ("listings accepted", counts::LISTINGS),
+        ("tallies accepted", counts::TALLIES),
+        ("newest retired, an older one held", counts::NEWEST),
+        ("retired from between two held", counts::BETWEEN),
+        ("first messages accepted", counts::OFFERS),
+        ("segments had", counts::HAD),
+        ("segments sent", counts::SENT),
+        ("closings accepted", counts::CLOSINGS),
+        ("images taken at closing", counts::TAKEN),
+        ("images refused at closing", counts::TURNED_AWAY),
+        ("rights set", counts::RIGHTS),
+    ];
+    lines(rt, counts, &named)
 }
 
-fn rights(rt: &impl Print, counts: &[u64]) -> io::Result<()> {
-    line(rt, b"rights set:", counts::count_at(counts, counts::RIGHTS))
+// By the page's numbers, those that the trial meets.
+fn refusals(rt: &impl Print, counts: &[u64]) -> io::Result<()> {
+    for n in [1, 2, 3, 4, 5, 10, 11, 12, 14, 16, 17, 18, 19, 20, 22, 23] {
+        println!(rt; "refused with {n}: {}", counts::count_at(counts, n))?;
+    }
+    Ok(())
 }
 
 fn verdict(rt: &impl Print, counts: &[u64]) -> io::Result<()> {
-    line(
-        rt,
-        b"longest chain:",
-        counts::count_at(counts, counts::CHAIN),
-    )?;
-    line(
-        rt,
-        b"versions compared:",
-        counts::count_at(counts, counts::VERSIONS),
-    )?;
-    line(
-        rt,
-        b"bytes compared:",
-        counts::count_at(counts, counts::BYTES),
-    )?;
-    line(
-        rt,
-        b"wrong bytes:",
-        counts::count_at(counts, counts::WRONG_BYTES),
-    )?;
-    line(
-        rt,
-        b"wrong answers:",
-        counts::count_at(counts, counts::WRONG_ANSWERS),
-    )?;
-    line(
-        rt,
-        b"buffers altered by a refusal:",
-        counts::count_at(counts, counts::ALTERED),
-    )
+    let named = [
+        ("longest chain", counts::CHAIN),
+        ("versions compared", counts::VERSIONS),
+        ("bytes compared", counts::BYTES),
+        ("wrong bytes", counts::WRONG_BYTES),
+        ("wrong answers", counts::WRONG_ANSWERS),
+        ("buffers altered by a refusal", counts::ALTERED),
+    ];
+    lines(rt, counts, &named)
 }
 
 pub fn report(rt: &impl Print, counts: &[u64]) -> io::Result<()> {
     accepted(rt, counts)?;
-    retires(rt, counts)?;
-    segments(rt, counts)?;
-    closings(rt, counts)?;
-    rights(rt, counts)?;
     refusals(rt, counts)?;
     verdict(rt, counts)
 }

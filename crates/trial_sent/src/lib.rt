@@ -3,29 +3,22 @@
 
 ghost use Rattle.std.specs.Prelude.{◌≡◌, ◌<◌, ◌≤◌, length};
 
-use backup::BackedUp;
+use answers::BackedUp;
 use layout::Capacities;
+use refusals::{Refusal, answered};
 use trial_report::counts;
 
 // The part goes to its place, if there is room.
 fn put(part: &[u8], out: &mut [u8], at: usize) {
-    if out.len() < at {
-        return;
-    }
-    let room = &mut out[at..];
-    if part.len() <= room.len() {
-        room[..part.len()].copy_from_slice(part);
+    if at <= out.len() && part.len() <= out.len() - at {
+        out[at..at + part.len()].copy_from_slice(part);
     }
 }
 
 fn block_bytes(c: Capacities) -> usize
     ensures { (0 < result) × (result ≤ 512) }
 {
-    let bytes = trial_keeper::block_bytes(c);
-    if bytes == 0 {
-        return 1;
-    }
-    bytes
+    trial_keeper::block_bytes(c).max(1)
 }
 
 // Of a store in range, a segment's bytes.
@@ -34,13 +27,11 @@ pub fn segment_bytes(c: Capacities) -> usize
 {
     let bytes = block_bytes(c);
     let m = c.measures;
-    if m.blocks == 4 {
-        return 4 * bytes;
+    match m.blocks {
+        4 => 4 * bytes,
+        8 => 8 * bytes,
+        _ => 16 * bytes,
     }
-    if m.blocks == 8 {
-        return 8 * bytes;
-    }
-    16 * bytes
 }
 
 // How many segments hold an image; no image here has more than 16.
@@ -48,60 +39,23 @@ fn segments_for(width: usize, bytes: usize) -> usize
     requires { 0 < width }
     ensures { result ≤ 16 }
 {
-    let n = bytes / width;
-    if 16 <= n {
-        return 16;
-    }
-    if bytes % width == 0 {
-        return n;
-    }
-    n + 1
-}
-
-fn print_one(segment: &[u8], prints: &mut [u8], at: usize) {
-    let print = sha1_message::digest_bytes(sha1_message::sha1(segment));
-    put(&print, prints, at);
+    bytes.div_ceil(width).min(16)
 }
 
 // The fingerprint of each segment.
 pub fn print_all(image: &[u8], width: usize, prints: &mut [u8])
     requires { 0 < width }
 {
-    let mut at: usize = 0;
-    let mut to: usize = 0;
-    while width <= image.len() - at {
-        let end = at + width;
-        print_one(&image[at..end], prints, to);
-        to = to.wrapping_add(20);
-        at = end;
+    for (segment, print) in image.chunks_exact(width).zip(prints.chunks_exact_mut(20)) {
+        print.copy_from_slice(&sha1_message::digest_bytes(sha1_message::sha1(segment)));
     }
 }
 
 // What is not had is sent.
-fn turned(mark: u8) -> u8 {
-    if mark == 1 {
-        return 0;
-    }
-    1
-}
-
 fn turn(marks: &mut [u8]) {
-    let mut i = 0;
-    while i < marks.len() {
-        marks[i] = turned(marks[i]);
-        i += 1;
+    for mark in marks {
+        *mark = u8::from(*mark != 1);
     }
-}
-
-// The segment, if it is marked, follows the n bytes that are there; how many there are then.
-fn pack_one(segment: &[u8], marks: &[u8], j: usize, out: &mut [u8], n: usize) -> usize {
-    if j < marks.len() {
-        if marks[j] == 1 {
-            put(segment, out, n);
-            return n.wrapping_add(segment.len());
-        }
-    }
-    n
 }
 
 // The marked segments, one after the other: how many bytes.
@@ -109,37 +63,31 @@ fn pack(image: &[u8], width: usize, marks: &[u8], out: &mut [u8]) -> usize
     requires { 0 < width }
 {
     let mut n: usize = 0;
-    let mut j: usize = 0;
-    let mut at: usize = 0;
-    while width <= image.len() - at {
-        let end = at + width;
-        n = pack_one(&image[at..end], marks, j, out, n);
-        j = j.wrapping_add(1);
-        at = end;
+    for (segment, mark) in image.chunks_exact(width).zip(marks) {
+        if *mark == 1 {
+            put(segment, out, n);
+            n = n.wrapping_add(segment.len());
+        }
     }
     n
 }
 
-// Who sends for which till, and the number that the page's order gives that: 3, 22, 23 or 0.
+// Who sends for which till, and the answer that the page's order gives that.
 #[derive(Clone, Copy)]
 struct Sender {
     user: u32,
     till: u32,
-    refusal: u32,
+    may: Result<(), Refusal>,
 }
 
-// The number that the page's order gives the first message.
-fn offer_refusal(c: Capacities, sender: Sender, segments: usize) -> u32 {
-    if sender.refusal != 0 {
-        return sender.refusal;
+// The refusal that the page's order gives the first message.
+fn offer_refusal(c: Capacities, sender: Sender, segments: usize) -> Result<(), Refusal> {
+    sender.may?;
+    let most = segments_for(segment_bytes(c), trial_keeper::image_bytes(c));
+    if segments == 0 || most < segments {
+        return Err(Refusal::ImageLength);
     }
-    if segments == 0 {
-        return 4;
-    }
-    if segments_for(segment_bytes(c), trial_keeper::image_bytes(c)) < segments {
-        return 4;
-    }
-    0
+    Ok(())
 }
 
 // A refusal leaves the marks; else each is 0 or 1.
@@ -166,8 +114,8 @@ fn offer(
     counts: &mut [u64],
 ) {
     trial_compare::mark(marks);
-    let refusal = store::offer(pool, table, sender.user, sender.till, prints, marks);
-    let expected = offer_refusal(c, sender, marks.len());
+    let refusal = answered(&store::offer(pool, table, sender.user, sender.till, prints, marks));
+    let expected = refusals::answered(&offer_refusal(c, sender, marks.len()));
     counts::answered(counts, counts::OFFERS, refusal, expected);
     judge_marks(refusal, marks, counts);
     turn(marks);
@@ -175,10 +123,7 @@ fn offer(
 
 // A length above all that are taken stands for those above it.
 fn short(n: usize) -> u32 {
-    if n < 65537 {
-        return n as u32;
-    }
-    65537
+    n.min(65537) as u32
 }
 
 // Of what is packed, the first n bytes. One that has no room shows as a wrong answer.
@@ -206,8 +151,9 @@ fn send_packed(
         short(bytes),
         prints,
         marks,
-        &packed[0..n],
+        &packed[..n],
     )
+    .into()
 }
 
 // The second message: those of the image's segments that are marked.
@@ -267,8 +213,8 @@ fn with_segments(
         sender,
         bytes,
         image,
-        &mut prints[0..end],
-        &mut marks[0..n],
+        &mut prints[..end],
+        &mut marks[..n],
         pool,
         table,
         counts,
@@ -328,7 +274,7 @@ fn filled_up(
             version: 0,
         };
     }
-    with_room(c, sender, bytes, &whole[0..end], n, pool, table, counts)
+    with_room(c, sender, bytes, &whole[..end], n, pool, table, counts)
 }
 
 fn both(
@@ -374,9 +320,9 @@ pub fn back_up(
     counts: &mut [u64],
 ) {
     let sender = Sender {
-        user: user,
-        till: till,
-        refusal: trial_keeper::refusal_of(c, notes, user, till, trial_keeper::BACK_UP),
+        user,
+        till,
+        may: trial_keeper::refusal_of(c, notes, user, till, trial_keeper::BACK_UP),
     };
     let a = both_judged(c, sender, image, pool, table, counts);
     trial_judge::backed_up(a, c, user, till, image, images, notes, counts);

@@ -2,9 +2,11 @@
 // own refusal next, so that nothing ever changes but the rights, and every other field of an answer is 0.
 #![tactic(auto)]
 
+use answers::{AllBackedUp, BackedUp, Listing, Restored, Retired, StreamWritten, VersionFound};
 use layout::Capacities;
 use numbers::Measures;
-use rights::Rights;
+use refusals::{Refusal, answered};
+use rights::{Right, Rights};
 use trial_report::counts;
 
 fn capacities() -> Capacities {
@@ -18,45 +20,64 @@ fn capacities() -> Capacities {
     }
 }
 
-// A user on a till, with the refusals of calls that need the right to list, to back up, to restore or to retire.
+// A user on a till, with the answers to calls that need the right to list, to back up, to restore or to retire.
 #[derive(Clone, Copy)]
 struct Case {
     user: u32,
     till: u32,
-    list: u32,
-    keep: u32,
-    restore: u32,
-    retire: u32,
+    list: Result<(), Refusal>,
+    keep: Result<(), Refusal>,
+    restore: Result<(), Refusal>,
+    retire: Result<(), Refusal>,
 }
 
-// Refused throughout with one number, or with none.
-fn same(user: u32, till: u32, n: u32) -> Case {
+// One answer throughout.
+fn same(user: u32, till: u32, may: Result<(), Refusal>) -> Case {
     Case {
-        user: user,
-        till: till,
-        list: n,
-        keep: n,
-        restore: n,
-        retire: n,
+        user,
+        till,
+        list: may,
+        keep: may,
+        restore: may,
+        retire: may,
     }
 }
 
-fn given(n: u32, right: u32) -> u32 {
-    if n == right {
-        return 0;
+// The n-th right; none past the last.
+fn right_of(n: u32) -> Option<Right> {
+    match n {
+        0 => Some(Right::List),
+        1 => Some(Right::BackUp),
+        2 => Some(Right::Restore),
+        3 => Some(Right::Retire),
+        _ => None,
     }
-    23
+}
+
+// That right alone, or none.
+fn alone(right: Option<Right>) -> Rights {
+    Rights {
+        list: matches!(right, Some(Right::List)),
+        back_up: matches!(right, Some(Right::BackUp)),
+        restore: matches!(right, Some(Right::Restore)),
+        retire: matches!(right, Some(Right::Retire)),
+    }
+}
+
+fn if_given(given: bool) -> Result<(), Refusal> {
+    if given { Ok(()) } else { Err(Refusal::NoRight) }
 }
 
 // User 7 has the n-th right alone.
 fn with_one(n: u32) -> Case {
+    let rights = alone(right_of(n));
     Case {
         user: 7,
         till: 1,
-        list: given(n, 0),
-        keep: given(n, 1),
-        restore: given(n, 2),
-        retire: given(n, 3),
+        list: if_given(rights.list),
+        keep: if_given(rights.back_up),
+        restore: if_given(rights.restore),
+        retire: if_given(rights.retire),
     }
 }
 
@@ -64,64 +85,67 @@ fn with_one(n: u32) -> Case {
 fn with_rights(n: u32) -> Case {
     match n % 3 {
         0 => with_one(n / 3),
-        1 => same(7, 0, 23),
-        _ => same(6, 1, 23),
+        1 => same(7, 0, Err(Refusal::NoRight)),
+        _ => same(6, 1, Err(Refusal::NoRight)),
     }
 }
 
 // The owner, a user without rights and an unknown one; the same on a till that is not there; then user 7 with each right, and with none.
 fn case_of(n: u32) -> Case {
     match n {
-        0 => same(0, 1, 0),
-        1 => same(1, 1, 23),
-        2 => same(8, 1, 22),
-        3 => same(0, 2, 3),
-        4 => same(1, 2, 3),
-        5 => same(8, 2, 3),
+        0 => same(0, 1, Ok(())),
+        1 => same(1, 1, Err(Refusal::NoRight)),
+        2 => same(8, 1, Err(Refusal::UnknownUser)),
+        3 => same(0, 2, Err(Refusal::NoSuchTill)),
+        4 => same(1, 2, Err(Refusal::NoSuchTill)),
+        5 => same(8, 2, Err(Refusal::NoSuchTill)),
         _ => with_rights(n - 6),
     }
 }
 
 // The user's refusal, or else the call's own.
-fn or_own(refusal: u32, own: u32) -> u32 {
-    if refusal == 0 {
-        return own;
-    }
-    refusal
+fn or_own(may: Result<(), Refusal>, own: Refusal) -> Result<(), Refusal> {
+    may.and(Err(own))
+}
+
+fn number_or_own(may: Result<(), Refusal>, own: Refusal) -> u32 {
+    refusals::answered(&or_own(may, own))
 }
 
 fn lists(c: Case, pool: &[u8], table: &[u32], counts: &mut [u64]) {
-    let a = store::listing(pool, table, c.user, c.till);
-    trial_judge::listing_refused(a, c.list, counts);
+    let a: Listing = store::listing(pool, table, c.user, c.till).into();
+    trial_judge::listing_refused(a, answered(&c.list), counts);
 }
 
 // No version is as early as any day.
 fn finds(c: Case, pool: &[u8], table: &[u32], counts: &mut [u64]) {
-    let a = store::version_on(pool, table, c.user, c.till, 1);
-    counts::answered(counts, counts::LISTINGS, a.refusal, or_own(c.list, 29));
+    let a: VersionFound = store::version_on(pool, table, c.user, c.till, 1).into();
+    let wanted = number_or_own(c.list, Refusal::NoneSoEarly);
+    counts::answered(counts, counts::LISTINGS, a.refusal, wanted);
     counts::expect(counts, a.version == 0);
 }
 
 // No bytes.
 fn backs_up(c: Case, pool: &mut [u8], table: &mut [u32], counts: &mut [u64]) {
-    let a = store::backup(pool, table, c.user, c.till, b"");
-    trial_judge::backup_refused(a, or_own(c.keep, 4), counts);
+    let a: BackedUp = store::backup(pool, table, c.user, c.till, b"").into();
+    trial_judge::backup_refused(a, answered(&or_own(c.keep, Refusal::ImageLength)), counts);
 }
 
 fn backs_up_dated(c: Case, pool: &mut [u8], table: &mut [u32], counts: &mut [u64]) {
-    let a = store::backup_dated(pool, table, c.user, c.till, 1, b"");
-    trial_judge::backup_refused(a, or_own(c.keep, 4), counts);
+    let a: BackedUp = store::backup_dated(pool, table, c.user, c.till, 1, b"").into();
+    trial_judge::backup_refused(a, answered(&or_own(c.keep, Refusal::ImageLength)), counts);
 }
 
 fn backs_up_sent(c: Case, pool: &mut [u8], table: &mut [u32], counts: &mut [u64]) {
-    let a = store::backup_sent(pool, table, c.user, c.till, 0, b"", b"", b"");
-    trial_judge::backup_refused(a, or_own(c.keep, 4), counts);
+    let a: BackedUp = store::backup_sent(pool, table, c.user, c.till, 0, b"", b"", b"").into();
+    trial_judge::backup_refused(a, answered(&or_own(c.keep, Refusal::ImageLength)), counts);
 }
 
 // Past the two images stands 0, and no version is given.
 fn none_taken(refusals: &[u32], versions: &[u32], expected: u32, counts: &mut [u64]) {
     counts::expect(counts, trial_keeper::note_at(refusals, 0) == expected);
-    counts::expect(counts, trial_keeper::note_at(refusals, 1) == 3);
+    let no_till = u32::from(Refusal::NoSuchTill);
+    counts::expect(counts, trial_keeper::note_at(refusals, 1) == no_till);
     counts::expect(counts, trial_compare::filled_words(refusals) == 2);
     counts::expect(counts, trial_compare::filled_words(versions) == 0);
 }
@@ -130,25 +154,32 @@ fn none_taken(refusals: &[u32], versions: &[u32], expected: u32, counts: &mut [u
 fn closes(c: Case, pool: &mut [u8], table: &mut [u32], counts: &mut [u64]) {
     let tills = [c.till, 2];
     let lengths = [0u32; 2];
-    let a = store::backup_all(pool, table, c.user, &tills, &lengths, b"");
+    let a: AllBackedUp = store::backup_all(pool, table, c.user, &tills, &lengths, b"").into();
     let refusals = a.refusals;
     let versions = a.versions;
     counts::answered(counts, counts::CLOSINGS, a.refusal, 0);
-    none_taken(&refusals, &versions, or_own(c.keep, 4), counts);
+    let wanted = number_or_own(c.keep, Refusal::ImageLength);
+    none_taken(&refusals, &versions, wanted, counts);
 }
 
 // No fingerprints.
 fn offers(c: Case, pool: &[u8], table: &[u32], counts: &mut [u64]) {
     let mut marks = [0u8; 0];
-    let refusal = store::offer(pool, table, c.user, c.till, b"", &mut marks);
-    counts::answered(counts, counts::OFFERS, refusal, or_own(c.keep, 4));
+    let refusal = answered(&store::offer(pool, table, c.user, c.till, b"", &mut marks));
+    let wanted = number_or_own(c.keep, Refusal::ImageLength);
+    counts::answered(counts, counts::OFFERS, refusal, wanted);
 }
 
 // No version has the number 0.
 fn restores_into(c: Case, pool: &[u8], table: &[u32], output: &mut [u8], counts: &mut [u64]) {
     trial_compare::mark(output);
-    let a = store::restore(pool, table, c.user, c.till, 0, output);
-    trial_judge::restore_refused(a, or_own(c.restore, 17), output, counts);
+    let a: Restored = store::restore(pool, table, c.user, c.till, 0, output).into();
+    trial_judge::restore_refused(
+        a,
+        answered(&or_own(c.restore, Refusal::NeverGiven)),
+        output,
+        counts,
+    );
 }
 
 fn restores(c: Case, pool: &[u8], table: &[u32], counts: &mut [u64]) {
@@ -158,8 +189,9 @@ fn restores(c: Case, pool: &[u8], table: &[u32], counts: &mut [u64]) {
 
 fn writes_into(c: Case, pool: &[u8], table: &[u32], output: &mut [u8], counts: &mut [u64]) {
     trial_compare::mark(output);
-    let a = store::write_stream(pool, table, c.user, c.till, 0, output);
-    counts::answered(counts, counts::RESTORES, a.refusal, or_own(c.restore, 17));
+    let a: StreamWritten = store::write_stream(pool, table, c.user, c.till, 0, output).into();
+    let wanted = number_or_own(c.restore, Refusal::NeverGiven);
+    counts::answered(counts, counts::RESTORES, a.refusal, wanted);
     counts::expect(counts, a.length == 0);
     counts::expect_unaltered(counts, trial_compare::unmarked(output) == 0);
 }
@@ -170,84 +202,72 @@ fn writes(c: Case, pool: &[u8], table: &[u32], counts: &mut [u64]) {
 }
 
 fn retires(c: Case, pool: &mut [u8], table: &mut [u32], counts: &mut [u64]) {
-    let a = store::retire(pool, table, c.user, c.till, 0);
-    trial_judge::retire_refused(a, or_own(c.retire, 17), counts);
+    let a: Retired = store::retire(pool, table, c.user, c.till, 0).into();
+    trial_judge::retire_refused(a, answered(&or_own(c.retire, Refusal::NeverGiven)), counts);
 }
 
-fn changes(kind: u32, c: Case, pool: &mut [u8], table: &mut [u32], counts: &mut [u64]) {
-    if kind == 0 {
-        backs_up(c, pool, table, counts);
-    } else if kind == 1 {
-        backs_up_dated(c, pool, table, counts);
-    } else if kind == 2 {
-        backs_up_sent(c, pool, table, counts);
-    } else if kind == 3 {
-        closes(c, pool, table, counts);
-    } else {
-        retires(c, pool, table, counts);
+#[derive(Clone, Copy)]
+enum Call {
+    BackUp,
+    BackUpDated,
+    BackUpSent,
+    Close,
+    Retire,
+    List,
+    Find,
+    Offer,
+    Restore,
+    Write,
+}
+
+fn make(call: Call, c: Case, pool: &mut [u8], table: &mut [u32], counts: &mut [u64]) {
+    match call {
+        Call::BackUp => backs_up(c, pool, table, counts),
+        Call::BackUpDated => backs_up_dated(c, pool, table, counts),
+        Call::BackUpSent => backs_up_sent(c, pool, table, counts),
+        Call::Close => closes(c, pool, table, counts),
+        Call::Retire => retires(c, pool, table, counts),
+        Call::List => lists(c, pool, table, counts),
+        Call::Find => finds(c, pool, table, counts),
+        Call::Offer => offers(c, pool, table, counts),
+        Call::Restore => restores(c, pool, table, counts),
+        Call::Write => writes(c, pool, table, counts),
     }
 }
 
-fn looks(kind: u32, c: Case, pool: &[u8], table: &[u32], counts: &mut [u64]) {
-    if kind == 5 {
-        lists(c, pool, table, counts);
-    } else if kind == 6 {
-        finds(c, pool, table, counts);
-    } else if kind == 7 {
-        offers(c, pool, table, counts);
-    } else if kind == 8 {
-        restores(c, pool, table, counts);
-    } else {
-        writes(c, pool, table, counts);
-    }
-}
-
-// One of the ten calls.
-fn calls(kind: u32, c: Case, pool: &mut [u8], table: &mut [u32], counts: &mut [u64]) {
-    if kind < 5 {
-        changes(kind, c, pool, table, counts);
-    } else {
-        looks(kind, c, pool, table, counts);
-    }
-}
-
-fn calls_judged(kind: u32, c: Case, pool: &mut [u8], table: &mut [u32], counts: &mut [u64]) {
+fn make_judged(call: Call, c: Case, pool: &mut [u8], table: &mut [u32], counts: &mut [u64]) {
     let mut bytes = [0u8; trial_compare::POOL];
     let mut entries = [0u32; trial_compare::TABLE];
     trial_compare::copy(pool, table, &mut bytes, &mut entries);
-    calls(kind, c, pool, table, counts);
+    make(call, c, pool, table, counts);
     trial_judge::unaltered(&bytes, &entries, pool, table, counts);
 }
 
-// A user sets another's rights on a till: the n-th alone, or none.
+// A user sets another's rights on a till: one alone, or none.
 #[derive(Clone, Copy)]
 struct Setting {
     user: u32,
     subject: u32,
     till: u32,
-    right: u32,
-    expected: u32,
+    right: Option<Right>,
+    expected: Result<(), Refusal>,
 }
 
-fn asked(user: u32, subject: u32, till: u32, right: u32, expected: u32) -> Setting {
+fn refused(user: u32, subject: u32, till: u32, expected: Refusal) -> Setting {
     Setting {
-        user: user,
-        subject: subject,
-        till: till,
-        right: right,
-        expected: expected,
+        user,
+        subject,
+        till,
+        right: Some(Right::List),
+        expected: Err(expected),
     }
 }
 
 fn set(s: Setting, pool: &[u8], table: &mut [u32], counts: &mut [u64]) {
-    let rights = Rights {
-        list: s.right == 0,
-        back_up: s.right == 1,
-        restore: s.right == 2,
-        retire: s.right == 3,
-    };
-    let refusal = store::set_rights(pool, table, s.user, s.subject, s.till, rights);
-    counts::answered(counts, counts::RIGHTS, refusal, s.expected);
+    let rights = alone(s.right);
+    let refusal = answered(&store::set_rights(pool, table, s.user, s.subject, s.till, rights));
+    let wanted = refusals::answered(&s.expected);
+    counts::answered(counts, counts::RIGHTS, refusal, wanted);
 }
 
 fn set_judged(s: Setting, pool: &[u8], table: &mut [u32], counts: &mut [u64]) {
@@ -255,54 +275,66 @@ fn set_judged(s: Setting, pool: &[u8], table: &mut [u32], counts: &mut [u64]) {
     let mut entries = [0u32; trial_compare::TABLE];
     trial_compare::copy(pool, table, &mut bytes, &mut entries);
     set(s, pool, table, counts);
-    trial_judge::buffers(s.expected, &bytes, &entries, pool, table, counts);
+    if s.expected.is_err() {
+        trial_judge::unaltered(&bytes, &entries, pool, table, counts);
+    }
 }
 
 // Before each third case from the sixth on, user 7 gets other rights.
 fn set_before(n: u32, pool: &[u8], table: &mut [u32], counts: &mut [u64]) {
-    if n < 6 {
-        return;
-    }
-    if n % 3 == 0 {
-        set_judged(asked(0, 7, 1, (n - 6) / 3, 0), pool, table, counts);
+    if 6 <= n && n % 3 == 0 {
+        let given = Setting {
+            user: 0,
+            subject: 7,
+            till: 1,
+            right: right_of((n - 6) / 3),
+            expected: Ok(()),
+        };
+        set_judged(given, pool, table, counts);
     }
 }
 
 // All ten calls of a case.
 fn each_call(n: u32, pool: &mut [u8], table: &mut [u32], counts: &mut [u64]) {
-    let mut kind = 0;
-    while kind < 10 {
-        calls_judged(kind, case_of(n), pool, table, counts);
-        kind += 1;
+    let calls = [
+        Call::BackUp,
+        Call::BackUpDated,
+        Call::BackUpSent,
+        Call::Close,
+        Call::Retire,
+        Call::List,
+        Call::Find,
+        Call::Offer,
+        Call::Restore,
+        Call::Write,
+    ];
+    for call in calls {
+        make_judged(call, case_of(n), pool, table, counts);
     }
 }
 
 fn each_case(pool: &mut [u8], table: &mut [u32], counts: &mut [u64]) {
-    let mut n = 0;
-    while n < 21 {
+    for n in 0..21 {
         set_before(n, pool, table, counts);
         each_call(n, pool, table, counts);
-        n += 1;
     }
 }
 
 // Rights that cannot be set, in the page's order: no till, an unknown user, the owner's or an unknown user's rights, another than the owner.
 fn setting_of(n: u32) -> Setting {
     match n {
-        0 => asked(8, 0, 2, 0, 3),
-        1 => asked(8, 7, 1, 0, 22),
-        2 => asked(0, 0, 1, 0, 22),
-        3 => asked(0, 8, 1, 0, 22),
-        4 => asked(7, 0, 1, 0, 22),
-        _ => asked(7, 7, 1, 0, 23),
+        0 => refused(8, 0, 2, Refusal::NoSuchTill),
+        1 => refused(8, 7, 1, Refusal::UnknownUser),
+        2 => refused(0, 0, 1, Refusal::UnknownUser),
+        3 => refused(0, 8, 1, Refusal::UnknownUser),
+        4 => refused(7, 0, 1, Refusal::UnknownUser),
+        _ => refused(7, 7, 1, Refusal::NoRight),
     }
 }
 
 fn not_set(pool: &[u8], table: &mut [u32], counts: &mut [u64]) {
-    let mut n = 0;
-    while n < 6 {
+    for n in 0..6 {
         set_judged(setting_of(n), pool, table, counts);
-        n += 1;
     }
 }
 
@@ -312,7 +344,7 @@ fn tallies(pool: &[u8], table: &[u32], counts: &mut [u64]) {
     trial_calls::tally_as(8, pool, table, counts);
 }
 
-fn refused(pool: &[u8], table: &mut [u32], counts: &mut [u64]) {
+fn none_done(pool: &[u8], table: &mut [u32], counts: &mut [u64]) {
     not_set(pool, table, counts);
     tallies(pool, table, counts);
 }
@@ -320,7 +352,7 @@ fn refused(pool: &[u8], table: &mut [u32], counts: &mut [u64]) {
 fn on_store(pool: &mut [u8], table: &mut [u32], counts: &mut [u64]) {
     trial_calls::lay_out(capacities(), pool, table, counts, 0);
     each_case(pool, table, counts);
-    refused(pool, table, counts);
+    none_done(pool, table, counts);
 }
 
 pub fn keys(counts: &mut [u64]) {

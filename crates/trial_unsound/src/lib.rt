@@ -1,6 +1,8 @@
 // All calls on what is no sound store: refused with 10, whoever the user is, and nothing changes.
 #![tactic(auto)]
 
+use answers::{BackedUp, Listing, Restored, Retired, Tally};
+use refusals::{Refusal, answered};
 use rights::Rights;
 use trial_draw::dice::Dice;
 use trial_report::counts;
@@ -13,8 +15,8 @@ fn refuse_image(
     table: &mut [u32],
     counts: &mut [u64],
 ) {
-    let a = store::backup(pool, table, user, till, image);
-    trial_judge::backup_refused(a, 10, counts);
+    let a: BackedUp = store::backup(pool, table, user, till, image).into();
+    trial_judge::backup_refused(a, Refusal::Unsound.into(), counts);
 }
 
 fn refuse_backup(user: u32, till: u32, pool: &mut [u8], table: &mut [u32], counts: &mut [u64]) {
@@ -30,8 +32,8 @@ fn refuse_retire(
     table: &mut [u32],
     counts: &mut [u64],
 ) {
-    let a = store::retire(pool, table, user, till, version);
-    trial_judge::retire_refused(a, 10, counts);
+    let a: Retired = store::retire(pool, table, user, till, version).into();
+    trial_judge::retire_refused(a, Refusal::Unsound.into(), counts);
 }
 
 fn refuse_rights(user: u32, till: u32, pool: &[u8], table: &mut [u32], counts: &mut [u64]) {
@@ -41,8 +43,8 @@ fn refuse_rights(user: u32, till: u32, pool: &[u8], table: &mut [u32], counts: &
         restore: true,
         retire: true,
     };
-    let refusal = store::set_rights(pool, table, user, 1, till, rights);
-    counts::answered(counts, counts::RIGHTS, refusal, 10);
+    let refusal = answered(&store::set_rights(pool, table, user, 1, till, rights));
+    counts::answered(counts, counts::RIGHTS, refusal, u32::from(Refusal::Unsound));
 }
 
 fn refuse_writes(
@@ -83,8 +85,8 @@ fn refuse_output(
     counts: &mut [u64],
 ) {
     trial_compare::mark(output);
-    let a = store::restore(pool, table, user, till, version, output);
-    trial_judge::restore_refused(a, 10, output, counts);
+    let a: Restored = store::restore(pool, table, user, till, version, output).into();
+    trial_judge::restore_refused(a, Refusal::Unsound.into(), output, counts);
 }
 
 fn refuse_restore(
@@ -100,10 +102,10 @@ fn refuse_restore(
 }
 
 fn refuse_reads(user: u32, till: u32, pool: &[u8], table: &[u32], counts: &mut [u64]) {
-    let a = store::listing(pool, table, user, till);
-    trial_judge::listing_refused(a, 10, counts);
-    let b = store::tally(pool, table, user);
-    trial_judge::tally_refused(b, 10, counts);
+    let a: Listing = store::listing(pool, table, user, till).into();
+    trial_judge::listing_refused(a, Refusal::Unsound.into(), counts);
+    let b: Tally = store::tally(pool, table, user).into();
+    trial_judge::tally_refused(b, Refusal::Unsound.into(), counts);
 }
 
 fn refuse_all(

@@ -1,7 +1,7 @@
 -- Laws of turning: the target of a pointer's word, and the words that turn.
 use mathlib.Core.Path.{◌∙◌, ◌≡◌, ap, ap₂, refl, subst, sym}
 use mathlib.Core.Bool.{Bool, cond, false, true}
-use mathlib.Core.List.{List, [], ◌++◌, ◌∷◌, append-nil, map}
+use mathlib.Core.List.{List, [], ◌++◌, ◌∷◌, append_assoc, append-nil, map}
 use mathlib.Core.Option.{Option, none, some}
 use Prim.Native.Nat.{◌%◌, ◌*◌, ◌+◌, ◌-◌, ◌/◌, ◌<◌, ◌≤◌, suc, zero, ℕ}
 use native.Mathlib.Nat.{mul-le-mul_left, mul-le-mul_right, suc-mul, zero-mul}
@@ -16,7 +16,7 @@ use Rattle.lists.specs.Rows.{fill}
 use Rattle.lists.proofs.Puts.{same_over}
 use Rattle.lists.proofs.Places.{row_next}
 use Rattle.lists.proofs.Same.{same_eq}
-use Rattle.lists.proofs.Slices.{drop_end, drop_next}
+use Rattle.lists.proofs.Slices.{drop_next}
 use Rattle.lists.proofs.Tests.{by_test}
 use Rattle.model.specs.Image.{block_from, blocks_from, image_blocks, is_blank, with_blanks}
 use Rattle.model.specs.Measures.{Measures, parts_for, record_words}
@@ -42,6 +42,12 @@ begins_in bytes n len pos h =
 -- a block's number is at most its first byte's
 pub next_at : (bytes n : ℕ) → 0 < bytes → n ≤ n * bytes
 next_at bytes n h = let a : n * 1 ≤ n * bytes = mul-le-mul_left n h in omega (arith, a)
+
+-- and its number fits
+pub begins_few : (bytes k n len : ℕ) → 64 ≤ bytes → len ≤ 65536 → n ≡ parts_for bytes len → k < n → (k * bytes < len) × (k ≤ 65536)
+begins_few bytes k n len least few e h =
+    let inside : k * bytes < len = begins_in bytes k len (omega arith) (omega (arith, e)) in
+    (inside, omega (arith, inside, next_at bytes k (omega arith)))
 
 -- a block that begins within the image has the image's byte there first
 first_of : (bytes : ℕ) (image : List ℕ) (at : ℕ) → 0 < bytes → at < length image → get_or (block_from bytes image at) 0 0 ≡ get_or image at 0
@@ -83,11 +89,11 @@ module _ (bytes : ℕ) (f : Block → Bool) (image : List ℕ) (count : ℕ) whe
   find_start e = let z : count - 0 ≡ count = omega arith in rw (zero-mul bytes, z, e)
 
 -- past blocks that begin with another byte than the cell
-pub find_next : (bytes : ℕ) (image cell : List ℕ) (count n r : ℕ) → 0 < bytes → count ≡ parts_for bytes (length image) → n ≤ r → r ≤ count → ((k : ℕ) → k < r → n ≤ k → get_or image (k * bytes) 0 ≡ get_or cell 0 0 → ⊥)
+pub find_next : (bytes : ℕ) (image cell : List ℕ) (count n r : ℕ) → 0 < bytes → count ≡ parts_for bytes (length image) → n ≤ r → r ≤ count → ((k : ℕ) → n ≤ k → k < r → get_or image (k * bytes) 0 ≡ get_or cell 0 0 → ⊥)
     → first_from (same_numbers cell) n (blocks_from bytes image (n * bytes) (count - n)) ≡ first_from (same_numbers cell) r (blocks_from bytes image (r * bytes) (count - r))
 find_next bytes image cell count n r z e l h g =
     same_over (λ k. first_from (same_numbers cell) k (blocks_from bytes image (k * bytes) (count - k))) n r l
-    (λ k i m. find_no bytes (same_numbers cell) image count k (omega arith) (first_apart bytes image cell (k * bytes) z (begins_in bytes k (length image) z (omega (arith, e))) (g k m i)))
+    (λ k i m. find_no bytes (same_numbers cell) image count k (omega arith) (first_apart bytes image cell (k * bytes) z (begins_in bytes k (length image) z (omega (arith, e))) (g k i m)))
 
 -- ---- the target of a word
 
@@ -209,24 +215,21 @@ module _ (m : Measures) (image pool ws : List ℕ) (n l : ℕ) where
 
 -- ---- the words that are released, one by one
 
-pub released_step : (ps ts : List ℕ) (b : ℕ) → b < length ps → b < length ts → released_of (drop b ps) (drop b ts) ≡ word_if (get_or ps b 0) (get_or ts b 0) ++ released_of (drop (b + 1) ps) (drop (b + 1) ts)
+-- a word is looked at, of those that are left
+pub released_next : (ps ts ps' ts' done done' all : List ℕ) (w t : ℕ) → ps ≡ w ∷ ps' → ts ≡ t ∷ ts' → done' ≡ done ++ word_if w t → done ++ released_of ps ts ≡ all → done' ++ released_of ps' ts' ≡ all
 unfolding released_of
-released_step ps ts b h l = rw (drop_next ps b 0 h, drop_next ts b 0 l) (go (eqb (get_or ts b 0) (get_or ps b 0)))
+released_next ps ts ps' ts' done done' all w t e f d h = rw (d, append_assoc) (ap (λ (x : List ℕ). done ++ x) (go (eqb t w)) ∙ (rw (e, f) at h))
   where
-    go : (t : Bool) → cond t (released_of (drop (b + 1) ps) (drop (b + 1) ts)) (get_or ps b 0 ∷ released_of (drop (b + 1) ps) (drop (b + 1) ts)) ≡ cond t [] (get_or ps b 0 ∷ []) ++ released_of (drop (b + 1) ps) (drop (b + 1) ts)
+    go : (b : Bool) → cond b [] (w ∷ []) ++ released_of ps' ts' ≡ cond b (released_of ps' ts') (w ∷ released_of ps' ts')
     go true = refl
     go false = refl
 
-pub released_end : (ps ts : List ℕ) (b : ℕ) → length ps ≤ b → released_of (drop b ps) (drop b ts) ≡ []
+pub released_last : (ps ts done all : List ℕ) → ps ≡ [] → done ++ released_of ps ts ≡ all → done ≡ all
 unfolding released_of
-released_end ps ts b h = rw (drop_end ps b h)
+released_last ps ts done all e h = sym (append-nil done) ∙ (rw e at h)
 
 pub kept_not : (w t m : ℕ) (out : List ℕ) → t ≡ w → take m out ≡ take m out ++ word_if w t
 kept_not w t m out e = rw (eq-eqb t w e) (sym (append-nil (take m out)))
 
 pub kept_put : (w t m : ℕ) (out : List ℕ) → (t ≡ w → ⊥) → m < length out → take (m + 1) (set out m w) ≡ take m out ++ word_if w t
 kept_put w t m out n h = rw (ne_eqb t w n, add-one m) (take-suc-set out m w h)
-
--- all words are written
-pub copied_all : (ts ps : List ℕ) → length ps ≡ length ts → ts ++ drop (length ts) ps ≡ ts
-copied_all ts ps e = rw (drop_end ps (length ts) (omega (arith, e))) (append-nil ts)

@@ -2,6 +2,7 @@
 #![tactic(auto)]
 
 ghost use Rattle.std.specs.Prelude.{◌≡◌, map, ◌++◌, ℕ, ◌+◌, ◌*◌, ◌%◌, ◌≤◌, ◌<◌, length, get_or, take};
+ghost use Rattle.std.specs.Option.{MatchOption};
 ghost use Rattle.lists.specs.Lists.{same_numbers, first_from};
 ghost use Rattle.model.specs.Image.{image_blocks, with_blanks};
 ghost use Rattle.model.specs.Measures.{parts_for};
@@ -13,22 +14,12 @@ ghost use Rattle.turn.specs.Turn.{WordFits, target_word, target_of, released_of,
 
 use numbers::{Block, Measures, Pointer};
 
-// From block n of the image on, which begins at a byte, the next block with this first byte, or how many blocks there are. The first byte settles most
-// blocks, and a loop over nothing else is fast.
-fn next_start(image: &[u8], from: usize, n: usize, count: usize, byte: u8, bytes: usize) -> usize
-    requires { (n ≤ count) × (count ≡ parts_for bytes (length image.now)) × (from ≡ n * bytes) × (length image.now ≤ 65536) × (0 < bytes) × (bytes ≤ 512) }
-    ensures { (n ≤ result) × (result ≤ count) × ((k : ℕ) → k < result → n ≤ k → get_or image.now (k * bytes) 0 ≡ byte → ⊥) }
+// The next block of the image, from block n on, that begins with a byte. The first byte settles most blocks, and a loop over nothing else is fast.
+fn next_start(image: &[u8], n: usize, count: usize, byte: u8, bytes: usize) -> Option<usize>
+    requires { (n ≤ count) × (count ≡ parts_for bytes (length image.now)) × (length image.now ≤ 65536) × (0 < bytes) × (bytes ≤ 512) }
+    ensures { MatchOption result ((k : ℕ) → n ≤ k → k < count → get_or image.now (k * bytes) 0 ≡ byte → ⊥) (λ i. (n ≤ i) × (i < count) × (get_or image.now (i * bytes) 0 ≡ byte) × ((k : ℕ) → n ≤ k → k < i → get_or image.now (k * bytes) 0 ≡ byte → ⊥)) }
 {
-    let mut at = from;
-    let mut k = n;
-    while k < count {
-        if image[at] == byte {
-            return k;
-        }
-        at = at + bytes;
-        k = k + 1;
-    }
-    k
+    (n..count).find(|k| image[k * bytes] == byte)
 }
 
 // An indirect pointer to the lowest block of the image that equals a cell; the pointer itself if none does.
@@ -37,15 +28,13 @@ fn find_block(pointer: Pointer, image: &[u8], cell: &[u8], bytes: usize) -> Poin
     ensures { result.0 ≡ target_word pointer.0 (indirect_at (first_from (same_numbers cell.now) 0 (image_blocks bytes image.now))) }
 {
     let count = numbers::parts_for(bytes, image.len());
-    let byte = cell[0];
-    let mut n = next_start(image, 0, 0, count, byte, bytes);
-    while n < count {
-        let block = Block(n as u32);
-        let at = block.byte(bytes);
-        if blocks::block_same(image, at, cell, bytes) {
+    let mut n = 0;
+    while let Some(k) = next_start(image, n, count, cell[0], bytes) {
+        let block = Block(k as u32);
+        if blocks::block_same(image, block.byte(bytes), cell, bytes) {
             return Pointer::indirect(block);
         }
-        n = next_start(image, at + bytes, n + 1, count, byte, bytes);
+        n = k + 1;
     }
     pointer
 }
@@ -56,10 +45,10 @@ fn turned_to(pointer: Pointer, image: &[u8], cell: &[u8], bytes: usize) -> Point
     ensures { result.0 ≡ target_word pointer.0 (turns_to with_blanks (image_blocks bytes image.now) cell.now) }
 {
     if blocks::pieces_filled(cell, 255) {
-        let erased = Pointer::blank();
-        return erased;
+        Pointer::blank()
+    } else {
+        find_block(pointer, image, cell, bytes)
     }
-    find_block(pointer, image, cell, bytes)
 }
 
 // What a pointer turns into; itself if it does not turn.
@@ -88,11 +77,8 @@ fn find_targets(
     requires { (length image.now ≤ 65536) × Stored (measures_of m) pool.now records.now × (length targets.old ≡ length pointers.now) × ((b : ℕ) → b < length pointers.now → WordFits m.blocks (length records.now) (get_or pointers.now b 0)) }
     ensures { targets.new ≡ map (target_of (measures_of m) image.now pool.now records.now) pointers.now }
 {
-    let mut b: usize = 0;
-    while b < pointers.len() {
-        let target = target_of(Pointer(pointers[b]), image, pool, records, m);
-        targets[b] = target.0;
-        b = b + 1;
+    for (b, word) in pointers.iter().enumerate() {
+        targets[b] = target_of(Pointer(*word), image, pool, records, m).0;
     }
 }
 
@@ -113,11 +99,9 @@ fn list_released(pointers: &[u32], targets: &[u32], out: &mut [u32]) -> usize
     requires { (length pointers.now ≡ length targets.now) × (length pointers.now ≤ length out.old) }
     ensures { (take result out.new ≡ released_of pointers.now targets.now) × (result ≤ length pointers.now) }
 {
-    let mut m: usize = 0;
-    let mut b: usize = 0;
-    while b < pointers.len() {
-        m = keep_pointer(Pointer(pointers[b]), Pointer(targets[b]), out, m);
-        b = b + 1;
+    let mut m = 0;
+    for (word, target) in pointers.iter().zip(targets) {
+        m = keep_pointer(Pointer(*word), Pointer(*target), out, m);
     }
     m
 }
@@ -137,6 +121,6 @@ pub fn turn_pointers(
 {
     find_targets(pointers, image, pool, records, targets, m);
     let r = list_released(pointers, targets, out);
-    words::copy_in(targets, pointers);
+    pointers.copy_from_slice(targets);
     r
 }

@@ -1,12 +1,14 @@
-use mathlib.Core.Bool.{false}
-use mathlib.Core.Path.{◌≡◌}
-use Prim.Native.Nat.{ℕ, ◌*◌, ◌-◌, ◌/◌, ◌≤◌, ◌<◌}
-use lib.ListN.{length, get_or, take, drop}
+use Rattle.std.proofs.Common.{◌≡◌, ℕ, ◌*◌, ◌<◌, false, length, get_or, take, drop}
+use Rattle.std.specs.Iterator.Adapters.{zip_first, zip_second}
 use Rattle.model.specs.Sound.{is_filled}
 use Rattle.audit_cells.proofs.cells_filled.Given as goal
 
-abbrev pub invariant-loop-c : goal.invariant-loop-c
-invariant-loop-c l = (l.c ≤ l.n) × (l.n ≡ length l.pool / l.bytes) × ((k : ℕ) → k < l.c → get_or l.occupied k false ≡ is_filled (take l.bytes (drop (k * l.bytes) l.pool)))
-
-abbrev pub decreases-loop-c : goal.decreases-loop-c
-decreases-loop-c l = l.n - l.c
+abbrev pub invariant-loop-cell : goal.invariant-loop-cell
+invariant-loop-cell l = record {
+  can_next : (goal.iterator-loop-cell).can_next l.cell-iterator;
+  is_finite : (goal.iterator-loop-cell).is_finite l.cell-iterator;
+  size : (zip_first l.cell-iterator).size ≡ l.bytes;
+  pool : drop (length l.yielded * l.bytes) l.pool ≡ (zip_first l.cell-iterator).rest.now;
+  occupied : drop (length l.yielded) l.occupied ≡ (zip_second l.cell-iterator).rest.now;
+  upto : (k : ℕ) → k < length l.yielded → get_or l.occupied k false ≡ is_filled (take l.bytes (drop (k * l.bytes) l.pool));
+}

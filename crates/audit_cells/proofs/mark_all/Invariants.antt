@@ -1,13 +1,12 @@
-use mathlib.Core.Path.{◌≡◌}
-use Prim.Native.Nat.{◌-◌, ◌/◌, ◌≤◌}
-use lib.ListN.{length}
-use Rattle.lists.proofs.Marks.{Going}
+use Rattle.std.proofs.Common.{◌≡◌}
 use Rattle.model.specs.Measures.{record_words}
-use Rattle.audit_cells.proofs.Cells.{cells_in_lem}
+use Rattle.audit_cells.proofs.Records.{Going}
 use Rattle.audit_cells.proofs.mark_all.Given as goal
 
-abbrev pub invariant-loop-k : goal.invariant-loop-k
-invariant-loop-k l = (l.k ≤ l.count) × (l.width ≡ record_words l.n) × (l.count ≡ length l.records / l.width) × Going (cells_in_lem l.n l.records) l.count l.k l.cells l.initial.occupied l.occupied
-
-abbrev pub decreases-loop-k : goal.decreases-loop-k
-decreases-loop-k l = l.count - l.k
+abbrev pub invariant-loop-row : goal.invariant-loop-row
+invariant-loop-row l = record {
+  can_next : (goal.iterator-loop-row).can_next l.row-iterator;
+  is_finite : (goal.iterator-loop-row).is_finite l.row-iterator;
+  width : l.row-iterator.size ≡ record_words l.n;
+  going : Going l.n l.cells l.records l.row-iterator.rest.now l.initial.occupied l.occupied;
+}

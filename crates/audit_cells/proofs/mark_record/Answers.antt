@@ -9,7 +9,7 @@ use Rattle.audit_cells.proofs.Held.{left_all, left_done, left_past, left_less, l
 use Rattle.audit_cells.proofs.mark_record.Goals as goal
 
 pub loop-m-init : goal.loop-m-init
-loop-m-init c = (omega (arith, c.shared_slice_known-2-1.given 0), left_all _ _ _ c.requires.1 _)
+loop-m-init c = (omega (arith, c.type_inv.row 0), left_all _ _ _ c.requires.1 _)
 
 pub overflow_cast-i : goal.overflow_cast-i
 overflow_cast-i c =

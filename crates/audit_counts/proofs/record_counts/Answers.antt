@@ -11,7 +11,7 @@ use mathlib.Core.Bool.{not}
 use Rattle.audit_counts.proofs.record_counts.Goals as goal
 
 pub loop-m-init : goal.loop-m-init
-loop-m-init c = (omega (arith, c.shared_slice_known-3-1.given 0), left_all _ _ _)
+loop-m-init c = (omega (arith, c.type_inv.row 0), left_all _ _ _)
 
 pub overflow_cast-i : goal.overflow_cast-i
 overflow_cast-i c =

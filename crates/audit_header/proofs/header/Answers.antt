@@ -1,22 +1,20 @@
-use native.Mathlib.Omega.{arith}
-use mathlib.Core.Path.{◌∙◌, sym}
-use Rattle.lists.proofs.Checkers.{proves}
+use Rattle.std.proofs.Common.{◌≡◌, false, not, sym, ap, ◌∙◌, arith}
+use Rattle.lists.proofs.Checkers.{clash}
 use Rattle.audit_header.proofs.Answers.{too_short, out_of_range, not_written, by_lengths}
-use mathlib.Core.Path.{ap}
-use mathlib.Core.Bool.{not}
+use Rattle.audit_header.proofs.header.Goals.{then-in_range, else-in_range}
 use Rattle.audit_header.proofs.header.Goals as goal
 
 pub returns-then-table-lt-HEADER_WORDS : goal.returns-then-table-lt-HEADER_WORDS
 returns-then-table-lt-HEADER_WORDS c = too_short _ _ (omega arith)
 
-pub returns-then-not-in_range : goal.returns-then-not-in_range
-returns-then-not-in_range c = out_of_range _ _ _ c.capacities_in-c.ensures (sym c.in_range.ensures ∙ c.if-not-in_range.true)
+pub returns-then-measures_written : goal.returns-then-measures_written
+returns-then-measures_written c = elim c.if-in_range.branch [
+  | then-in_range w ↦ by_lengths _ _ _ c.capacities_in-c.ensures (omega arith) (sym c.in_range.ensures ∙ w.if-in_range.true) (w.measures_written.ensures.holds (sym w.value-is ∙ c.if-measures_written.true)) c.lengths_fit.ensures
+  | else-in_range w ↦ absurd (clash (w.value-is ∙ w.if-in_range.false) c.if-measures_written.true)
+]
 
-pub returns-then-not-measures_written : goal.returns-then-not-measures_written
-returns-then-not-measures_written c = not_written _ _ _ c.capacities_in-c.ensures c.measures_written.ensures (ap not c.if-not-measures_written.true)
-
-pub lengths_fit-requires : goal.lengths_fit-requires
-lengths_fit-requires c = sym c.in_range.ensures ∙ c.if-not-in_range.false
-
-pub returns : goal.returns
-returns c = by_lengths _ _ _ c.capacities_in-c.ensures (omega arith) (sym c.in_range.ensures ∙ c.if-not-in_range.false) (proves c.measures_written.ensures (ap not c.if-not-measures_written.false)) c.lengths_fit.ensures
+pub returns-else-measures_written : goal.returns-else-measures_written
+returns-else-measures_written c = rw c.if-measures_written.false (elim c.if-in_range.branch [
+  | then-in_range w ↦ not_written _ _ _ c.capacities_in-c.ensures w.measures_written.ensures (ap not (sym w.value-is ∙ c.if-measures_written.false))
+  | else-in_range w ↦ out_of_range _ _ _ c.capacities_in-c.ensures (sym c.in_range.ensures ∙ w.if-in_range.false)
+])

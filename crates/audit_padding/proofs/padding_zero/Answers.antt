@@ -16,8 +16,8 @@ slice_bounds-pointer_count-end c =
     let here : 3 + c.args.blocks ≤ length c.args.slots.now = (slot_fits c.args.blocks c.args.count _ c.requires.1 c.requires.4) in
     omega (arith, here)
 
-pub pointer_count-requires : goal.pointer_count-requires
-pointer_count-requires c =
+pub pointer_count-count_of_first-requires : goal.pointer_count-count_of_first-requires
+pointer_count-count_of_first-requires c =
     let here : 3 + c.args.blocks ≤ length c.args.slots.now = (slot_fits c.args.blocks c.args.count _ c.requires.1 c.requires.4) in
     (search rules, first_long c.args.blocks c.args.slots.now (here), search rules, search rules)
 
@@ -27,8 +27,8 @@ bounds-slots-1 c =
     omega (arith, here)
 
 pub overflow_cast-length : goal.overflow_cast-length
-overflow_cast-length c = omega (arith, c.shared_slice_known-4-1.given 1)
+overflow_cast-length c = omega (arith, c.type_inv.slots 1)
 
 pub returns : goal.returns
-returns c = tail_of c.args.m.bytes _ c.args.blocks c.args.count c.args.slots.now c.requires.1 c.pointer_count.result c.minus-last.result _ c.byte.result _ _
-    (count-is _ c.args.blocks c.args.slots.now _ c.pointer_count.ensures.0) c.minus-last.ensures c.byte.ensures c.minus-from.ensures c.end_of-w.ensures c.block_zero.ensures
+returns c = tail_of c.args.m.bytes _ c.args.blocks c.args.count c.args.slots.now c.requires.1 c.pointer_count-count_of_first.result c.saturating_sub-last.result _ c.byte.result _ _
+    (count-is _ c.args.blocks c.args.slots.now _ c.pointer_count-count_of_first.ensures.0) c.saturating_sub-last.ensures c.byte.ensures c.saturating_sub-from.ensures c.end_of-w.ensures c.block_zero.ensures

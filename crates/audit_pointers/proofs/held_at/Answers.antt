@@ -2,6 +2,7 @@ use native.Mathlib.Omega.{arith}
 use mathlib.Core.Bool.{Bool, true, false}
 use mathlib.Core.Path.{◌≡◌, refl, sym, ap, ◌∙◌}
 use mathlib.Core.List.{List, []}
+use Rattle.std.proofs.Common.{inl, inr}
 use Prim.Native.Nat.{ℕ, ◌+◌, ◌*◌, ◌≤◌, ◌<◌}
 use lib.Dec.{eqb}
 use lib.ListN.{length, get_or}
@@ -12,7 +13,7 @@ use Rattle.model.specs.Records.{is_held}
 use Rattle.model.specs.Table.{position_of, records_in}
 use Rattle.audit_words.specs.Words.{bit_of}
 use Rattle.audit_words.proofs.Positions.{bit_off, position_held, other_held}
-use Rattle.audit_pointers.proofs.Positions.{row_fits, position_in, position_past, position_beside}
+use Rattle.audit_pointers.proofs.Positions.{position_in, position_past, position_beside}
 use borrow.Author.Rules.{rules}
 use Rattle.audit_pointers.proofs.held_at.Goals as goal
 
@@ -30,14 +31,15 @@ module _ (n : ℕ) (ws : List ℕ) (k i : ℕ) where
       go true z = z ∙ sym (ap is_held (position_held _ _ (bit_of (get_or ws (at + 2) 0) i) (get_or ws (at + (3 + i)) 0) (get_or ws (at + (3 + n + i)) 0) (sym q ∙ eqb-true r 1 z)))
       go false z = z ∙ sym (other_held _ _ _ _ _ (bit_off (get_or ws at 0) i (λ y. eqb-false r 1 z (q ∙ y))))
 
-pub overflow_add-at : goal.overflow_add-at
-overflow_add-at c = let a = c.args in omega (arith, row_fits a.k.0 a.n (omega arith) (omega arith))
+no_answer : {r b : Bool} → r ≡ false → b ≡ false → r ≡ b
+no_answer e f = e ∙ sym f
 
-pub returns-then-records-at : goal.returns-then-records-at
-returns-then-records-at c = let a = c.args in sym (ap is_held (position_past a.n a.records.now a.k.0 a.i (search rules)))
+pub returns-then-i-n : goal.returns-then-i-n
+returns-then-i-n c = let a = c.args in held-bit a.n a.records.now a.k.0 a.i _ _ c.word-at.ensures (omega (arith, c.word-at.ensures, c.row_words.ensures, c.if-i-n.true)) (omega (arith, c.if-i-n.true)) c.bit.ensures
 
-pub returns-then-n-i : goal.returns-then-n-i
-returns-then-n-i c = let a = c.args in sym (ap is_held (position_beside a.n a.records.now a.k.0 a.i (search rules) (search rules)))
-
-pub returns : goal.returns
-returns c = let a = c.args in held-bit a.n a.records.now a.k.0 a.i _ _ c.word-at.ensures (search rules) (search rules) c.bit.ensures
+pub returns-else-i-n : goal.returns-else-i-n
+returns-else-i-n c = let a = c.args in
+    no_answer (search rules) (elim c.if-i-n.either [
+      | inl h ↦ ap is_held (position_beside a.n a.records.now a.k.0 a.i (omega (arith, c.word-at.ensures, c.row_words.ensures, h)) (omega (arith, h)))
+      | inr h ↦ ap is_held (position_past a.n a.records.now a.k.0 a.i (omega (arith, c.word-at.ensures, c.row_words.ensures, h)))
+    ])

@@ -19,29 +19,29 @@ found : {r : Bool} (storage : Storage) (segs : List Segment) (k i : ℕ) → sto
 unfolding position_at
 found storage segs k i q e = e ∙ ap (λ (s : List Segment). is_held (get_or (get_or s k []) i null_position)) (sym q)
 
-pub returns-then-kind-eq2 : goal.returns-then-kind-eq2
-returns-then-kind-eq2 c = let w = c.args.w in
-    let k = c.if-kind-eq2.true in
+pub returns-in-2 : goal.returns-in-2
+returns-in-2 c = let w = c.args.w in
+    let k = c.in-2.is in
     let e : (storage : Storage) → c.not_null.result ≡ resolves storage (map word_to_pointer c.args.newer.now) (word_to_pointer w) = λ storage. rw (read_indirect w k) c.not_null.ensures in
     (λ storage q. record { holds = λ t. record { canonical = indirect_canonical w k; resolves = sym (e storage) ∙ t }; seen = λ g. e storage ∙ g.resolves }, λ t. bumped_other w _ (λ z. omega (arith, k, z)))
 
-pub returns-then-kind-eq1 : goal.returns-then-kind-eq1
-returns-then-kind-eq1 c = let w = c.args.w in
-    let k = c.if-kind-eq1.true in
+pub returns-in-1 : goal.returns-in-1
+returns-in-1 c = let w = c.args.w in
+    let k = c.in-1.is in
     let e : (storage : Storage) → storage.records ≡ records_in c.args.n c.args.records.now → c.held_at.result ≡ resolves storage (map word_to_pointer c.args.newer.now) (word_to_pointer w) = λ storage q. rw (read_direct w k) (found storage _ _ _ q c.held_at.ensures) in
     (λ storage q. record { holds = λ t. record { canonical = direct_canonical w k; resolves = sym (e storage q) ∙ t }; seen = λ g. e storage q ∙ g.resolves }, λ t. c.bump.ensures)
 
 pub returns-then-w-null : goal.returns-then-w-null
 returns-then-w-null c = let w = c.args.w in
     let e = c.if-w-null.true ∙ c.null.ensures in
-    (λ storage q. is_so (record { canonical = null_canonical w e; resolves = rw (null_reads w e) }), λ t. bumped_other w _ c.if-kind-eq1.false)
+    (λ storage q. rw (eq-eqb w c.null.result.0 c.if-w-null.true) (is_so (record { canonical = null_canonical w e; resolves = rw (null_reads w e) })), λ t. bumped_other w _ (λ z. omega arith))
 
-pub returns : goal.returns
-returns c = let w = c.args.w in
+pub returns-else-w-null : goal.returns-else-w-null
+returns-else-w-null c = let w = c.args.w in
     let b = c.blank.ensures in (
       λ storage q. record {
         holds = λ t. let e = eqb-true w c.blank.result.0 t ∙ b in record { canonical = blank_canonical w e; resolves = rw (blank_reads w e) };
-        seen = λ g. eq-eqb w c.blank.result.0 (canonical_other w c.if-kind-eq1.false c.if-kind-eq2.false (λ e. c.if-w-null.false (e ∙ sym c.null.ensures)) g.canonical ∙ sym b);
+        seen = λ g. eq-eqb w c.blank.result.0 (canonical_other w (λ z. omega arith) (λ z. omega arith) (λ e. c.if-w-null.false (e ∙ sym c.null.ensures)) g.canonical ∙ sym b);
       },
-      λ t. bumped_other w _ c.if-kind-eq1.false,
+      λ t. bumped_other w _ (λ z. omega arith),
     )

@@ -5,6 +5,7 @@ use mathlib.Core.Path.{refl}
 use lib.ListN.{length}
 use Rattle.audit_pointers.proofs.Slots.{slot_inside}
 use Rattle.audit_tills.proofs.Numbers.{left_all, left_none, left_low, left_high, left_next}
+use Rattle.audit_tills.proofs.numbers_rise.Goals.{then-number-least-via-then-number-least, then-number-least-via-else-number-least+then-last-number}
 use Rattle.audit_tills.proofs.numbers_rise.Goals as goal
 
 pub loop-i-init : goal.loop-i-init
@@ -26,10 +27,10 @@ bounds-slots-i c =
     omega (arith, here)
 
 pub returns-then-number-least : goal.returns-then-number-least
-returns-then-number-least c = left_low c.args.blocks c.args.last c.args.count c.args.slots.now c.loop-i.invariant (search rules) c.if-number-least.true
-
-pub returns-then-last-number : goal.returns-then-last-number
-returns-then-last-number c = left_high c.args.blocks c.args.last c.args.count c.args.slots.now c.loop-i.invariant (search rules) (omega (arith, c.if-number-least.false)) c.if-last-number.true
+returns-then-number-least c = elim c.then-number-least.branch [
+  | then-number-least-via-then-number-least w ↦ left_low c.args.blocks c.args.last c.args.count c.args.slots.now c.loop-i.invariant (search rules) w.if-number-least.true
+  | then-number-least-via-else-number-least+then-last-number w ↦ left_high c.args.blocks c.args.last c.args.count c.args.slots.now c.loop-i.invariant (search rules) (omega (arith, w.if-number-least.false)) w.if-last-number.true
+]
 
 pub overflow_add-least : goal.overflow_add-least
 overflow_add-least c = omega (arith, c.if-last-number.false, c.requires.2)

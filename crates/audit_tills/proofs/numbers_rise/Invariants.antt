@@ -4,6 +4,3 @@ use Rattle.audit_tills.proofs.numbers_rise.Given as goal
 
 abbrev pub invariant-loop-i : goal.invariant-loop-i
 invariant-loop-i l = StillRises l.blocks l.last l.count l.least l.i l.slots
-
-abbrev pub decreases-loop-i : goal.decreases-loop-i
-decreases-loop-i l = l.count - l.i

@@ -25,7 +25,7 @@ rest-long : (i n b : ℕ) (ws : List ℕ) → i ≤ n → n * (3 + b) ≤ length
 rest-long i n b ws h g = rw (tail_all ws (i * (3 + b)), length-drop (i * (3 + b)) ws) (rest_fits i n b (length ws) h g)
 
 pub loop-i-init : goal.loop-i-init
-loop-i-init c = (omega arith, below_none _, refl, none_tallied (pointer_words c.args.m.bytes) (3 + c.args.blocks) c.args.slots.now _)
+loop-i-init c = (below_none _, refl, none_tallied (pointer_words c.args.m.bytes) (3 + c.args.blocks) c.args.slots.now _)
 
 pub overflow_mul-at : goal.overflow_mul-at
 overflow_mul-at c =
@@ -57,10 +57,10 @@ slot_sound-requires c = let a = c.args in
     let l = c.loop-i in
     let p = c.requires in
     let m : l.i * (3 + a.blocks) + (3 + a.blocks) ≤ a.count * (3 + a.blocks) = slot_inside l.i a.count a.blocks _ (search rules) (omega arith) in
-    (search rules, search rules, search rules, search rules, rest-long l.i a.count a.blocks a.slots.now (search rules) p.3, room_left (pointer_words a.m.bytes) (3 + a.blocks) (slot_short a.m.bytes) l.i a.blocks a.slots.now _ _ l.invariant.3 (λ k. omega (arith, m, p.4 k)))
+    (search rules, search rules, search rules, search rules, rest-long l.i a.count a.blocks a.slots.now (search rules) p.3, room_left (pointer_words a.m.bytes) (3 + a.blocks) (slot_short a.m.bytes) l.i a.blocks a.slots.now _ _ l.invariant.2 (λ k. omega (arith, m, p.4 k)))
 
 pub shape_of-counts-then-not-slot_sound : goal.shape_of-counts-then-not-slot_sound
-shape_of-counts-then-not-slot_sound c = omega (arith, c.slot_sound.auto, c.loop-i.invariant.2)
+shape_of-counts-then-not-slot_sound c = omega (arith, c.slot_sound.auto, c.loop-i.invariant.1)
 
 pub returns-then-not-slot_sound : goal.returns-then-not-slot_sound
 returns-then-not-slot_sound c = (is_not (λ e. refutes (rest _ _ c.args.blocks _ _ c.args.slots.now c.slot_sound.ensures.0) (ap not c.if-not-slot_sound.true) (e c.loop-i.i (search rules))), λ e. absurd (clash refl e))
@@ -69,16 +69,15 @@ pub loop-i-preserved : goal.loop-i-preserved
 loop-i-preserved c = let l = c.loop-i in
     let a = c.args in
     let e = c.slot_sound.ensures in (
-      search rules,
-      below_more _ _ l.invariant.1 (proves (rest _ _ a.blocks _ _ a.slots.now e.0) (ap not c.if-not-slot_sound.false)),
-      omega (arith, c.slot_sound.auto, l.invariant.2),
-      next_tallied (pointer_words a.m.bytes) (3 + a.blocks) l.i a.slots.now _ _ _ l.invariant.3 (rw (tail_all a.slots.now (l.i * (3 + a.blocks))) at (e.1 c.if-not-slot_sound.false)),
+      below_more _ _ l.invariant.0 (proves (rest _ _ a.blocks _ _ a.slots.now e.0) (ap not c.if-not-slot_sound.false)),
+      omega (arith, c.slot_sound.auto, l.invariant.1),
+      next_tallied (pointer_words a.m.bytes) (3 + a.blocks) l.i a.slots.now _ _ _ l.invariant.2 (rw (tail_all a.slots.now (l.i * (3 + a.blocks))) at (e.1 c.if-not-slot_sound.false)),
     )
 
 pub shape_of-counts : goal.shape_of-counts
-shape_of-counts c = c.loop-i.invariant.2
+shape_of-counts c = c.loop-i.invariant.1
 
 pub returns : goal.returns
 returns c = let l = c.loop-i in
     let n : l.i ≡ c.args.count = omega arith in
-    (is_so (λ k h. l.invariant.1 k (omega arith)), λ e. rw n at l.invariant.3)
+    (is_so (λ k h. l.invariant.0 k (omega arith)), λ e. rw n at l.invariant.2)

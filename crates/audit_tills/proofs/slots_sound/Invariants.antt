@@ -8,8 +8,5 @@ use Rattle.audit_tills.specs.Sound.{slots_pointers, SlotSound}
 use Rattle.audit_tills.proofs.slots_sound.Given as goal
 
 abbrev pub invariant-loop-i : goal.invariant-loop-i
-invariant-loop-i l = (l.i ≤ l.count) × ((j : ℕ) → j < l.i → SlotSound l.m.bytes (storage_in (measures_of l.m) l.pool l.records) l.blocks (l.count - j) (drop (j * (3 + l.blocks)) l.slots))
+invariant-loop-i l = ((j : ℕ) → j < l.i → SlotSound l.m.bytes (storage_in (measures_of l.m) l.pool l.records) l.blocks (l.count - j) (drop (j * (3 + l.blocks)) l.slots))
     × (length l.counts ≡ length l.initial.counts) × (l.counts ≡ counts_after (slots_pointers l.m.bytes l.blocks l.i l.slots) l.initial.counts)
-
-abbrev pub decreases-loop-i : goal.decreases-loop-i
-decreases-loop-i l = l.count - l.i

@@ -14,6 +14,7 @@ use Rattle.audit_tills.specs.Sound.{numbers_in, SlotSound}
 use Rattle.audit_tills.proofs.Slots.{used_fit, slots_fit}
 use borrow.Author.Rules.{rules}
 use mathlib.Core.Bool.{not}
+use Rattle.audit_tills.proofs.till_sound.Goals.{then-versions-count-via-then-versions-count, then-versions-count-via-else-versions-count+then-last-gt65535, then-versions-count-via-else-versions-count+else-last-gt65535+then-till, then-versions-count-via-else-versions-count+else-last-gt65535+else-till+then-till-ne0}
 use Rattle.audit_tills.proofs.till_sound.Goals as goal
 
 slots : {r : Bool} (bytes : ℕ) (storage : Storage) (b n : ℕ) (row : List ℕ) → Decides r ((i : ℕ) → i < n → SlotSound bytes storage b (n - i) (drop (i * (3 + b)) (take (length row - 4) (drop 4 row))))
@@ -24,19 +25,18 @@ rise : {r : Bool} (b n last : ℕ) (row : List ℕ) → r ≡ rises 0 last (numb
 rise b n last row e = e ∙ ap (λ (ws : List ℕ). rises 0 last (numbers_in b n ws)) (tail_all row 4)
 
 pub overflow_cast-count : goal.overflow_cast-count
-overflow_cast-count c = omega (arith, c.shared_slice_known-5-1.given 1)
+overflow_cast-count c = omega (arith, c.type_inv.till 1)
 
 pub returns-then-versions-count : goal.returns-then-versions-count
-returns-then-versions-count c = (is_not (λ t. omega (arith, t.few)), λ e. absurd (clash refl e))
-
-pub returns-then-last-gt65535 : goal.returns-then-last-gt65535
-returns-then-last-gt65535 c = (is_not (λ t. omega (arith, t.most)), λ e. absurd (clash refl e))
-
-pub returns-then-till : goal.returns-then-till
-returns-then-till c = (is_not (λ t. omega (arith, c.if-till.true, t.rights)), λ e. absurd (clash refl e))
-
-pub returns-then-till-ne0 : goal.returns-then-till-ne0
-returns-then-till-ne0 c = (is_not (λ t. omega (arith, c.if-till-ne0.true, t.zero)), λ e. absurd (clash refl e))
+returns-then-versions-count c = (
+  elim c.then-versions-count.branch [
+    | then-versions-count-via-then-versions-count w ↦ is_not (λ t. omega (arith, w.if-versions-count.true, t.few))
+    | then-versions-count-via-else-versions-count+then-last-gt65535 w ↦ is_not (λ t. omega (arith, w.if-last-gt65535.true, t.most))
+    | then-versions-count-via-else-versions-count+else-last-gt65535+then-till w ↦ is_not (λ t. omega (arith, w.if-till.true, t.rights))
+    | then-versions-count-via-else-versions-count+else-last-gt65535+else-till+then-till-ne0 w ↦ is_not (λ t. omega (arith, w.if-till-ne0.true, t.zero))
+  ],
+  λ e. absurd (clash refl e),
+)
 
 pub numbers_rise-requires : goal.numbers_rise-requires
 numbers_rise-requires c = (search rules, search rules, search rules, slots_fit c.args.versions c.args.blocks _ c.args.till.now (search rules) c.requires.3)

@@ -30,7 +30,7 @@ pub overflow_add-width-2 : goal.overflow_add-width-2
 overflow_add-width-2 c = omega (arith, (sizes 0 c.args.versions c.args.blocks (omega arith) c.requires.2 c.requires.3).0)
 
 pub loop-t-init : goal.loop-t-init
-loop-t-init c = (omega arith, below_none _, refl, none_tallied (till_pointers c.args.m.bytes c.args.blocks) (till_words c.args.versions c.args.blocks) c.args.tills.now _)
+loop-t-init c = (below_none _, refl, none_tallied (till_pointers c.args.m.bytes c.args.blocks) (till_words c.args.versions c.args.blocks) c.args.tills.now _)
 
 pub overflow_mul-at : goal.overflow_mul-at
 overflow_mul-at c =
@@ -59,10 +59,10 @@ till_sound-requires c =
     let l = c.loop-t in
     let w = till_words a.versions a.blocks in
     let n = part_long a.tills.now (l.t * w) w (here) in
-    (search rules, search rules, search rules, n, λ k. rw n (room_left (till_pointers a.m.bytes a.blocks) w (till_short a.m.bytes a.blocks) l.t w a.tills.now _ _ l.invariant.3 (λ j. omega (arith, here, c.requires.5 j)) k))
+    (search rules, search rules, search rules, n, λ k. rw n (room_left (till_pointers a.m.bytes a.blocks) w (till_short a.m.bytes a.blocks) l.t w a.tills.now _ _ l.invariant.2 (λ j. omega (arith, here, c.requires.5 j)) k))
 
 pub shape_of-counts-then-not-till_sound : goal.shape_of-counts-then-not-till_sound
-shape_of-counts-then-not-till_sound c = omega (arith, c.till_sound.auto, c.loop-t.invariant.2)
+shape_of-counts-then-not-till_sound c = omega (arith, c.till_sound.auto, c.loop-t.invariant.1)
 
 pub returns-then-not-till_sound : goal.returns-then-not-till_sound
 returns-then-not-till_sound c = (is_not (λ e. refutes (row _ _ c.args.versions c.args.blocks c.loop-t.t c.args.tills.now c.till_sound.ensures.0) (ap not c.if-not-till_sound.true) (e c.loop-t.t (search rules))), λ e. absurd (clash refl e))
@@ -72,17 +72,16 @@ loop-t-preserved c = let l = c.loop-t in
     let a = c.args in
     let e = c.till_sound.ensures in
     let w = till_words a.versions a.blocks in (
-      search rules,
-      below_more _ _ l.invariant.1 (proves (row _ _ a.versions a.blocks l.t a.tills.now e.0) (ap not c.if-not-till_sound.false)),
-      omega (arith, c.till_sound.auto, l.invariant.2),
-      next_tallied (till_pointers a.m.bytes a.blocks) w l.t a.tills.now _ _ _ l.invariant.3 (rw (part_is a.tills.now (l.t * w) w) at (e.1 c.if-not-till_sound.false)),
+      below_more _ _ l.invariant.0 (proves (row _ _ a.versions a.blocks l.t a.tills.now e.0) (ap not c.if-not-till_sound.false)),
+      omega (arith, c.till_sound.auto, l.invariant.1),
+      next_tallied (till_pointers a.m.bytes a.blocks) w l.t a.tills.now _ _ _ l.invariant.2 (rw (part_is a.tills.now (l.t * w) w) at (e.1 c.if-not-till_sound.false)),
     )
 
 pub shape_of-counts : goal.shape_of-counts
-shape_of-counts c = c.loop-t.invariant.2
+shape_of-counts c = c.loop-t.invariant.1
 
 pub returns : goal.returns
 returns c = let l = c.loop-t in
     let a = c.args in
     let n : l.t ≡ a.count = omega arith in
-    (is_so (λ k h. l.invariant.1 k (omega arith)), λ e. rw n at l.invariant.3)
+    (is_so (λ k h. l.invariant.0 k (omega arith)), λ e. rw n at l.invariant.2)

@@ -1,25 +1,22 @@
-use native.Mathlib.Omega.{arith}
-use Rattle.lists.proofs.Checkers.{is_not}
+use Rattle.std.proofs.Common.{arith, rules}
+use Rattle.audit_words.proofs.Ands.{not_so}
 use Rattle.audit_words.proofs.held_form.Goals as goal
 
-pub returns-then-past-helds : goal.returns-then-past-helds
-returns-then-past-helds c = is_not (λ f. omega (arith, c.if-past-helds.true, f.helds, c.past_masks-past.ensures))
-
-pub returns-then-past-removeds : goal.returns-then-past-removeds
-returns-then-past-removeds c = is_not (λ f. omega (arith, c.if-past-removeds.true, f.removeds, c.past_masks-past.ensures))
-
-pub returns-then-past-blanks : goal.returns-then-past-blanks
-returns-then-past-blanks c = is_not (λ f. omega (arith, c.if-past-blanks.true, f.blanks, c.past_masks-past.ensures))
-
-pub returns : goal.returns
-returns c = let p = c.past_masks-past.ensures in
+pub returns-then-blanks-past : goal.returns-then-blanks-past
+returns-then-blanks-past c = let p = c.past_masks-past.ensures in
     record {
       holds = λ e. record {
-        helds = omega (arith, p, c.if-past-helds.false);
-        removeds = omega (arith, p, c.if-past-removeds.false);
-        blanks = omega (arith, p, c.if-past-blanks.false);
+        helds = omega (arith, p, c.if-blanks-past.true);
+        removeds = omega (arith, p, c.if-blanks-past.true);
+        blanks = omega (arith, p, c.if-blanks-past.true);
         positions = c.positions_form.ensures.holds e;
         used = λ z. absurd (c.requires.2 z);
       };
       seen = λ f. c.positions_form.ensures.seen f.positions;
     }
+
+pub returns-else-blanks-past : goal.returns-else-blanks-past
+returns-else-blanks-past c = not_so (search rules) (λ f. omega (arith, f.helds, f.removeds, f.blanks, c.past_masks-past.ensures, c.if-blanks-past.either))
+
+pub positions_form-requires : goal.positions_form-requires
+positions_form-requires c = let p = c.past_masks-past.ensures in (c.requires.0, c.requires.1, omega (arith, p, c.if-blanks-past.true), omega (arith, p, c.if-blanks-past.true))

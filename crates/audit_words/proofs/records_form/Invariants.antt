@@ -1,12 +1,15 @@
-use mathlib.Core.Path.{◌≡◌}
-use Prim.Native.Nat.{ℕ, ◌*◌, ◌-◌, ◌/◌, ◌≤◌, ◌<◌}
-use lib.ListN.{length, take, drop}
+use Rattle.std.proofs.Common.{◌≡◌}
+use Rattle.lists.specs.Rows.{chunks}
+use Rattle.lists.specs.Each.{Each}
 use Rattle.model.specs.Measures.{record_words}
 use Rattle.audit_words.specs.Words.{RecordForm}
 use Rattle.audit_words.proofs.records_form.Given as goal
 
-abbrev pub invariant-loop-k : goal.invariant-loop-k
-invariant-loop-k l = (l.k ≤ l.count) × (l.width ≡ record_words l.n) × (l.count ≡ length l.records / l.width) × ((j : ℕ) → j < l.k → RecordForm l.n (take l.width (drop (j * l.width) l.records)))
-
-abbrev pub decreases-loop-k : goal.decreases-loop-k
-decreases-loop-k l = l.count - l.k
+abbrev pub invariant-loop-row : goal.invariant-loop-row
+invariant-loop-row l = record {
+  can_next : (goal.iterator-loop-row).can_next l.row-iterator;
+  is_finite : (goal.iterator-loop-row).is_finite l.row-iterator;
+  size : l.row-iterator.size ≡ record_words l.n;
+  left : Each (RecordForm l.n) (chunks (record_words l.n) l.row-iterator.rest.now) → Each (RecordForm l.n) (chunks (record_words l.n) l.records);
+  all : Each (RecordForm l.n) (chunks (record_words l.n) l.records) → Each (RecordForm l.n) (chunks (record_words l.n) l.row-iterator.rest.now);
+}

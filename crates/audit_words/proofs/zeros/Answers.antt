@@ -1,20 +1,17 @@
-use borrow.Author.Rules.{rules}
-use mathlib.Core.Path.{refl, sym, ap, ◌∙◌}
-use mathlib.Core.Bool.{Bool, false, cond}
-use Rattle.lists.proofs.Tests.{cond_self, cond_never}
-use Rattle.lists.proofs.Slices.{zero_next, zero_not}
+use Rattle.std.proofs.Common.{◌≡◌, ℕ, ◌+◌, ◌<◌, Bool, true, false, ◌&&◌, cond, nat_eq, List, length, get_or, drop, refl, sym, ap, ◌∙◌, rules}
+use Rattle.lists.specs.Lists.{every, all_zero}
+use Rattle.lists.proofs.Tests.{cond_self}
+use Rattle.lists.proofs.Slices.{drop_next}
 use Rattle.lists.proofs.Answers.{zero_end}
 use Rattle.audit_words.proofs.zeros.Goals as goal
-use Rattle.audit_words.proofs.zeros.Goals.{then-words-i-ne0, else-words-i-ne0}
 
-pub loop-i-init : goal.loop-i-init
-loop-i-init c = refl
+more : (good : Bool) (ws : List ℕ) (i : ℕ) → i < length ws → cond (good && nat_eq (get_or ws i 0) 0) (all_zero (drop (i + 1) ws)) false ≡ cond good (all_zero (drop i ws)) false
+unfolding all_zero every
+more true ws i h = rw (drop_next ws i 0 h) refl
+more false ws i h = refl
 
-pub loop-i-preserved : goal.loop-i-preserved
-loop-i-preserved c = elim c.if-words-i-ne0.branch [
-  | then-words-i-ne0 w ↦ rw w.good-is (sym (cond_never c.loop-i.good) ∙ ap (λ (t : Bool). cond c.loop-i.good t false) (sym (zero_not _ c.loop-i.i (search rules) w.if-words-i-ne0.true)) ∙ c.loop-i.invariant)
-  | else-words-i-ne0 w ↦ rw w.good-is (ap (λ (t : Bool). cond c.loop-i.good t false) (sym (zero_next _ c.loop-i.i (search rules) w.if-words-i-ne0.false)) ∙ c.loop-i.invariant)
-]
+pub loop-word-preserved : goal.loop-word-preserved
+loop-word-preserved c = more c.loop-word.good _ c.loop-word.word-index c.loop-word-test.true ∙ c.loop-word.invariant
 
 pub returns : goal.returns
-returns c = sym (cond_self c.loop-i.good) ∙ ap (λ (t : Bool). cond c.loop-i.good t false) (sym (zero_end _ c.loop-i.i (search rules))) ∙ c.loop-i.invariant
+returns c = sym (cond_self c.loop-word.good) ∙ ap (λ (t : Bool). cond c.loop-word.good t false) (sym (zero_end _ c.loop-word.word-index (search rules))) ∙ c.loop-word.invariant

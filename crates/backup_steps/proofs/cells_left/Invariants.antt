@@ -1,10 +1,7 @@
-use Prim.Native.Nat.{◌-◌}
+use Rattle.std.proofs.Common.{◌*◌}
 use Rattle.storage.proofs.Along.{AtRow}
 use Rattle.backup_steps.proofs.Counting.{Leaving}
 use Rattle.backup_steps.proofs.cells_left.Given as goal
 
 abbrev pub invariant-loop-k : goal.invariant-loop-k
-invariant-loop-k l = AtRow l.n l.records l.width l.rows l.at l.k × Leaving l.n l.records l.k l.left
-
-abbrev pub decreases-loop-k : goal.decreases-loop-k
-decreases-loop-k l = l.rows - l.k
+invariant-loop-k l = AtRow l.n l.records l.width l.rows (l.k * l.width) l.k × Leaving l.n l.records l.k l.left

@@ -6,7 +6,4 @@ use Rattle.bill_sums.specs.Marks.{mark_words}
 use Rattle.bill_sums.proofs.mark_slots.Given as goal
 
 abbrev pub invariant-loop-i : goal.invariant-loop-i
-invariant-loop-i l = (l.i ≤ l.count) × (length l.marks ≡ length l.initial.marks) × (l.marks ≡ mark_words l.bit (slots_pointers l.bytes l.blocks l.i l.slots) l.initial.marks)
-
-abbrev pub decreases-loop-i : goal.decreases-loop-i
-decreases-loop-i l = l.count - l.i
+invariant-loop-i l = (length l.marks ≡ length l.initial.marks) × (l.marks ≡ mark_words l.bit (slots_pointers l.bytes l.blocks l.i l.slots) l.initial.marks)

@@ -12,7 +12,7 @@ use Rattle.bill_sums.proofs.Passes.{tills_none, tills_next, till_inside, till_fe
 use Rattle.bill_sums.proofs.mark_tills.Goals as goal
 
 pub loop-t-init : goal.loop-t-init
-loop-t-init c = (omega arith, refl, tills_none _ _ _ _ _)
+loop-t-init c = (refl, tills_none _ _ _ _ _)
 
 pub overflow_mul-at : goal.overflow_mul-at
 overflow_mul-at c =
@@ -51,22 +51,21 @@ mark_till-requires c = let l = c.loop-t in (
   c.requires.2,
   till_few _ _ _ _ c.requires.4 l.t (search rules),
   till_room _ _ _ _ c.requires.4 l.t (search rules),
-  l.invariant.1 ∙ c.requires.5,
+  l.invariant.0 ∙ c.requires.5,
   bit_small l.t (search rules),
 )
 
 pub loop-t-preserved : goal.loop-t-preserved
 loop-t-preserved c = let a = c.args in
     let l = c.loop-t in (
-      omega arith,
-      c.mark_till.auto.marks ∙ l.invariant.1,
-      tills_next a.bytes a.blocks a.width a.tills.now l.t l.marks a.marks.now _ _ (one_shl l.t 16 (search rules)) l.invariant.2
+      c.mark_till.auto.marks ∙ l.invariant.0,
+      tills_next a.bytes a.blocks a.width a.tills.now l.t l.marks a.marks.now _ _ (one_shl l.t 16 (search rules)) l.invariant.1
           (c.mark_till.ensures ∙ ap (λ (ws : List ℕ). mark_words (1 * 2 ^ l.t % 2 ^ 16) (till_pointers a.bytes a.blocks ws) l.marks) (part_is a.tills.now (l.t * a.width) a.width)),
     )
 
 pub shape_of-marks : goal.shape_of-marks
-shape_of-marks c = c.loop-t.invariant.1
+shape_of-marks c = c.loop-t.invariant.0
 
 pub returns : goal.returns
 returns c = let a = c.args in
-    c.loop-t.invariant.2 ∙ ap (λ (n : ℕ). mark_tills a.bytes a.blocks a.width a.tills.now n a.marks.now) (let e : c.loop-t.t ≡ a.count = omega (arith, c.loop-t.invariant.0) in e)
+    c.loop-t.invariant.1 ∙ ap (λ (n : ℕ). mark_tills a.bytes a.blocks a.width a.tills.now n a.marks.now) (let e : c.loop-t.t ≡ a.count = omega arith in e)

@@ -5,7 +5,4 @@ use Rattle.bill_sums.specs.Marks.{mark_tills}
 use Rattle.bill_sums.proofs.mark_tills.Given as goal
 
 abbrev pub invariant-loop-t : goal.invariant-loop-t
-invariant-loop-t l = (l.t ≤ l.count) × (length l.marks ≡ length l.initial.marks) × (l.marks ≡ mark_tills l.bytes l.blocks l.width l.tills l.t l.initial.marks)
-
-abbrev pub decreases-loop-t : goal.decreases-loop-t
-decreases-loop-t l = l.count - l.t
+invariant-loop-t l = (length l.marks ≡ length l.initial.marks) × (l.marks ≡ mark_tills l.bytes l.blocks l.width l.tills l.t l.initial.marks)

@@ -1,19 +1,18 @@
-use borrow.Author.Rules.{rules}
-use mathlib.Core.Path.{refl, sym, ap, ◌∙◌}
-use mathlib.Core.Bool.{Bool, false, cond}
-use Rattle.lists.proofs.Tests.{cond_self, cond_never}
-use Rattle.bill_sums.proofs.Passes.{none_next, none_stop, none_end}
+use Rattle.std.proofs.Common.{◌≡◌, ℕ, ◌+◌, ◌/◌, ◌<◌, Bool, true, false, not, ◌&&◌, cond, nat_eq, List, length, get_or, drop, refl, sym, ap, ◌∙◌, rules}
+use Rattle.lists.specs.Lists.{every}
+use Rattle.lists.proofs.Slices.{drop_next}
+use Rattle.lists.proofs.Tests.{cond_self}
+use Rattle.bill_sums.specs.Marks.{none_direct}
+use Rattle.bill_sums.proofs.Passes.{none_end}
 use Rattle.bill_sums.proofs.none_direct.Goals as goal
-use Rattle.bill_sums.proofs.none_direct.Goals.{then-words-i-eq256, else-words-i-eq256}
 
-pub loop-i-init : goal.loop-i-init
-loop-i-init c = refl
+more : (none : Bool) (ws : List ℕ) (i : ℕ) → i < length ws → cond (none && not (nat_eq (get_or ws i 0 / 65536) 256)) (none_direct (drop (i + 1) ws)) false ≡ cond none (none_direct (drop i ws)) false
+unfolding none_direct every
+more true ws i h = rw (drop_next ws i 0 h) refl
+more false ws i h = refl
 
-pub loop-i-preserved : goal.loop-i-preserved
-loop-i-preserved c = elim c.if-words-i-eq256.branch [
-  | then-words-i-eq256 w ↦ rw w.none-is (sym (cond_never c.loop-i.none) ∙ ap (λ (t : Bool). cond c.loop-i.none t false) (sym (none_stop _ c.loop-i.i (search rules) w.if-words-i-eq256.true)) ∙ c.loop-i.invariant)
-  | else-words-i-eq256 w ↦ rw w.none-is (ap (λ (t : Bool). cond c.loop-i.none t false) (sym (none_next _ c.loop-i.i (search rules) w.if-words-i-eq256.false)) ∙ c.loop-i.invariant)
-]
+pub loop-w-preserved : goal.loop-w-preserved
+loop-w-preserved c = more c.loop-w.none _ c.loop-w.w-index c.loop-w-test.true ∙ c.loop-w.invariant
 
 pub returns : goal.returns
-returns c = sym (cond_self c.loop-i.none) ∙ ap (λ (t : Bool). cond c.loop-i.none t false) (sym (none_end _ c.loop-i.i (search rules))) ∙ c.loop-i.invariant
+returns c = sym (cond_self c.loop-w.none) ∙ ap (λ (t : Bool). cond c.loop-w.none t false) (sym (none_end _ c.loop-w.w-index (search rules))) ∙ c.loop-w.invariant

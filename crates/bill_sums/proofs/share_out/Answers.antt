@@ -38,21 +38,12 @@ part-requires c = c.requires.0
 pub overflow_add-sums : goal.overflow_add-sums
 overflow_add-sums c = omega (arith, c.loop-m.invariant.3 (count_trailing_zeros 32 c.loop-m.m), c.part.ensures.1)
 
-pub offset_bounds-sums-t-in-loop-m : goal.offset_bounds-sums-t-in-loop-m
-offset_bounds-sums-t-in-loop-m c =
-    let bit : First c.loop-m.m (count_trailing_zeros 32 c.loop-m.m) = (trailing_first 32 _ (omega arith) (omega arith)) in
-    let small : count_trailing_zeros 32 c.loop-m.m < 16 = (first_lt 16 (bit) c.loop-m.invariant.0) in
-    omega (arith, small)
-
 pub bounds-sums-t-in-loop-m : goal.bounds-sums-t-in-loop-m
 bounds-sums-t-in-loop-m c =
     let bit : First c.loop-m.m (count_trailing_zeros 32 c.loop-m.m) = (trailing_first 32 _ (omega arith) (omega arith)) in
     let small : count_trailing_zeros 32 c.loop-m.m < 16 = (first_lt 16 (bit) c.loop-m.invariant.0) in
     let inside : count_trailing_zeros 32 c.loop-m.m < length c.loop-m.sums = (omega (arith, small, c.loop-m.invariant.1, c.requires.2)) in
     inside
-
-pub less-left-requires : goal.less-left-requires
-less-left-requires c = tt
 
 pub overflow_shl-m : goal.overflow_shl-m
 overflow_shl-m c =
@@ -82,7 +73,7 @@ loop-m-preserved c =
     let inside : count_trailing_zeros 32 c.loop-m.m < length c.loop-m.sums = (omega (arith, small, c.loop-m.invariant.1, c.requires.2)) in
     let l = c.loop-m in
     let i = c.loop-m.invariant in
-    rw (power, c.part.ensures.0, c.less-left.ensures) (
+    rw (power, c.part.ensures.0, c.saturating_sub-left.ensures) (
       omega arith,
       length-set l.sums (count_trailing_zeros 32 l.m) (get_or l.sums (count_trailing_zeros 32 l.m) 0 + part_of c.args.quotient 1 l.left) ∙ i.1,
       sym (first_out (bit) _ _ _ (inside)) ∙ i.2,

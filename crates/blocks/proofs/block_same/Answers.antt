@@ -1,5 +1,4 @@
-use native.Mathlib.Omega.{arith}
-use mathlib.Core.Path.{◌∙◌}
+use Rattle.std.proofs.Common.{arith, ◌∙◌}
 use Rattle.blocks.proofs.Parts.{whole_same}
 use Rattle.blocks.proofs.block_same.Goals as goal
 

@@ -1,8 +1,8 @@
-use mathlib.Core.Path.{◌∙◌}
-use Rattle.blocks.proofs.Parts.{cut_zero}
+use Rattle.std.proofs.Common.{ap, sym, ◌∙◌}
+use Rattle.lists.specs.Lists.{all_zero}
+use Rattle.lists.proofs.Rows.{zero_fill}
 use Rattle.blocks.proofs.block_zero.Goals as goal
 
 pub returns : goal.returns
-returns c = let s = c.least-start in
-    let e = c.least-end in
-    c.all_zero.ensures ∙ cut_zero c.args.image.now c.args.at c.args.bytes s.result e.result s.ensures e.ensures
+returns c = let b = c.block_part in
+    c.all_zero.ensures ∙ sym (zero_fill c.args.bytes b.result.now b.ensures.0) ∙ ap all_zero b.ensures.1

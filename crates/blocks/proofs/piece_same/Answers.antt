@@ -1,7 +1,6 @@
-use native.Mathlib.Omega.{arith}
-use mathlib.Core.Path.{sym}
-use Rattle.blocks.proofs.Pieces.{same_first}
+use Rattle.std.proofs.Common.{arith}
+use Rattle.blocks.proofs.Pieces.{first_other}
 use Rattle.blocks.proofs.piece_same.Goals as goal
 
-pub returns-then-a-at : goal.returns-then-a-at
-returns-then-a-at c = sym (same_first c.args.a.now c.args.b.now c.args.at 64 (omega arith) (omega arith) (omega arith) c.if-a-at.true)
+pub returns-else-a-b : goal.returns-else-a-b
+returns-else-a-b c = first_other c.args.a.now c.args.b.now (omega arith) (omega arith) c.if-a-b.false

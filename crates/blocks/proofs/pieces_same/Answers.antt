@@ -1,27 +1,14 @@
-use native.Mathlib.Omega.{arith}
-use Prim.Native.Nat.{◌+◌}
-use mathlib.Core.Path.{◌≡◌, refl, sym, ◌∙◌}
-use lib.ListN.{drop}
+use Rattle.std.proofs.Common.{arith, sym, ◌∙◌, ◌≡◌, ◌%◌, length}
+use Rattle.lists.proofs.Tests.{cond_self}
 use Rattle.lists.specs.Lists.{same_numbers}
-use Rattle.blocks.proofs.Pieces.{same_stop, same_on, same_ended}
+use Rattle.blocks.proofs.Pieces.{same_all, whole}
 use Rattle.blocks.proofs.pieces_same.Goals as goal
 
-pub loop-at-init : goal.loop-at-init
-loop-at-init c = (omega arith, omega arith, refl)
-
-pub returns-then-not-piece_same : goal.returns-then-not-piece_same
-returns-then-not-piece_same c = let a = c.args in
-    sym (same_stop a.a.now a.b.now c.loop-at.at 64 (omega arith) (omega arith) (sym c.piece_same.ensures ∙ c.if-not-piece_same.true)) ∙ c.loop-at.invariant.2
-
-pub returns-then-a-at : goal.returns-then-a-at
-returns-then-a-at c =
-    let on : (let a = c.args in let at = c.loop-at.at in same_numbers (drop (at + 64) a.a.now) (drop (at + 64) a.b.now) ≡ same_numbers a.a.now a.b.now) = (let a = c.args in
-    sym (same_on a.a.now a.b.now c.loop-at.at 64 (omega arith) (omega arith) (sym c.piece_same.ensures ∙ c.if-not-piece_same.false)) ∙ c.loop-at.invariant.2) in
-    let a = c.args in
-    same_ended a.a.now a.b.now (c.loop-at.at + 64) (omega arith) (omega arith) ∙ on
-
-pub loop-at-preserved : goal.loop-at-preserved
-loop-at-preserved c =
-    let on : (let a = c.args in let at = c.loop-at.at in same_numbers (drop (at + 64) a.a.now) (drop (at + 64) a.b.now) ≡ same_numbers a.a.now a.b.now) = (let a = c.args in
-    sym (same_on a.a.now a.b.now c.loop-at.at 64 (omega arith) (omega arith) (sym c.piece_same.ensures ∙ c.if-not-piece_same.false)) ∙ c.loop-at.invariant.2) in
-    (omega arith, omega arith, on)
+pub returns : goal.returns
+unfolding same_numbers
+returns c =
+    let a = c.args.a.now in
+    let b = c.args.b.now in
+    let m : length b % 64 ≡ 0 = rw (sym c.requires.0) c.requires.2 in
+    let h = same_all 64 (omega arith) a _ c.as_chunks.ensures.front b _ _ _ _ c.requires.0 c.as_chunks-2.ensures.front (sym (whole 64 a c.requires.2 (omega arith))) (sym (whole 64 b m (omega arith))) c.pairs_same.ensures in
+    sym (cond_self c.pairs_same.result) ∙ h

@@ -1,16 +1,13 @@
-use native.Mathlib.Omega.{arith}
-use mathlib.Core.Path.{sym, ◌∙◌}
-use lib.Seq.{length-take-le}
-use Rattle.blocks.proofs.Parts.{padded_yes, padded_no}
+use Rattle.std.proofs.Common.{◌∙◌}
+use Rattle.blocks.proofs.Parts.{padded}
 use Rattle.blocks.proofs.same_padded.Goals as goal
 
-pub slice_bounds-same-end : goal.slice_bounds-same-end
-slice_bounds-same-end c = sym (length-take-le _ _ (omega arith))
-
 pub returns-then-same : goal.returns-then-same
-returns-then-same c = let a = c.args in
-    padded_yes a.part.now a.block.now _ (omega arith) (sym c.same.ensures ∙ c.if-same.true) c.all_zero.ensures
+returns-then-same c = let s = c.split_at.ensures in
+    let h = padded c.args.part.now c.args.block.now c.requires _ _ _ s.front s.back c.same.ensures in
+    c.all_zero.ensures ∙ (rw c.if-same.true at h)
 
-pub returns : goal.returns
-returns c = let a = c.args in
-    padded_no a.part.now a.block.now (omega arith) (sym c.same.ensures ∙ c.if-same.false)
+pub returns-else-same : goal.returns-else-same
+returns-else-same c = let s = c.split_at.ensures in
+    let h = padded c.args.part.now c.args.block.now c.requires _ _ _ s.front s.back c.same.ensures in
+    c.if-same.false ∙ (rw c.if-same.false at h)

@@ -13,8 +13,8 @@ returns-then-store-named c = let a = c.args in
     (itself k a.named a.store (omega (arith, c.if-store-named.true)), omega arith)
 
 pub occupied_cells-requires : goal.occupied_cells-requires
-occupied_cells-requires c = sound_lent _ c.requires.0.lengths _ c.requires.1 _ c.place_of-p.ensures.2 (c.requires.0.stores _ c.requires.1)
+occupied_cells-requires c = sound_lent _ c.requires.0.lengths _ c.requires.1 _ c.place_of-p.ensures.1 (c.requires.0.stores _ c.requires.1)
 
 pub returns : goal.returns
 unfolding occupied
-returns c = (another _ _ _ (λ q. omega (arith, q, c.if-store-named.false)) _ (c.occupied_cells.ensures.0 ∙ lent _ c.requires.0.lengths _ c.requires.1 _ c.place_of-p.ensures.2 (λ pool table. (tally_of pool table).cells)), c.occupied_cells.ensures.1)
+returns c = (another _ _ _ (λ q. omega (arith, q, c.if-store-named.false)) _ (c.occupied_cells.ensures.0 ∙ lent _ c.requires.0.lengths _ c.requires.1 _ c.place_of-p.ensures.1 (λ pool table. (tally_of pool table).cells)), c.occupied_cells.ensures.1)

@@ -8,7 +8,4 @@ use Rattle.chain_check.proofs.Cells.{later, beside_store}
 use Rattle.chain_check.proofs.other_cells.Given as goal
 
 abbrev pub invariant-loop-j : goal.invariant-loop-j
-invariant-loop-j l = (l.j ≤ length l.pool_lengths) × (l.cells ≤ l.j * 65536) × (l.cells + total (beside_store (chain_of l.pools l.tables l.pool_lengths l.table_lengths) l.store) (later l.j (length l.pool_lengths)) ≡ other_cells (chain_of l.pools l.tables l.pool_lengths l.table_lengths) l.store)
-
-abbrev pub decreases-loop-j : goal.decreases-loop-j
-decreases-loop-j l = length l.pool_lengths - l.j
+invariant-loop-j l = (l.cells ≤ l.j * 65536) × (l.cells + total (beside_store (chain_of l.pools l.tables l.pool_lengths l.table_lengths) l.store) (later l.j (length l.pool_lengths)) ≡ other_cells (chain_of l.pools l.tables l.pool_lengths l.table_lengths) l.store)

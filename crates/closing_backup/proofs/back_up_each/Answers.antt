@@ -1,11 +1,23 @@
 use native.Mathlib.Omega.{arith}
 use borrow.Author.Rules.{rules}
-use mathlib.Core.Path.{sym, ap, ◌∙◌}
+use mathlib.Core.Path.{◌≡◌, refl, sym, ap, ◌∙◌}
+use Rattle.std.proofs.Common.{ℕ, List, Result, Ok, Err}
+use Rattle.std.specs.Result.{result_unwrap_or}
+use Rattle.model.specs.Calls.{BackupAnswer}
+use Rattle.refusals.specs.declared.Refusal.{Refusal}
+use Rattle.refusals.specs.Refusals.{refusal_of}
+use Rattle.backup.specs.Call.{backup_result}
 use Prim.Native.Nat.{◌-◌}
 use lib.ListN.{length}
 use Rattle.closing_backup.proofs.Fits.{fits_are}
 use Rattle.closing_backup.proofs.Going.{going_start, going_more, going_end, image_in, refusals_long, versions_long}
 use Rattle.closing_backup.proofs.back_up_each.Goals as goal
+
+-- an image's answer, by its two numbers
+fields : (r : Result ℕ Refusal) (pool table : List ℕ)
+    → ◌≡◌ {A = BackupAnswer} (record { refusal = refusal_of r; version = result_unwrap_or r 0; pool = pool; table = table }) (backup_result r pool table)
+fields (Ok version) pool table = refl
+fields (Err r) pool table = refl
 
 pub loop-i-init : goal.loop-i-init
 loop-i-init c = let a = c.args in
@@ -34,7 +46,7 @@ pub bounds-versions-i : goal.bounds-versions-i
 bounds-versions-i c = omega (arith, versions_long c.loop-i.invariant.0, c.loop-i.invariant.0.fit.few)
 
 pub loop-i-preserved : goal.loop-i-preserved
-loop-i-preserved c = (going_more c.loop-i.invariant.0 (omega arith) _ _ _ _ c.backup-r.ensures, omega arith, omega arith)
+loop-i-preserved c = (going_more c.loop-i.invariant.0 (omega arith) _ _ _ _ (rw (c.unwrap_or.ensures, c.answered.ensures) (fields _ _ _ ∙ c.backup-r.ensures)), omega arith, omega arith)
 
 pub shape_of-refusals : goal.shape_of-refusals
 shape_of-refusals c = refusals_long c.loop-i.invariant.0 ∙ sym (ap length c.requires.2)

@@ -6,6 +6,3 @@ use Rattle.closing_backup.proofs.back_up_each.Given as goal
 
 abbrev pub invariant-loop-i : goal.invariant-loop-i
 invariant-loop-i l = Going l.limit.others l.limit.most l.initial.pool l.initial.table l.user l.tills l.lengths l.images l.pool l.table l.refusals l.versions l.from l.i × (length l.pool ≡ length l.initial.pool) × (length l.table ≡ length l.initial.table)
-
-abbrev pub decreases-loop-i : goal.decreases-loop-i
-decreases-loop-i l = length l.tills - l.i

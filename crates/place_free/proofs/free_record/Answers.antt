@@ -1,63 +1,39 @@
-use native.Mathlib.Omega.{arith}
-use mathlib.Core.Path.{◌∙◌, refl, sym}
-use mathlib.Core.List.{[]}
-use Prim.Native.Nat.{◌+◌, ◌≤◌}
-use lib.ListN.{length}
+use Rattle.std.proofs.Common.{arith, rules, ap, sym, ◌∙◌, [], length}
+use Rattle.std.proofs.Math.Option.{some}
+use Rattle.std.specs.Iterator.Adapters.{enumerate_count}
 use Rattle.model.specs.Records.{is_free}
 use Rattle.model.specs.Table.{records_in}
-use Rattle.storage.proofs.Along.{at_few, at_length, at_next, at_room, at_row, at_start}
-use Rattle.lists.proofs.Puts.{first_end, first_no, first_yes}
+use Rattle.lists.proofs.Puts.{as_none, as_some, first_end, first_no, first_yes}
+use Rattle.place_free.proofs.Chunked.{chunk_end, chunk_inside, chunk_next, chunk_row}
 use Rattle.place_free.proofs.free_record.Goals as goal
 
-pub loop-k-init : goal.loop-k-init
-loop-k-init c = (at_start _ _ _ _ c.row_words-width.ensures.0 c.rows-count.ensures, refl)
-
-pub overflow_add-end : goal.overflow_add-end
-overflow_add-end c =
-    let room : c.loop-k.at + c.row_words-width.result ≤ length c.args.records.now = (at_room c.loop-k.invariant.0 (omega arith) c.requires.1) in
-    omega (arith, room)
-
-pub offset_bounds-records-at : goal.offset_bounds-records-at
-offset_bounds-records-at c =
-    let room : c.loop-k.at + c.row_words-width.result ≤ length c.args.records.now = (at_room c.loop-k.invariant.0 (omega arith) c.requires.1) in
-    omega (arith, room)
-
-pub slice_bounds-row_free-count : goal.slice_bounds-row_free-count
-slice_bounds-row_free-count c =
-    let room : c.loop-k.at + c.row_words-width.result ≤ length c.args.records.now = (at_room c.loop-k.invariant.0 (omega arith) c.requires.1) in
-    omega (arith, room)
-
-pub slice_bounds-row_free-start : goal.slice_bounds-row_free-start
-slice_bounds-row_free-start c =
-    let room : c.loop-k.at + c.row_words-width.result ≤ length c.args.records.now = (at_room c.loop-k.invariant.0 (omega arith) c.requires.1) in
-    omega (arith, room)
-
-pub slice_bounds-row_free-end : goal.slice_bounds-row_free-end
-slice_bounds-row_free-end c =
-    let room : c.loop-k.at + c.row_words-width.result ≤ length c.args.records.now = (at_room c.loop-k.invariant.0 (omega arith) c.requires.1) in
-    omega (arith, room)
-
-pub row_free-requires : goal.row_free-requires
-row_free-requires c = omega (arith, at_length c.loop-k.invariant.0 (omega arith) c.requires.1)
-
-pub overflow_cast-result : goal.overflow_cast-result
-overflow_cast-result c = omega (arith, at_few c.loop-k.invariant.0 c.requires.2)
-
 pub returns-then-row_free : goal.returns-then-row_free
-returns-then-row_free c = let l = c.loop-k in
+returns-then-row_free c =
+    let i = c.loop-k.invariant in
+    let n = c.in-Some.ensures.steps in
+    let k = enumerate_count c.loop-k.k-iterator in
     let segs = records_in c.args.n c.args.records.now in
-    let e = c.row_free.ensures _ (at_row l.invariant.0 (omega arith) c.requires.1) in
-    (first_yes is_free [] segs l.k (omega (arith, l.invariant.0.all)) (sym c.if-row_free.true ∙ e) ∙ l.invariant.1, omega (arith, l.invariant.0.all))
+    let below = chunk_inside i.2 c.requires.1 _ _ n.0.1.0 n.0.1.1 in
+    let e = c.row_free.ensures _ (chunk_row i.2 c.requires.1 _ _ n.0.1.0 n.0.1.1) in
+    ap some n.1 ∙ sym (as_some (length segs) k below) ∙ first_yes is_free [] segs k below (sym c.if-row_free.true ∙ e) ∙ i.3
 
 pub loop-k-preserved : goal.loop-k-preserved
-loop-k-preserved c = let l = c.loop-k in
+loop-k-preserved c =
+    let i = c.loop-k.invariant in
+    let n = c.in-Some.ensures.steps in
     let segs = records_in c.args.n c.args.records.now in
-    let e = c.row_free.ensures _ (at_row l.invariant.0 (omega arith) c.requires.1) in
-    (at_next l.invariant.0 (omega arith) c.requires.1, sym (first_no is_free [] segs l.k (omega (arith, l.invariant.0.all)) (sym c.if-row_free.false ∙ e)) ∙ l.invariant.1)
-
-pub overflow_cast-result-2 : goal.overflow_cast-result-2
-overflow_cast-result-2 c = omega (arith, at_few c.loop-k.invariant.0 c.requires.2)
+    let below = chunk_inside i.2 c.requires.1 _ _ n.0.1.0 n.0.1.1 in
+    let e = c.row_free.ensures _ (chunk_row i.2 c.requires.1 _ _ n.0.1.0 n.0.1.1) in (
+      search rules,
+      search rules,
+      rw (n.0.0, n.2) (chunk_next i.2 c.requires.1 _ _ n.0.1.0 n.0.1.1),
+      rw n.2 (sym (first_no is_free [] segs (enumerate_count c.loop-k.k-iterator) below (sym c.if-row_free.false ∙ e)) ∙ i.3),
+    )
 
 pub returns : goal.returns
-returns c = let l = c.loop-k in
-    (first_end is_free [] (records_in c.args.n c.args.records.now) l.k (omega (arith, l.invariant.0.all)) ∙ l.invariant.1, omega (arith, l.invariant.0.all))
+returns c =
+    let i = c.loop-k.invariant in
+    let k = enumerate_count c.loop-k.k-iterator in
+    let segs = records_in c.args.n c.args.records.now in
+    let end = chunk_end i.2 c.requires.1 c.in-None.ensures.steps.0.1.0 in
+    sym (as_none (length segs) k end) ∙ first_end is_free [] segs k end ∙ i.3

@@ -1,6 +1,4 @@
-use mathlib.Core.Path.{◌≡◌}
-use Prim.Native.Nat.{◌-◌, ◌≤◌}
-use lib.ListN.{length}
+use Rattle.std.proofs.Common.{◌≡◌, length}
 use Rattle.model.specs.State.{Segment}
 use Rattle.model.specs.Table.{record_to_words}
 use Rattle.place_words.proofs.Cells.{Acted}
@@ -8,7 +6,4 @@ use Rattle.place_free.specs.Free.{without_cells}
 use Rattle.place_free.proofs.take_row.Given as goal
 
 abbrev pub invariant-loop-i : goal.invariant-loop-i
-invariant-loop-i l = (l.i ≤ l.n) × (length l.free ≡ length l.initial.free) × ((seg : Segment) → length seg ≡ l.n → l.row ≡ record_to_words seg → Acted without_cells seg l.initial.free l.m l.i l.free)
-
-abbrev pub decreases-loop-i : goal.decreases-loop-i
-decreases-loop-i l = l.n - l.i
+invariant-loop-i l = (length l.free ≡ length l.initial.free) × ((seg : Segment) → length seg ≡ l.n → l.row ≡ record_to_words seg → Acted without_cells seg l.initial.free l.m l.i l.free)

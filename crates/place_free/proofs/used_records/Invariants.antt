@@ -1,11 +1,7 @@
-use Prim.Native.Nat.{◌≤◌}
-use lib.ListN.{length}
+use Rattle.std.proofs.Common.{◌≤◌, length}
 use Rattle.model.specs.Table.{records_in}
 use Rattle.place_free.specs.Free.{RestFree}
 use Rattle.place_free.proofs.used_records.Given as goal
 
-abbrev pub invariant-loop-used : goal.invariant-loop-used
-invariant-loop-used l = (l.used ≤ length (records_in l.n l.records)) × (l.used ≤ 4096) × RestFree l.used (records_in l.n l.records)
-
-abbrev pub decreases-loop-used : goal.decreases-loop-used
-decreases-loop-used l = l.used
+abbrev pub invariant-loop-last : goal.invariant-loop-last
+invariant-loop-last l = (l.last ≤ length (records_in l.n l.records)) × (l.last ≤ 4096) × RestFree l.last (records_in l.n l.records)

@@ -11,6 +11,6 @@ pub returns-then-block_blank : goal.returns-then-block_blank
 returns-then-block_blank c = let a = c.args in
     blank_marks (block_from a.bytes a.image.now a.at) (sym c.if-block_null.false ∙ c.block_null.ensures) (sym c.if-block_blank.true ∙ c.block_blank.ensures)
 
-pub returns : goal.returns
-returns c = let a = c.args in
+pub returns-else-block_blank : goal.returns-else-block_blank
+returns-else-block_blank c = let a = c.args in
     stored_marks (block_from a.bytes a.image.now a.at) (sym c.if-block_null.false ∙ c.block_null.ensures) (sym c.if-block_blank.false ∙ c.block_blank.ensures)

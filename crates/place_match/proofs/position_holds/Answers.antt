@@ -19,8 +19,8 @@ returns-then-held-eq1 c = λ s p e h q r t.
     ∙ ap (λ (l : List ℕ). same_numbers l b) (sym (cell_same s a.bytes a.pool.now a.cell.0 e (omega arith) c.requires.3))
     ∙ sym (holds_held s b a.held a.cell.0 (some_block a.bytes a.image.now a.at (omega arith)) p h q t c.if-held-eq1.true)
 
-pub returns : goal.returns
-returns c = λ s p e h q r t.
+pub returns-else-held-eq1 : goal.returns-else-held-eq1
+returns-else-held-eq1 c = λ s p e h q r t.
     let a = c.args in
     let b = block_from a.bytes a.image.now a.at in
     ap (λ (x : ℕ). eqb x 0) c.requires.1 ∙ bare_bit b ∙ sym (holds_bare s b a.held a.cell.0 (some_block a.bytes a.image.now a.at (omega arith)) p h r t c.if-held-eq1.false)

@@ -6,7 +6,7 @@ use Rattle.numbers.specs.Measures.{measures_of}
 use Rattle.storage.proofs.Inside.{cell_inside, cell_room}
 use Rattle.storage.proofs.Read.{count_at, part_length, part_room, row_part_lem, stored_records}
 use Rattle.storage.proofs.Row.{cells_below}
-use Rattle.place_undo.proofs.Undoing.{undo_freed, undo_lowered}
+use Rattle.place_undo.proofs.Undoing.{low_words, undo_freed, undo_lowered}
 use Rattle.place_undo.proofs.undo_record.Goals as goal
 
 pub word-start-requires : goal.word-start-requires
@@ -71,8 +71,8 @@ offset_bounds-records-start-then-words_low c =
     let room : c.word-start.result + c.row_words.result ≤ length c.args.records.now = (part_room c.args.m.blocks c.args.records.now _ (stored_records (measures_of c.args.m) c.requires.0) c.args.k.0 c.requires.1 c.word-start.result c.row_words.result c.word-start.ensures c.row_words.ensures.0) in
     omega (arith, room)
 
-pub slice_bounds-clear-end : goal.slice_bounds-clear-end
-slice_bounds-clear-end c =
+pub slice_bounds-fill-end : goal.slice_bounds-fill-end
+slice_bounds-fill-end c =
     let room : c.word-start.result + c.row_words.result ≤ length c.args.records.now = (part_room c.args.m.blocks c.args.records.now _ (stored_records (measures_of c.args.m) c.requires.0) c.args.k.0 c.requires.1 c.word-start.result c.row_words.result c.word-start.ensures c.row_words.ensures.0) in
     omega (arith, room)
 
@@ -82,7 +82,7 @@ returns-then-words_low c = let st = c.requires.0 in
     let row = row_part_lem c.args.m.blocks c.args.records.now _ (stored_records M st) c.args.k.0 c.requires.1 c.word-start.result c.row_words.result c.word-start.ensures c.row_words.ensures.0 in
     let sized = count_at c.args.m.blocks c.args.records.now _ (stored_records M st) c.args.k.0 c.requires.1 in
     undo_freed M c.args.pool.now c.args.records.now st c.args.k.0 c.requires.1 c.word-start.result c.row_words.result c.word-start.ensures c.row_words.ensures.0
-    _ _ (sym c.if-words_low.true ∙ c.words_low.ensures) (omega arith) (c.clear_cells.ensures _ sized row) c.clear.ensures
+    _ _ (sym c.if-words_low.true ∙ c.words_low.ensures ∙ low_words _) (omega arith) (c.clear_cells.ensures _ sized row) (c.fill.ensures.after (λ y e. e))
 
 pub offset_bounds-records-start-2 : goal.offset_bounds-records-start-2
 offset_bounds-records-start-2 c =
@@ -104,4 +104,4 @@ returns c = let st = c.requires.0 in
     let row = row_part_lem c.args.m.blocks c.args.records.now _ (stored_records M st) c.args.k.0 c.requires.1 c.word-start.result c.row_words.result c.word-start.ensures c.row_words.ensures.0 in
     let sized = count_at c.args.m.blocks c.args.records.now _ (stored_records M st) c.args.k.0 c.requires.1 in
     undo_lowered M c.args.pool.now c.args.records.now st c.args.k.0 c.requires.1 c.word-start.result c.row_words.result c.word-start.ensures c.row_words.ensures.0
-    _ (sym c.if-words_low.false ∙ c.words_low.ensures) (c.lower_row.ensures _ sized row)
+    _ (sym c.if-words_low.false ∙ c.words_low.ensures ∙ low_words _) (c.lower_row.ensures _ sized row)

@@ -1,94 +1,33 @@
-use mathlib.Core.Path.{◌≡◌, refl, sym, ◌∙◌}
-use Prim.Native.Nat.{◌+◌, ◌-◌, ◌*◌, ◌%◌, ◌^◌, ◌<◌}
-use native.Mathlib.Omega.{arith}
-use lib.Count.{ones, count_trailing_zeros}
-use lib.ListN.{length, get_or, length-set}
-use lib.Pow.{pow_pos}
-use borrow.Author.Rules.{rules}
-use Rattle.lists.proofs.Places.{row_room}
-use Rattle.lists.proofs.Masks.{one_shl, First, trailing_first, first_le, first_lt, first_ones}
+use Rattle.std.proofs.Common.{◌≡◌, sym, ◌∙◌, ◌+◌, ◌-◌, ◌^◌, length, length-set, arith, rules}
+use Rattle.std.specs.Int.Count.{ones, count_trailing_zeros}
+use Rattle.lists.proofs.Masks.{first_ones}
+use Rattle.numbers.proofs.Bits.{lowest, bit_place, bit_value}
 use Rattle.pool.specs.Pool.{clear_at, free_at}
 use Rattle.pool.proofs.Pool.{first_along, along_none}
 use Rattle.pool.proofs.clear_marked.Goals as goal
 
-pub loop-left-init : goal.loop-left-init
-loop-left-init c = let z : ones c.args.mask - ones c.args.mask ≡ 0 = omega arith in
-    (c.requires.0, omega arith, refl, refl, rw z, rw z)
-
-pub overflow_cast-i : goal.overflow_cast-i
-overflow_cast-i c =
-    let bit : First c.loop-left.left (count_trailing_zeros 32 c.loop-left.left) = (trailing_first 32 _ (omega arith) (omega arith)) in
-    let small : count_trailing_zeros 32 c.loop-left.left < 16 = (first_lt 16 (bit) c.loop-left.invariant.0) in
-    omega (arith, small)
-
-pub offset_bounds-cells-i : goal.offset_bounds-cells-i
-offset_bounds-cells-i c =
-    let bit : First c.loop-left.left (count_trailing_zeros 32 c.loop-left.left) = (trailing_first 32 _ (omega arith) (omega arith)) in
-    let small : count_trailing_zeros 32 c.loop-left.left < 16 = (first_lt 16 (bit) c.loop-left.invariant.0) in
-    omega (arith, small)
-
-pub bounds-cells-i : goal.bounds-cells-i
-bounds-cells-i c =
-    let bit : First c.loop-left.left (count_trailing_zeros 32 c.loop-left.left) = (trailing_first 32 _ (omega arith) (omega arith)) in
-    let small : count_trailing_zeros 32 c.loop-left.left < 16 = (first_lt 16 (bit) c.loop-left.invariant.0) in
-    small
-
-pub overflow_cast-n : goal.overflow_cast-n
-overflow_cast-n c =
-    let cell : get_or c.args.cells (count_trailing_zeros 32 c.loop-left.left) 0 < length c.args.occupied.now = (c.requires.1 (count_trailing_zeros 32 c.loop-left.left)) in
-    omega (arith, cell)
-
-pub bounds-occupied-n : goal.bounds-occupied-n
-bounds-occupied-n c =
-    let cell : get_or c.args.cells (count_trailing_zeros 32 c.loop-left.left) 0 < length c.args.occupied.now = (c.requires.1 (count_trailing_zeros 32 c.loop-left.left)) in
-    omega (arith, cell)
-
-pub clear_cell-requires : goal.clear_cell-requires
-clear_cell-requires c =
-    let cell : get_or c.args.cells (count_trailing_zeros 32 c.loop-left.left) 0 < length c.args.occupied.now = (c.requires.1 (count_trailing_zeros 32 c.loop-left.left)) in
-    let a = c.args in
-    omega (arith, row_room _ _ a.bytes (cell))
-
-pub overflow_shl-left : goal.overflow_shl-left
-overflow_shl-left c =
-    let bit : First c.loop-left.left (count_trailing_zeros 32 c.loop-left.left) = (trailing_first 32 _ (omega arith) (omega arith)) in
-    let small : count_trailing_zeros 32 c.loop-left.left < 16 = (first_lt 16 (bit) c.loop-left.invariant.0) in
-    omega (arith, small)
-
-pub overflow_sub-left : goal.overflow_sub-left
-overflow_sub-left c =
-    let bit : First c.loop-left.left (count_trailing_zeros 32 c.loop-left.left) = (trailing_first 32 _ (omega arith) (omega arith)) in
-    let small : count_trailing_zeros 32 c.loop-left.left < 16 = (first_lt 16 (bit) c.loop-left.invariant.0) in
-    let power : 1 * 2 ^ count_trailing_zeros 32 c.loop-left.left % 2 ^ 32 ≡ 2 ^ count_trailing_zeros 32 c.loop-left.left = (one_shl _ 32 (omega (arith, small))) in
-    omega (arith, power, first_le (bit))
-
-pub loop-left-smaller : goal.loop-left-smaller
-loop-left-smaller c =
-    let bit : First c.loop-left.left (count_trailing_zeros 32 c.loop-left.left) = (trailing_first 32 _ (omega arith) (omega arith)) in
-    let small : count_trailing_zeros 32 c.loop-left.left < 16 = (first_lt 16 (bit) c.loop-left.invariant.0) in
-    let power : 1 * 2 ^ count_trailing_zeros 32 c.loop-left.left % 2 ^ 32 ≡ 2 ^ count_trailing_zeros 32 c.loop-left.left = (one_shl _ 32 (omega (arith, small))) in
-    omega (arith, power, first_le (bit), pow_pos (count_trailing_zeros 32 c.loop-left.left))
-
 pub loop-left-preserved : goal.loop-left-preserved
 unfolding clear_at
 loop-left-preserved c =
-    let sixteen : length c.args.cells ≡ 16 = (search rules) in
-    let bit : First c.loop-left.left (count_trailing_zeros 32 c.loop-left.left) = (trailing_first 32 _ (omega arith) (omega arith)) in
-    let small : count_trailing_zeros 32 c.loop-left.left < 16 = (first_lt 16 (bit) c.loop-left.invariant.0) in
-    let power : 1 * 2 ^ count_trailing_zeros 32 c.loop-left.left % 2 ^ 32 ≡ 2 ^ count_trailing_zeros 32 c.loop-left.left = (one_shl _ 32 (omega (arith, small))) in
-    let i = c.loop-left.invariant in
-    let e16 = sixteen in
-    let left = c.loop-left.left in
-    let f = first_ones (bit) in
-    let n : ones c.args.mask - ones (left - 2 ^ count_trailing_zeros 32 left) ≡ ones c.args.mask - ones left + 1 = omega (arith, f) in
-    rw (power) (
+    let l = c.loop-left in
+    let i = l.invariant in
+    let t = c.loop-left-test.true in
+    let bit = lowest l.left t i.0 in
+    let place = bit_place l.left t i.0 in
+    let sixteen : length c.args.cells ≡ 16 = search rules in
+    let f = first_ones bit in
+    let n : ones c.args.mask - ones (l.left - 2 ^ count_trailing_zeros 32 l.left) ≡ ones c.args.mask - ones l.left + 1 = omega (arith, f) in
+    rw (bit_value l.left t i.0) (
       omega arith,
       omega (arith, f),
       omega (arith, c.clear_cell.auto.pool),
       simp length-set i.3,
-      rw (n, c.clear_cell.ensures) (sym (first_along (clear_at _) _ _ _ (omega (arith, e16, small)) (bit)) ∙ i.4),
-      rw n (sym (first_along free_at _ _ _ (omega (arith, e16, small)) (bit)) ∙ i.5),
+      rw (n, c.clear_cell.ensures) (sym (first_along (clear_at _) _ _ _ (omega (arith, sixteen, place)) bit) ∙ i.4),
+      rw n (sym (first_along free_at _ _ _ (omega (arith, sixteen, place)) bit) ∙ i.5),
     )
 
-pub returns : goal.returns
-returns c = let e : c.loop-left.left ≡ 0 = c.loop-left-test.false in record { bytes = sym (along_none (clear_at _) (ones c.args.mask - ones 0) _ _) ∙ (rw e at c.loop-left.invariant.4); marks = sym (along_none free_at (ones c.args.mask - ones 0) _ _) ∙ (rw e at c.loop-left.invariant.5) }
+pub returns-clause-bytes : goal.returns-clause-bytes
+returns-clause-bytes c = sym (along_none (clear_at _) (ones c.args.mask - ones 0) _ _) ∙ (rw c.loop-left-test.false at c.loop-left.invariant.4)
+
+pub returns-clause-marks : goal.returns-clause-marks
+returns-clause-marks c = sym (along_none free_at (ones c.args.mask - ones 0) _ _) ∙ (rw c.loop-left-test.false at c.loop-left.invariant.5)

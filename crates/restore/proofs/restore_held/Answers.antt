@@ -17,43 +17,43 @@ pub overflow_add-width : goal.overflow_add-width
 overflow_add-width c = omega (arith, (header c.requires.0).blocks)
 
 pub overflow_add-slots : goal.overflow_add-slots
-overflow_add-slots c = let p = c.requires in let (x, y, z, u, v) = slots_in p.0 _ p.1 _ p.2 _ p.3 _ c.records_at-records.ensures _ p.4 in omega (arith, x, y, z, u, v)
+overflow_add-slots c = let p = c.requires in omega (arith, slots_in p.0 _ p.1 _ p.2 _ p.3 _ c.records_at-records.ensures _ p.4)
 
 pub overflow_mul-slot : goal.overflow_mul-slot
-overflow_mul-slot c = let p = c.requires in let (x, y, z, u, v) = slots_in p.0 _ p.1 _ p.2 _ p.3 _ c.records_at-records.ensures _ p.4 in omega (arith, x, y, z, u, v)
+overflow_mul-slot c = let p = c.requires in omega (arith, slots_in p.0 _ p.1 _ p.2 _ p.3 _ c.records_at-records.ensures _ p.4)
 
 pub overflow_add-slot : goal.overflow_add-slot
-overflow_add-slot c = let p = c.requires in let (x, y, z, u, v) = slots_in p.0 _ p.1 _ p.2 _ p.3 _ c.records_at-records.ensures _ p.4 in omega (arith, x, y, z, u, v)
+overflow_add-slot c = let p = c.requires in omega (arith, slots_in p.0 _ p.1 _ p.2 _ p.3 _ c.records_at-records.ensures _ p.4)
 
 pub overflow_mul-end : goal.overflow_mul-end
-overflow_mul-end c = let p = c.requires in let (x, y, z, u, v) = slots_in p.0 _ p.1 _ p.2 _ p.3 _ c.records_at-records.ensures _ p.4 in omega (arith, x, y, z, u, v)
+overflow_mul-end c = let p = c.requires in omega (arith, slots_in p.0 _ p.1 _ p.2 _ p.3 _ c.records_at-records.ensures _ p.4)
 
 pub overflow_add-end : goal.overflow_add-end
-overflow_add-end c = let p = c.requires in let (x, y, z, u, v) = slots_in p.0 _ p.1 _ p.2 _ p.3 _ c.records_at-records.ensures _ p.4 in omega (arith, x, y, z, u, v)
+overflow_add-end c = let p = c.requires in omega (arith, slots_in p.0 _ p.1 _ p.2 _ p.3 _ c.records_at-records.ensures _ p.4)
 
 pub offset_bounds-table-records : goal.offset_bounds-table-records
-offset_bounds-table-records c = let p = c.requires in let (x, y, z, u, v) = slots_in p.0 _ p.1 _ p.2 _ p.3 _ c.records_at-records.ensures _ p.4 in omega (arith, x, y, z, u, v)
+offset_bounds-table-records c = let p = c.requires in omega (arith, slots_in p.0 _ p.1 _ p.2 _ p.3 _ c.records_at-records.ensures _ p.4)
 
 pub slice_bounds-restore_slots-count : goal.slice_bounds-restore_slots-count
-slice_bounds-restore_slots-count c = let p = c.requires in let (x, y, z, u, v) = slots_in p.0 _ p.1 _ p.2 _ p.3 _ c.records_at-records.ensures _ p.4 in omega (arith, x, y, z, u, v)
+slice_bounds-restore_slots-count c = let p = c.requires in omega (arith, slots_in p.0 _ p.1 _ p.2 _ p.3 _ c.records_at-records.ensures _ p.4)
 
 pub slice_bounds-restore_slots-start : goal.slice_bounds-restore_slots-start
-slice_bounds-restore_slots-start c = let p = c.requires in let (x, y, z, u, v) = slots_in p.0 _ p.1 _ p.2 _ p.3 _ c.records_at-records.ensures _ p.4 in omega (arith, x, y, z, u, v)
+slice_bounds-restore_slots-start c = let p = c.requires in omega (arith, slots_in p.0 _ p.1 _ p.2 _ p.3 _ c.records_at-records.ensures _ p.4)
 
 pub slice_bounds-restore_slots-end : goal.slice_bounds-restore_slots-end
-slice_bounds-restore_slots-end c = let p = c.requires in let (x, y, z, u, v) = slots_in p.0 _ p.1 _ p.2 _ p.3 _ c.records_at-records.ensures _ p.4 in omega (arith, x, y, z, u, v)
+slice_bounds-restore_slots-end c = let p = c.requires in omega (arith, slots_in p.0 _ p.1 _ p.2 _ p.3 _ c.records_at-records.ensures _ p.4)
 
 pub offset_bounds-table-slot : goal.offset_bounds-table-slot
-offset_bounds-table-slot c = let p = c.requires in let (x, y, z, u, v) = slots_in p.0 _ p.1 _ p.2 _ p.3 _ c.records_at-records.ensures _ p.4 in omega (arith, x, y, z, u, v)
+offset_bounds-table-slot c = let p = c.requires in omega (arith, slots_in p.0 _ p.1 _ p.2 _ p.3 _ c.records_at-records.ensures _ p.4)
 
 pub slice_bounds-restore_slots-count-2 : goal.slice_bounds-restore_slots-count-2
-slice_bounds-restore_slots-count-2 c = let p = c.requires in let (x, y, z, u, v) = slots_in p.0 _ p.1 _ p.2 _ p.3 _ c.records_at-records.ensures _ p.4 in omega (arith, x, y, z, u, v)
+slice_bounds-restore_slots-count-2 c = let p = c.requires in omega (arith, slots_in p.0 _ p.1 _ p.2 _ p.3 _ c.records_at-records.ensures _ p.4)
 
 pub slice_bounds-restore_slots-start-2 : goal.slice_bounds-restore_slots-start-2
-slice_bounds-restore_slots-start-2 c = let p = c.requires in let (x, y, z, u, v) = slots_in p.0 _ p.1 _ p.2 _ p.3 _ c.records_at-records.ensures _ p.4 in omega (arith, x, y, z, u, v)
+slice_bounds-restore_slots-start-2 c = let p = c.requires in omega (arith, slots_in p.0 _ p.1 _ p.2 _ p.3 _ c.records_at-records.ensures _ p.4)
 
 pub slice_bounds-restore_slots-end-2 : goal.slice_bounds-restore_slots-end-2
-slice_bounds-restore_slots-end-2 c = let p = c.requires in let (x, y, z, u, v) = slots_in p.0 _ p.1 _ p.2 _ p.3 _ c.records_at-records.ensures _ p.4 in omega (arith, x, y, z, u, v)
+slice_bounds-restore_slots-end-2 c = let p = c.requires in omega (arith, slots_in p.0 _ p.1 _ p.2 _ p.3 _ c.records_at-records.ensures _ p.4)
 
 pub overflow_sub-held : goal.overflow_sub-held
 overflow_sub-held c = omega (arith, c.requires.3)

@@ -7,7 +7,7 @@ pub overflow_cast-length : goal.overflow_cast-length
 overflow_cast-length c = let p = c.requires in record { fits = first_fits _ _ _ _ p.stored.measured p.blocks (p.traceable.fits 0) p.traceable.small }
 
 pub returns-then-output-length : goal.returns-then-output-length
-returns-then-output-length c = rw c.refused.ensures (too_short _ _ _ _ _ _ c.requires.traceable.some c.if-output-length.true)
+returns-then-output-length c = too_short _ _ _ _ _ _ c.requires.traceable.some c.if-output-length.true
 
 pub restore_image-hops-requires : goal.restore_image-hops-requires
 restore_image-hops-requires c = record { stored = c.requires.stored; traceable = (c.requires.traceable, c.requires.fit); slots_len = (c.requires.blocks, omega (arith, c.if-output-length.false)) }

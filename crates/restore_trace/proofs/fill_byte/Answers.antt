@@ -6,5 +6,5 @@ use Rattle.restore_trace.proofs.fill_byte.Goals as goal
 pub returns-then-is_blank : goal.returns-then-is_blank
 returns-then-is_blank c = blank_fill c.args.pointer.0 (eqb-true _ _ (sym c.is_blank.ensures ∙ c.if-is_blank.true))
 
-pub returns : goal.returns
-returns c = null_fill c.args.pointer.0 (eqb-false _ _ (sym c.is_blank.ensures ∙ c.if-is_blank.false))
+pub returns-else-is_blank : goal.returns-else-is_blank
+returns-else-is_blank c = null_fill c.args.pointer.0 (eqb-false _ _ (sym c.is_blank.ensures ∙ c.if-is_blank.false))

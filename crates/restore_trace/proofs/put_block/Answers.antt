@@ -30,6 +30,6 @@ returns-then-is_direct c =
     let e = rw (c.«record».ensures, c.position.ensures) at q in
     cell_put _ _ _ c.requires.stored c.args.pointer.0 c.args.n (c.args.block.0 * c.args.m.bytes) c.args.out.now _ c.requires.within_records.1 _ (one) c.requires.within_records.0 e c.copy_block.ensures
 
-pub returns : goal.returns
-returns c = let other = eqb-false _ _ (sym c.is_direct.ensures ∙ c.if-is_direct.false) in
+pub returns-else-is_direct : goal.returns-else-is_direct
+returns-else-is_direct c = let other = eqb-false _ _ (sym c.is_direct.ensures ∙ c.if-is_direct.false) in
     filled_put _ _ _ c.requires.stored c.args.pointer.0 c.args.n (c.args.block.0 * c.args.m.bytes) c.args.out.now _ c.requires.within_records.1 _ other c.fill_byte.ensures c.fill_block.ensures

@@ -1,12 +1,8 @@
 use mathlib.Core.Path.{◌≡◌}
 use mathlib.Core.List.{◌++◌, map}
-use Prim.Native.Nat.{◌-◌, ◌≤◌}
-use lib.ListN.{length, take, drop}
+use lib.ListN.{take, drop}
 use Rattle.retire.specs.Answers.{taken_word, take_over_word}
 use Rattle.retire.proofs.take_over.Given as goal
 
 abbrev pub invariant-loop-i : goal.invariant-loop-i
-invariant-loop-i l = (l.i ≤ length l.initial.taken) × (length l.taken ≡ length l.initial.taken) × (length l.older ≡ length l.initial.older) × (l.older ≡ map (take_over_word l.gone) (take l.i l.initial.older) ++ drop l.i l.initial.older) × (l.taken ≡ map (taken_word l.gone) (take l.i l.initial.older) ++ drop l.i l.initial.taken)
-
-abbrev pub decreases-loop-i : goal.decreases-loop-i
-decreases-loop-i l = length l.initial.taken - l.i
+invariant-loop-i l = (l.older ≡ map (take_over_word l.gone) (take l.i l.initial.older) ++ drop l.i l.initial.older) × (l.taken ≡ map (taken_word l.gone) (take l.i l.initial.older) ++ drop l.i l.initial.taken)

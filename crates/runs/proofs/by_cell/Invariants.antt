@@ -1,10 +1,6 @@
-use mathlib.Core.Path.{◌≡◌}
-use Prim.Native.Nat.{◌-◌, ◌≤◌}
-use Rattle.runs.specs.Runs.{found_at_end}
+use Rattle.std.proofs.Common.{◌≡◌, ◌+◌, ◌≤◌, ◌++◌, Bool, List, map, take}
+use Rattle.runs.specs.Runs.{free_if, left}
 use Rattle.runs.proofs.by_cell.Given as goal
 
-abbrev pub invariant-loop-search : goal.invariant-loop-search
-invariant-loop-search l = (l.search.at ≤ l.end) × (l.search.run ≤ l.search.at) × (found_at_end l.free l.need l.marks l.search ≡ found_at_end l.free l.need l.marks l.initial.search)
-
-abbrev pub decreases-loop-search : goal.decreases-loop-search
-decreases-loop-search l = l.end - l.search.at
+abbrev pub invariant-loop-mark : goal.invariant-loop-mark
+invariant-loop-mark l = (l.search.at ≡ l.initial.search.at + l.mark-index) × (l.search.run ≤ l.search.at) × ((fs : List Bool) → left l.need fs l.search ≡ left l.need (map (free_if l.free) (take l.mark-index l.part) ++ fs) l.initial.search)

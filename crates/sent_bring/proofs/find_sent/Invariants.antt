@@ -1,12 +1,8 @@
 use mathlib.Core.Path.{◌≡◌}
-use Prim.Native.Nat.{◌-◌, ◌≤◌}
 use lib.ListN.{drop}
 use Rattle.lists.specs.Lists.{first_from, same_numbers}
 use Rattle.lists.specs.Rows.{parts}
 use Rattle.sent_bring.proofs.find_sent.Given as goal
 
 abbrev pub invariant-loop-k : goal.invariant-loop-k
-invariant-loop-k l = (l.k ≤ l.n) × (first_from (λ p. same_numbers p l.fingerprint) l.k (drop l.k (parts 20 l.n l.prints)) ≡ first_from (λ p. same_numbers p l.fingerprint) 0 (parts 20 l.n l.prints))
-
-abbrev pub decreases-loop-k : goal.decreases-loop-k
-decreases-loop-k l = l.n - l.k
+invariant-loop-k l = first_from (λ p. same_numbers p l.fingerprint) l.k (drop l.k (parts 20 l.n l.prints)) ≡ first_from (λ p. same_numbers p l.fingerprint) 0 (parts 20 l.n l.prints)

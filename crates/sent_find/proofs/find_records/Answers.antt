@@ -5,7 +5,7 @@ use Rattle.sent_find.proofs.Finding.{none_yet}
 use Rattle.sent_find.proofs.find_records.Goals as goal
 
 pub find_down-requires : goal.find_down-requires
-find_down-requires c = let f = none_yet (length c.args.numbers.now) c.fill_with.new.part c.fill_with.ensures in (c.requires.0, omega (arith, c.requires.1, f.0), f.1)
+find_down-requires c = let f = none_yet (length c.args.numbers.now) c.fill.new.self (c.fill.ensures.after (λ y e. e)) in (c.requires.0, omega (arith, c.requires.1, f.0), f.1)
 
 pub returns : goal.returns
-returns c = let f = none_yet _ _ c.fill_with.ensures in (c.find_down.ensures.0 ∙ f.0, c.find_down.ensures.1)
+returns c = let f = none_yet _ _ (c.fill.ensures.after (λ y e. e)) in (c.find_down.ensures.0 ∙ f.0, c.find_down.ensures.1)

@@ -1,10 +1,5 @@
-use Prim.Native.Nat.{◌-◌}
-use lib.ListN.{length}
 use Rattle.sent_offer.proofs.Marking.{MarkedTo}
 use Rattle.sent_offer.proofs.write_marks.Given as goal
 
 abbrev pub invariant-loop-j : goal.invariant-loop-j
 invariant-loop-j l = MarkedTo l.print l.fingerprints l.numbers l.count l.initial.marks l.marks l.j
-
-abbrev pub decreases-loop-j : goal.decreases-loop-j
-decreases-loop-j l = length l.initial.marks - l.j

@@ -1,4 +1,3 @@
-use Prim.Native.Nat.{◌-◌, ◌≤◌}
 use mathlib.Core.Path.{◌≡◌}
 use lib.ListN.{length}
 use Rattle.model.specs.State.{Segment, Storage}
@@ -7,7 +6,4 @@ use Rattle.sent_prints.proofs.Digests.{DigestTo}
 use Rattle.sent_prints.proofs.record_digest.Given as goal
 
 abbrev pub invariant-loop-i : goal.invariant-loop-i
-invariant-loop-i l = (l.i ≤ l.n) × ((s : Storage) (seg : Segment) → s.cells ≡ cells_in l.bytes l.pool → length seg ≡ l.n → l.row ≡ record_to_words seg → DigestTo l.bytes s seg l.h l.held l.blank l.i)
-
-abbrev pub decreases-loop-i : goal.decreases-loop-i
-decreases-loop-i l = l.n - l.i
+invariant-loop-i l = (s : Storage) (seg : Segment) → s.cells ≡ cells_in l.bytes l.pool → length seg ≡ l.n → l.row ≡ record_to_words seg → DigestTo l.bytes s seg l.h l.held l.blank l.i

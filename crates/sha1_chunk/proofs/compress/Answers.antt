@@ -9,5 +9,5 @@ returns c = let chunk = c.args.chunk.now in
     let s = c.args.h in
     c.add.ensures
     ∙ ap (added s)
-    (c.all_rounds-s.ensures
+    (c.all_rounds.ensures
     ∙ ap (λ (w : List ℕ). rounds w 0 80 s) (c.extend.ensures chunk (loaded_first chunk (replicate 80 0) c.load.new.words c.load.ensures)))

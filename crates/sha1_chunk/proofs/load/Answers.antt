@@ -1,23 +1,19 @@
-use Rattle.std.proofs.Common.{◌≡◌, ℕ, List, ◌++◌, drop, set, refl, ap, ◌∙◌, ap₂, arith, length-set, rules}
+use Rattle.std.proofs.Common.{◌≡◌, ℕ, List, ◌++◌, drop, set, refl, ap, ◌∙◌, ap₂, arith}
 use Rattle.sha1_definition.specs.Sha1.{chunk_word, schedule}
 use Rattle.sha1_chunk.proofs.Schedule.{load_more}
 use Rattle.sha1_chunk.proofs.load.Goals as goal
 
 pub loop-t-init : goal.loop-t-init
 unfolding schedule
-loop-t-init c = (search rules, search rules, refl)
+loop-t-init c = refl
 
 pub loop-t-preserved : goal.loop-t-preserved
 unfolding chunk_word
 loop-t-preserved c = let h = c.loop-t in
-    let a = c.args in (
-      search rules,
-      simp length-set h.invariant.1,
-      ap₂ (λ (l : List ℕ) (v : ℕ). set l h.t v) h.invariant.2 c.word.ensures
-          ∙ load_more a.chunk.now a.words.now h.t (omega arith) (omega arith),
-    )
+    let a = c.args in
+    ap₂ (λ (l : List ℕ) (v : ℕ). set l h.t v) h.invariant c.from_be_bytes.ensures ∙ load_more a.chunk.now a.words.now h.t (omega arith) (omega arith)
 
 pub returns : goal.returns
 returns c = let h = c.loop-t in
     let e : h.t ≡ 16 = omega arith in
-    h.invariant.2 ∙ ap (λ (t : ℕ). schedule c.args.chunk.now t ++ drop t c.args.words.now) e
+    h.invariant ∙ ap (λ (t : ℕ). schedule c.args.chunk.now t ++ drop t c.args.words.now) e

@@ -1,4 +1,4 @@
-use Rattle.std.proofs.Common.{ℕ, ◌+◌, ◌*◌, ◌/◌, ◌%◌, List, ◌∷◌, ◌++◌, length, replicate, ap, ◌∙◌, ap₂, arith, length-drop}
+use Rattle.std.proofs.Common.{ℕ, ◌+◌, ◌*◌, ◌/◌, ◌%◌, List, ◌∷◌, ◌++◌, length, replicate, refl, ap, ◌∙◌, ap₂, arith, length-drop}
 use Rattle.sha1_definition.specs.declared.State.{State}
 use Rattle.sha1_definition.specs.Sha1.{bytes_of, absorbed, zeros, digest_in}
 use Rattle.lists.proofs.Slices.{tail_all}
@@ -14,7 +14,7 @@ pub returns : goal.returns
 unfolding digest_in
 returns c = let r = c.args.rest.now in
     let n : ℕ = length r in
-    let total = c.wrapping_add_u64-total.result in
+    let total : ℕ = (c.args.chunks + n / 64) % 18446744073709551616 in
     let high : ℕ = total / 8388608 % 4294967296 in
     let low : ℕ = total % 8388608 * 512 + n % 64 * 8 in
     ap digest_in
@@ -23,5 +23,5 @@ returns c = let r = c.args.rest.now in
     c.absorb_all-s.ensures
     (tail_all r (n / 64 * 64)))
     ∙ finish_is c.args.h r c.args.chunks high low
-    (ap (λ (x : ℕ). x / 8388608 % 4294967296) c.wrapping_add_u64-total.ensures.value)
-    (ap (λ (x : ℕ). x % 8388608 * 512 + n % 64 * 8) c.wrapping_add_u64-total.ensures.value)
+    refl
+    refl

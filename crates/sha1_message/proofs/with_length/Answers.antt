@@ -1,12 +1,13 @@
-use Rattle.std.proofs.Common.{◌≡◌, ℕ, List, ◌++◌, length, take, ap, ◌∙◌, append-nil, arith, drop_of_length-le, rules}
-use lib.Seq.{sets-eq}
+use Rattle.std.proofs.Common.{ℕ, refl, rules, arith, length-append, length-drop}
+use lib.ListN.{length-take}
 use Rattle.sha1_definition.specs.Sha1.{bytes_of}
+use Rattle.sha1_message.proofs.Ends.{two_parts}
 use Rattle.sha1_message.proofs.with_length.Goals as goal
+
+pub slice_bounds-out-end-2 : goal.slice_bounds-out-end-2
+slice_bounds-out-end-2 c = omega (arith, length-append {A = ℕ}, length-take {A = ℕ}, length-drop {A = ℕ}, c.copy_from_slice.ensures.len)
 
 pub returns : goal.returns
 unfolding bytes_of
-returns c = let l : List ℕ = c.args.chunk in
-    let h : length l ≡ 64 = search rules in
-    let words : List ℕ = bytes_of c.args.high ++ bytes_of c.args.low in
-    sets-eq words l 56 (omega arith)
-    ∙ ap (λ (r : List ℕ). (take 56 l ++ words) ++ r) (drop_of_length-le l {i = 64} (omega arith)) ∙ append-nil (take 56 l ++ words)
+returns c = rw (c.copy_from_slice.ensures.after, c.to_be_bytes.ensures, c.copy_from_slice-2.ensures.after, c.to_be_bytes-2.ensures)
+    (two_parts c.args.chunk (bytes_of c.args.high) (bytes_of c.args.low) (search rules) refl refl)

@@ -1,15 +1,17 @@
+use Rattle.std.proofs.lemmas.Result.{err_from_is_err_and}
 use native.Mathlib.Omega.{arith}
-use Rattle.store.proofs.Refusals.{is_sound_lem, backup_10}
+use Rattle.store.proofs.Refusals.{is_sound_lem, passed, unsound, backup_10}
 use Rattle.store.proofs.Alone.{alone}
-use mathlib.Core.Path.{ap}
-use mathlib.Core.Bool.{not}
+use mathlib.Core.Path.{refl}
 use Rattle.store.proofs.backup_dated.Goals as goal
 
-pub returns-then-not-sound : goal.returns-then-not-sound
-returns-then-not-sound c = backup_10 _ _ _ c.sound.ensures (ap not c.if-not-sound.true) _ _ _ _
+pub returns-in_err-check : goal.returns-in_err-check
+returns-in_err-check c = let p = err_from_is_err_and c.from_residual.result c.from_residual.ensures.1 in
+    let (n, e) = unsound _ _ c.in_err-check.ensures in
+    rw (p.1, p.2, e) (backup_10 _ _ _ refl n _ _ _ _)
 
 pub backup_dated-requires : goal.backup_dated-requires
-backup_dated-requires c = (is_sound_lem _ _ _ c.sound.ensures (ap not c.if-not-sound.false), omega (arith, c.none.ensures))
+backup_dated-requires c = (is_sound_lem _ _ _ refl (passed _ c.in_ok-check.ensures), omega (arith, c.none.ensures))
 
 pub returns : goal.returns
 returns c = alone _ _ c.none.ensures _ _ _ _ c.backup_dated.ensures

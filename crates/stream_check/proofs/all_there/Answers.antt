@@ -9,6 +9,6 @@ use Rattle.stream_check.proofs.all_there.Goals as goal
 pub returns : goal.returns
 unfolding parts_for
 returns c = let l = c.args.left in
-    let n = (c.least-near.result + 63) / 64 in
-    let e : n ≡ min 8 ((l + 63) / 64) = omega (arith, c.least-near.ensures) in
-    ap (ltb c.args.bits) (one_shl n 32 (omega (arith, c.least-near.ensures)) ∙ ap (λ (k : ℕ). 2 ^ k) e)
+    let n = c.div_ceil.result in
+    let e : n ≡ min 8 ((l + 63) / 64) = omega (arith, c.min-near.ensures, c.div_ceil.ensures) in
+    ap (ltb c.args.bits) (one_shl n 32 (omega (arith, c.min-near.ensures, c.div_ceil.ensures)) ∙ ap (λ (k : ℕ). 2 ^ k) e)

@@ -18,10 +18,10 @@ returns-then-all_zero c = let a = c.args in
 
 pub returns-then-not-all_zero : goal.returns-then-not-all_zero
 returns-then-not-all_zero c = let a = c.args in
-    let e : a.at + c.least.result ≡ a.at + min a.left 64 = ap (λ (k : ℕ). a.at + k) c.least.ensures in
+    let e : a.at + c.min.result ≡ a.at + min a.left 64 = ap (λ (k : ℕ). a.at + k) c.min.ensures in
     reaches_after a.stream.now a.at a.bit a.left c.requires c.if-bit-eq0.false (omega arith) _ e (sym c.all_zero.ensures ∙ c.if-all_zero.false) (sym c.all_zero-2.ensures ∙ c.if-not-all_zero.true)
 
 pub returns : goal.returns
 returns c = let a = c.args in
-    let e : a.at + c.least.result ≡ a.at + min a.left 64 = ap (λ (k : ℕ). a.at + k) c.least.ensures in
+    let e : a.at + c.min.result ≡ a.at + min a.left 64 = ap (λ (k : ℕ). a.at + k) c.min.ensures in
     reaches_good a.stream.now a.at a.bit a.left c.requires c.if-bit-eq0.false (omega arith) _ e (sym c.all_zero.ensures ∙ c.if-all_zero.false) (sym c.all_zero-2.ensures ∙ c.if-not-all_zero.false)

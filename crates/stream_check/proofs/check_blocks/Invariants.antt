@@ -5,7 +5,4 @@ use Rattle.stream_laws.proofs.Steps.{Alike}
 use Rattle.stream_check.proofs.check_blocks.Given as goal
 
 abbrev pub invariant-loop-i : goal.invariant-loop-i
-invariant-loop-i l = (l.i ≤ 8) × (l.at ≤ length l.stream) × Alike (read_blocks 8 l.bits l.bytes (drop l.from l.stream)) (read_blocks (8 - l.i) l.m l.left (drop l.at l.stream))
-
-abbrev pub decreases-loop-i : goal.decreases-loop-i
-decreases-loop-i l = 8 - l.i
+invariant-loop-i l = (l.at ≤ length l.stream) × Alike (read_blocks 8 l.bits l.bytes (drop l.from l.stream)) (read_blocks (8 - l.i) l.m l.left (drop l.at l.stream))

@@ -1,36 +1,59 @@
 use native.Mathlib.Omega.{arith}
+use Rattle.std.proofs.lemmas.Result.{err_from_is_err_and}
 use mathlib.Core.Path.{◌≡◌}
-use Prim.Native.Nat.{◌-◌}
+use native.Mathlib.Nat.{sub-zero}
+use Prim.Native.Nat.{◌-◌, ◌+◌}
 use lib.ListN.{drop}
 use Rattle.stream_laws.proofs.Steps.{alike_refl, groups_of, groups_step}
 use Rattle.stream_check.proofs.Laws.{step_on, step_stop, body_stop, body_excess, body_whole}
 use Rattle.stream_check.proofs.check_body.Goals as goal
+use Rattle.stream_check.proofs.check_body.Goals.{else-loop-start-test, then-loop-start-test+in_ok-at+else-n-start-gt512}
 
-pub loop-left-init : goal.loop-left-init
-loop-left-init c = (omega arith, alike_refl _)
+pub loop-start-init : goal.loop-start-init
+loop-start-init c = rw (sub-zero c.args.n) (omega arith, alike_refl _)
 
-pub returns-then-p-ne0 : goal.returns-then-p-ne0
-returns-then-p-ne0 c = let a = c.args in
-    let l = c.loop-left in
+pub returns-in_err-at : goal.returns-in_err-at
+returns-in_err-at c = let p = err_from_is_err_and c.from_residual.result c.from_residual.ensures.1 in
+    let a = c.args in
+    let l = c.loop-start in
     let s = a.stream.now in
-    body_stop a.n l.at s _ c.if-p-ne0.true (step_stop s _ _ _ _ (groups_of (l.left - 512)) (groups_step l.left (drop l.at s) (omega arith)) l.invariant.1 c.group_at-p.ensures c.if-p-ne0.true)
+    let left = a.n - l.start in
+    rw (p.1, p.2) (body_stop a.n l.at s _ (step_stop s _ _ _ (groups_of (left - 512)) (groups_step left (drop l.at s) (omega arith)) l.invariant.1 _ c.in_err-at.ensures))
 
-pub loop-left-preserved : goal.loop-left-preserved
-loop-left-preserved c = let a = c.args in
-    let l = c.loop-left in
+pub loop-start-preserved : goal.loop-start-preserved
+loop-start-preserved c = let a = c.args in
+    let l = c.loop-start in
     let s = a.stream.now in
-    let f : l.left - 512 ≡ l.left - c.least-left.result = omega (arith, c.least-left.ensures) in
-    let n = step_on s _ _ _ _ (groups_of (l.left - 512)) (groups_step l.left (drop l.at s) (omega arith)) l.invariant.1 c.group_at-p.ensures c.if-p-ne0.false in
-    (c.group_at-p.ensures.within c.if-p-ne0.false, rw f at n)
+    let r = c.in_ok-at.ensures in
+    let left = a.n - l.start in
+    let e : a.n - l.start - 512 ≡ a.n - (l.start + 512) = omega arith in
+    let n = step_on s _ _ _ (groups_of (left - 512)) (groups_step left (drop l.at s) (omega arith)) l.invariant.1 _ r in
+    (r.within, rw e at n)
 
 pub returns-then-at-stream : goal.returns-then-at-stream
 returns-then-at-stream c = let a = c.args in
-    let l = c.loop-left in
-    let z : l.left ≡ 0 = omega arith in
-    body_excess a.n l.at a.stream.now l.invariant.0 (rw z at l.invariant.1) (omega arith)
+    let l = c.loop-start in
+    let s = a.stream.now in
+    elim c.loop-start-test.branch [
+      | else-loop-start-test w ↦ let z : a.n - l.start ≡ 0 = omega arith in body_excess a.n l.at s l.invariant.0 (rw z at l.invariant.1) (omega arith)
+      | then-loop-start-test+in_ok-at+else-n-start-gt512 w ↦
+          let left = a.n - l.start in
+          let z : a.n - l.start - 512 ≡ 0 = omega arith in
+          let r = w.in_ok-at.ensures in
+          let n = step_on s _ _ _ (groups_of (left - 512)) (groups_step left (drop l.at s) (omega arith)) l.invariant.1 _ r in
+          body_excess a.n w.in_ok-at.at s r.within (rw z at n) (omega arith)
+    ]
 
 pub returns : goal.returns
 returns c = let a = c.args in
-    let l = c.loop-left in
-    let z : l.left ≡ 0 = omega arith in
-    body_whole a.n l.at a.stream.now l.invariant.0 (rw z at l.invariant.1) (omega arith)
+    let l = c.loop-start in
+    let s = a.stream.now in
+    elim c.loop-start-test.branch [
+      | else-loop-start-test w ↦ let z : a.n - l.start ≡ 0 = omega arith in body_whole a.n l.at s l.invariant.0 (rw z at l.invariant.1) (omega arith)
+      | then-loop-start-test+in_ok-at+else-n-start-gt512 w ↦
+          let left = a.n - l.start in
+          let z : a.n - l.start - 512 ≡ 0 = omega arith in
+          let r = w.in_ok-at.ensures in
+          let n = step_on s _ _ _ (groups_of (left - 512)) (groups_step left (drop l.at s) (omega arith)) l.invariant.1 _ r in
+          body_whole a.n w.in_ok-at.at s r.within (rw z at n) (omega arith)
+    ]

@@ -1,4 +1,5 @@
 use native.Mathlib.Omega.{arith}
+use Rattle.refusals.specs.declared.Refusal.TheVariants.{StreamSize, StreamBits}
 use mathlib.Core.Path.{sym, ◌∙◌, subst}
 use Rattle.stream.specs.Stream.{Read}
 use Rattle.stream_laws.proofs.Steps.{group_none, group_missing, group_blocks}
@@ -8,15 +9,12 @@ use Rattle.stream_check.proofs.check_group.Goals as goal
 
 pub returns-then-stream-at : goal.returns-then-stream-at
 returns-then-stream-at c = let a = c.args in
-    reaches_stop _ a.stream.now a.at 24 (omega arith) (group_none a.left a.at a.stream.now (omega arith))
-
-pub overflow_cast-bits : goal.overflow_cast-bits
-overflow_cast-bits c = omega (arith, c.shared_slice_known-2-1.given c.args.at)
+    reaches_stop _ a.stream.now StreamSize (group_none a.left a.at a.stream.now (omega arith))
 
 pub returns-then-not-all_there : goal.returns-then-not-all_there
 returns-then-not-all_there c = let a = c.args in
-    reaches_stop _ a.stream.now a.at 26 (omega arith) (group_missing a.left a.at a.stream.now (omega arith) (sym c.all_there.ensures ∙ c.if-not-all_there.true))
+    reaches_stop _ a.stream.now StreamBits (group_missing a.left a.at a.stream.now (omega arith) (rw c.from-bits.ensures at (sym c.all_there.ensures ∙ c.if-not-all_there.true)))
 
 pub returns : goal.returns
 returns c = let a = c.args in
-    subst (λ (x : Read). ReadsTo x a.stream.now c.check_blocks.result) (sym (group_blocks a.left a.at a.stream.now (omega arith) (sym c.all_there.ensures ∙ c.if-not-all_there.false))) c.check_blocks.ensures
+    subst (λ (x : Read). ReadsTo x a.stream.now c.check_blocks.result) (sym (group_blocks a.left a.at a.stream.now (omega arith) (rw c.from-bits.ensures at (sym c.all_there.ensures ∙ c.if-not-all_there.false)))) (rw c.from-bits.ensures at c.check_blocks.ensures)

@@ -8,20 +8,20 @@ use Rattle.stream_read.proofs.fill_blocks.Goals as goal
 
 pub loop-i-init : goal.loop-i-init
 loop-i-init c = let a = c.args in
-    (omega arith, fill_start a.stream.now a.image.now a.from a.start _ c.requires.0 c.requires.1 c.requires.2)
+    fill_start a.stream.now a.image.now a.from a.start _ c.requires.0 c.requires.1 c.requires.2
 
 pub fill_block-at-requires : goal.fill_block-at-requires
 fill_block-at-requires c = let l = c.loop-i in
-    (l.invariant.1.within, l.invariant.1.inside, block_ok l.i l.m l.invariant.1 (omega arith))
+    (l.invariant.within, l.invariant.inside, block_ok l.i l.m l.invariant (omega arith))
 
 pub loop-i-preserved : goal.loop-i-preserved
 loop-i-preserved c = let l = c.loop-i in
-    (omega arith, blocks_on_lem l.i l.m l.invariant.1 (omega arith) _ _ _ c.fill_block-at.ensures c.least-to.ensures)
+    blocks_on_lem l.i l.m l.invariant (omega arith) _ _ _ c.fill_block-at.ensures c.min-to.ensures
 
 pub shape_of-image : goal.shape_of-image
-shape_of-image c = c.loop-i.invariant.1.same
+shape_of-image c = c.loop-i.invariant.same
 
 pub returns : goal.returns
 returns c = let l = c.loop-i in
     let z : 8 - l.i ≡ 0 = omega arith in
-    fill_end l.invariant.1 (rw z (blocks_none l.m (length l.image - l.to) _))
+    fill_end l.invariant (rw z (blocks_none l.m (length l.image - l.to) _))

@@ -7,9 +7,6 @@ use Rattle.model.specs.Measures.{record_words}
 use Rattle.sweep_laws.proofs.Sweeps.{swept_start, swept_inside, swept_next, swept_all}
 use Rattle.sweep.proofs.sweep_marked.Goals as goal
 
-pub rows-n-requires : goal.rows-n-requires
-rows-n-requires c = c.requires.measured.most_blocks
-
 pub loop-k-init : goal.loop-k-init
 loop-k-init c = swept_start _ _ _ _ _ c.requires c.rows-n.ensures
 
@@ -21,24 +18,10 @@ overflow_cast-k c =
 pub sweep_record-requires : goal.sweep_record-requires
 sweep_record-requires c = let l = c.loop-k in record { stored_marked = l.invariant.kept; number_in_bounds = swept_inside _ _ _ _ _ _ _ _ _ l.invariant (search rules) }
 
-pub overflow_add-k : goal.overflow_add-k
-overflow_add-k c =
-    let few : length c.args.words.now / record_words c.args.m.blocks ≤ 4096 = (rows_few _ (record_words c.args.m.blocks) (omega arith) 4096 c.requires.short) in
-    omega (arith, few, c.loop-k.invariant.all)
-
 pub loop-k-preserved : goal.loop-k-preserved
 loop-k-preserved c = let l = c.loop-k in
     let q = c.sweep_record in
     swept_next _ _ _ _ _ _ _ _ _ l.invariant (search rules) _ _ _ q.auto.pool q.auto.words q.auto.occupied q.ensures
-
-pub shape_of-pool : goal.shape_of-pool
-shape_of-pool c = c.loop-k.invariant.lp
-
-pub shape_of-words : goal.shape_of-words
-shape_of-words c = c.loop-k.invariant.lw
-
-pub shape_of-occupied : goal.shape_of-occupied
-shape_of-occupied c = c.loop-k.invariant.lo
 
 pub returns : goal.returns
 returns c = swept_all _ _ _ _ _ _ _ _ _ c.loop-k.invariant (search rules)

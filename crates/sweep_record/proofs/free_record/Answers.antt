@@ -1,13 +1,11 @@
 use native.Mathlib.Omega.{arith}
-use lib.ListN.{length}
 use Rattle.records.proofs.Records.{free_formed}
-use Rattle.sweep_laws.proofs.Results.{RecordPre, record_pre, free_done}
+use Rattle.sweep_laws.proofs.Results.{record_pre, free_done}
 use Rattle.sweep_record.proofs.free_record.Goals as goal
 
 pub clear_marked-requires : goal.clear_marked-requires
 clear_marked-requires c =
-    let start-pre : RecordPre (length c.args.occupied.now) c.args.m.blocks c.args.old c.args.unreferenced = (record_pre _ _ _ _ _ _ _ c.requires.stored_marked c.requires.loaded) in
-    let y = start-pre in
+    let y = record_pre _ _ _ _ _ _ _ c.requires.stored_marked c.requires.loaded in
     (y.small, y.cells, c.requires.stored_marked.measured.most_bytes, c.requires.stored_marked.bytes, c.requires.stored_marked.few)
 
 pub store-requires : goal.store-requires

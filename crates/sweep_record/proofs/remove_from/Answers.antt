@@ -9,36 +9,9 @@ use Rattle.sweep_record.proofs.remove_from.Goals as goal
 pub returns-then-r-eq0 : goal.returns-then-r-eq0
 returns-then-r-eq0 c = recoded (removed_none _ _ _ _ (sym c.requires.r_value.0 ∙ c.if-r-eq0.true)) c.requires.stored_marked.encodes_marked
 
-pub free_record-requires : goal.free_record-requires
-free_record-requires c = record { stored_marked = c.requires.stored_marked; loaded = c.requires.loaded }
-
-pub shape_of-pool-then-r-s : goal.shape_of-pool-then-r-s
-shape_of-pool-then-r-s c = c.free_record.auto.pool
-
-pub shape_of-words-then-r-s : goal.shape_of-words-then-r-s
-shape_of-words-then-r-s c = c.free_record.auto.words
-
-pub shape_of-occupied-then-r-s : goal.shape_of-occupied-then-r-s
-shape_of-occupied-then-r-s c = c.free_record.auto.occupied
-
 pub returns-then-r-s : goal.returns-then-r-s
 returns-then-r-s c = let v = c.requires.r_value in
     recoded (removed_all _ _ _ _ (λ e. c.if-r-eq0.false (v.0 ∙ e)) (sym v.0 ∙ c.if-r-s.true ∙ v.1)) c.free_record.ensures
-
-pub under_percent-requires : goal.under_percent-requires
-under_percent-requires c = (omega (arith, c.requires.r_value.2, c.requires.r_value.3), c.requires.r_value.3, c.requires.stored_marked.measured.most_percent)
-
-pub strike_record-requires : goal.strike_record-requires
-strike_record-requires c = record { stored_marked = c.requires.stored_marked; loaded = c.requires.loaded }
-
-pub shape_of-pool-then-under_percent : goal.shape_of-pool-then-under_percent
-shape_of-pool-then-under_percent c = c.strike_record.auto.pool
-
-pub shape_of-words-then-under_percent : goal.shape_of-words-then-under_percent
-shape_of-words-then-under_percent c = c.strike_record.auto.words
-
-pub shape_of-occupied-then-under_percent : goal.shape_of-occupied-then-under_percent
-shape_of-occupied-then-under_percent c = c.strike_record.auto.occupied
 
 pub returns-then-under_percent : goal.returns-then-under_percent
 returns-then-under_percent c = let v = c.requires.r_value in
@@ -46,21 +19,8 @@ returns-then-under_percent c = let v = c.requires.r_value in
     recoded (removed_few _ _ _ _ (λ e. c.if-r-eq0.false (v.0 ∙ e)) (λ e. c.if-r-s.false (v.0 ∙ e ∙ sym v.1)) (omega (arith, v.0, p, c.under_percent.ensures.holds c.if-under_percent.true)))
     c.strike_record.ensures
 
-pub compact_record-requires : goal.compact_record-requires
-compact_record-requires c = let v = c.requires.r_value in
-    record { stored_marked = c.requires.stored_marked; loaded = c.requires.loaded; number_nonzero = omega (arith, v.0, v.1, v.2, c.if-r-s.false) }
-
-pub shape_of-pool : goal.shape_of-pool
-shape_of-pool c = c.compact_record.auto.pool
-
-pub shape_of-words : goal.shape_of-words
-shape_of-words c = c.compact_record.auto.words
-
-pub shape_of-occupied : goal.shape_of-occupied
-shape_of-occupied c = c.compact_record.auto.occupied
-
-pub returns : goal.returns
-returns c = let v = c.requires.r_value in
+pub returns-else-under_percent : goal.returns-else-under_percent
+returns-else-under_percent c = let v = c.requires.r_value in
     let p : c.args.m.percent * c.args.s ≡ c.args.m.percent * held_at c.args.m.blocks c.args.words.now c.args.number.0 = ap (λ (i : ℕ). c.args.m.percent * i) v.1 in
     recoded (removed_many _ _ _ _ (λ e. c.if-r-eq0.false (v.0 ∙ e)) (λ e. c.if-r-s.false (v.0 ∙ e ∙ sym v.1)) (omega (arith, v.0, p, denies c.under_percent.ensures c.if-under_percent.false)))
     c.compact_record.ensures

@@ -33,14 +33,5 @@ remove_from-requires c =
     let m = held_most _ (few) _ d _ c.requires.number_in_bounds in
     record { stored_marked = c.requires.stored_marked; loaded = l; r_value = (g, h, omega (arith, g, h, n), omega (arith, h, m)) }
 
-pub shape_of-pool : goal.shape_of-pool
-shape_of-pool c = c.remove_from.auto.pool
-
-pub shape_of-words : goal.shape_of-words
-shape_of-words c = c.remove_from.auto.words
-
-pub shape_of-occupied : goal.shape_of-occupied
-shape_of-occupied c = c.remove_from.auto.occupied
-
 pub returns : goal.returns
 returns c = recoded (sym (removed_is _ _ _ _)) c.remove_from.ensures

@@ -1,13 +1,14 @@
-use mathlib.Core.Path.{◌≡◌}
-use Prim.Native.Nat.{◌+◌, ◌-◌, ◌/◌}
-use lib.ListN.{length, drop}
+use Rattle.std.proofs.Common.{◌≡◌, ◌+◌, ◌*◌, length, drop}
 use Rattle.model.specs.Measures.{record_words}
 use Rattle.model.specs.Records.{named_cells}
 use Rattle.model.specs.Table.{records_in}
 use Rattle.tally.proofs.cells_in.Given as goal
 
-abbrev pub invariant-loop-k : goal.invariant-loop-k
-invariant-loop-k l = (l.width ≡ record_words l.n) × (l.count ≡ length l.words / l.width) × (l.cells + length (named_cells (drop l.k (records_in l.n l.words))) ≡ length (named_cells (records_in l.n l.words)))
-
-abbrev pub decreases-loop-k : goal.decreases-loop-k
-decreases-loop-k l = l.count - l.k
+abbrev pub invariant-loop-row : goal.invariant-loop-row
+invariant-loop-row l = record {
+  can_next : (goal.iterator-loop-row).can_next l.row-iterator;
+  is_finite : (goal.iterator-loop-row).is_finite l.row-iterator;
+  width : l.row-iterator.size ≡ record_words l.n;
+  left : drop (length l.yielded * record_words l.n) l.words ≡ l.row-iterator.rest.now;
+  cells : l.cells + length (named_cells (drop (length l.yielded) (records_in l.n l.words))) ≡ length (named_cells (records_in l.n l.words));
+}

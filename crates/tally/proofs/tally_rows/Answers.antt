@@ -1,62 +1,64 @@
-use native.Mathlib.Omega.{arith}
-use Prim.Native.Nat.{◌+◌, ◌*◌, ◌≤◌}
-use lib.ListN.{length}
-use Rattle.tally.proofs.Cases.{going_start, row_room, row_at_k, going_small, going_next, going_end}
+use Rattle.std.proofs.Common.{◌≡◌, ◌*◌, ◌/◌, ◌<◌, length, length-drop, refl, ap, ◌∙◌, arith}
+use Rattle.lists.proofs.Places.{rows_short}
+use Rattle.model.specs.Measures.{record_words}
+use Rattle.audit_words.proofs.Chunks.{front, behind, one_of, one_more}
+use Rattle.tally.proofs.Cases.{going_start, row_at_k, going_small, going_next, going_end}
 use Rattle.tally.proofs.tally_rows.Goals as goal
 
-pub loop-k-init : goal.loop-k-init
-loop-k-init c = (c.row_words-width.ensures.0, c.parts-count.ensures, going_start c.args.n _ c.row_words-width.ensures.0 c.requires.0 c.args.words.now c.requires.1)
-
-pub overflow_mul-at : goal.overflow_mul-at
-overflow_mul-at c =
-    let inside : (let w = c.row_words-width.result in c.loop-k.k * w + w ≤ length c.args.words.now) = (row_room c.args.n _ c.loop-k.invariant.0 c.requires.0 c.args.words.now c.requires.1 c.loop-k.k (omega (arith, c.loop-k.invariant.1))) in
-    omega (arith, inside)
-
-pub overflow_add-at : goal.overflow_add-at
-overflow_add-at c =
-    let inside : (let w = c.row_words-width.result in c.loop-k.k * w + w ≤ length c.args.words.now) = (row_room c.args.n _ c.loop-k.invariant.0 c.requires.0 c.args.words.now c.requires.1 c.loop-k.k (omega (arith, c.loop-k.invariant.1))) in
-    omega (arith, inside)
-
-pub offset_bounds-words-at : goal.offset_bounds-words-at
-offset_bounds-words-at c =
-    let inside : (let w = c.row_words-width.result in c.loop-k.k * w + w ≤ length c.args.words.now) = (row_room c.args.n _ c.loop-k.invariant.0 c.requires.0 c.args.words.now c.requires.1 c.loop-k.k (omega (arith, c.loop-k.invariant.1))) in
-    omega (arith, inside)
-
-pub slice_bounds-tally_row-count : goal.slice_bounds-tally_row-count
-slice_bounds-tally_row-count c =
-    let inside : (let w = c.row_words-width.result in c.loop-k.k * w + w ≤ length c.args.words.now) = (row_room c.args.n _ c.loop-k.invariant.0 c.requires.0 c.args.words.now c.requires.1 c.loop-k.k (omega (arith, c.loop-k.invariant.1))) in
-    omega (arith, inside)
-
-pub slice_bounds-tally_row-start : goal.slice_bounds-tally_row-start
-slice_bounds-tally_row-start c =
-    let inside : (let w = c.row_words-width.result in c.loop-k.k * w + w ≤ length c.args.words.now) = (row_room c.args.n _ c.loop-k.invariant.0 c.requires.0 c.args.words.now c.requires.1 c.loop-k.k (omega (arith, c.loop-k.invariant.1))) in
-    omega (arith, inside)
-
-pub slice_bounds-tally_row-end : goal.slice_bounds-tally_row-end
-slice_bounds-tally_row-end c =
-    let inside : (let w = c.row_words-width.result in c.loop-k.k * w + w ≤ length c.args.words.now) = (row_room c.args.n _ c.loop-k.invariant.0 c.requires.0 c.args.words.now c.requires.1 c.loop-k.k (omega (arith, c.loop-k.invariant.1))) in
-    omega (arith, inside)
-
 pub tally_row-one-requires : goal.tally_row-one-requires
-tally_row-one-requires c = let l = c.loop-k in
-    (c.requires.0, row_at_k c.args.n _ l.invariant.0 c.requires.0 c.args.words.now c.requires.1 l.k (omega (arith, l.invariant.1)))
+tally_row-one-requires c = let s = c.in-Some.ensures.steps in
+    let v = c.loop-row.invariant in
+    let k = length c.loop-row.yielded in
+    let w = record_words c.args.n in
+    let e = v.left ∙ s.1.0 in
+    let l = s.1.1 ∙ v.width in
+    (c.requires.0, rw (front _ _ _ k w e l) at (row_at_k c.args.n w refl c.requires.0 c.args.words.now c.requires.1 k (one_of _ _ _ k w e l (omega arith))))
 
 pub overflow_add-cells : goal.overflow_add-cells
-overflow_add-cells c = let l = c.loop-k in
-    omega (arith, (going_small c.args.n _ l.invariant.0 c.requires.0 c.args.words.now c.requires.1 l.k (omega (arith, l.invariant.1)) _ _ _ l.invariant.2 _ c.tally_row-one.ensures).0)
+overflow_add-cells c = let s = c.in-Some.ensures.steps in
+    let v = c.loop-row.invariant in
+    let k = length c.loop-row.yielded in
+    let w = record_words c.args.n in
+    let e = v.left ∙ s.1.0 in
+    let l = s.1.1 ∙ v.width in
+    omega (arith, (going_small c.args.n w refl c.requires.0 c.args.words.now c.requires.1 k (one_of _ _ _ k w e l (omega arith)) _ _ _ v.going c.tally_row-one.result (rw (front _ _ _ k w e l) c.tally_row-one.ensures)).0)
 
 pub overflow_add-records : goal.overflow_add-records
-overflow_add-records c = let l = c.loop-k in
-    omega (arith, (going_small c.args.n _ l.invariant.0 c.requires.0 c.args.words.now c.requires.1 l.k (omega (arith, l.invariant.1)) _ _ _ l.invariant.2 _ c.tally_row-one.ensures).1)
+overflow_add-records c = let s = c.in-Some.ensures.steps in
+    let v = c.loop-row.invariant in
+    let k = length c.loop-row.yielded in
+    let w = record_words c.args.n in
+    let e = v.left ∙ s.1.0 in
+    let l = s.1.1 ∙ v.width in
+    omega (arith, (going_small c.args.n w refl c.requires.0 c.args.words.now c.requires.1 k (one_of _ _ _ k w e l (omega arith)) _ _ _ v.going c.tally_row-one.result (rw (front _ _ _ k w e l) c.tally_row-one.ensures)).1)
 
 pub overflow_add-counts : goal.overflow_add-counts
-overflow_add-counts c = let l = c.loop-k in
-    omega (arith, (going_small c.args.n _ l.invariant.0 c.requires.0 c.args.words.now c.requires.1 l.k (omega (arith, l.invariant.1)) _ _ _ l.invariant.2 _ c.tally_row-one.ensures).2)
+overflow_add-counts c = let s = c.in-Some.ensures.steps in
+    let v = c.loop-row.invariant in
+    let k = length c.loop-row.yielded in
+    let w = record_words c.args.n in
+    let e = v.left ∙ s.1.0 in
+    let l = s.1.1 ∙ v.width in
+    omega (arith, (going_small c.args.n w refl c.requires.0 c.args.words.now c.requires.1 k (one_of _ _ _ k w e l (omega arith)) _ _ _ v.going c.tally_row-one.result (rw (front _ _ _ k w e l) c.tally_row-one.ensures)).2)
 
-pub loop-k-preserved : goal.loop-k-preserved
-loop-k-preserved c = let l = c.loop-k in
-    (l.invariant.0, l.invariant.1, going_next c.args.n _ l.invariant.0 c.requires.0 c.args.words.now c.requires.1 l.k (omega (arith, l.invariant.1)) _ _ _ l.invariant.2 _ c.tally_row-one.ensures)
+pub loop-row-preserved : goal.loop-row-preserved
+loop-row-preserved c = let s = c.in-Some.ensures.steps in
+    let v = c.loop-row.invariant in
+    let k = length c.loop-row.yielded in
+    let w = record_words c.args.n in
+    let e = v.left ∙ s.1.0 in
+    let l = s.1.1 ∙ v.width in
+    rw (one_more c.loop-row.yielded c.in-Some.row) (record {
+      can_next = omega (arith, s.0, v.can_next);
+      is_finite = tt;
+      width = s.0 ∙ v.width;
+      left = behind _ _ _ k w e l;
+      going = going_next c.args.n w refl c.requires.0 c.args.words.now c.requires.1 k (one_of _ _ _ k w e l (omega arith)) _ _ _ v.going _ (rw (front _ _ _ k w e l) c.tally_row-one.ensures);
+    })
 
 pub returns : goal.returns
-returns c = let l = c.loop-k in
-    going_end c.args.n _ l.invariant.0 c.requires.0 c.args.words.now c.requires.1 l.k _ _ _ (omega (arith, l.invariant.1)) l.invariant.2
+returns c = let s = c.in-None.ensures.steps in
+    let v = c.loop-row.invariant in
+    let k = length c.loop-row.yielded in
+    let w = record_words c.args.n in
+    going_end c.args.n w refl c.requires.0 c.args.words.now c.requires.1 k _ _ _ (rows_short (length c.args.words.now) w (omega arith) k (omega (arith, s.1.0, v.width, ap length v.left, length-drop (k * w) c.args.words.now))) v.going

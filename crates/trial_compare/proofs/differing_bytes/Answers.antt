@@ -1,18 +1,12 @@
-use native.Mathlib.Omega.{arith}
-use borrow.Author.Rules.{rules}
-use Prim.Native.Nat.{◌-◌}
-use mathlib.Core.Path.{◌≡◌}
+use Rattle.std.proofs.Common.{◌≡◌, arith, rules}
 use Rattle.trial_compare.specs.Bytes.{differing}
 use Rattle.trial_compare.proofs.Wrong.{differing_next, differing_end, none_differing}
 use Rattle.trial_compare.proofs.differing_bytes.Goals as goal
 
-pub loop-i-init : goal.loop-i-init
-loop-i-init c = (search rules, search rules, omega arith)
-
 pub loop-i-preserved : goal.loop-i-preserved
-loop-i-preserved c = (search rules, search rules, omega (arith, differing_next c.args.a.now c.args.b.now c.loop-i.i (search rules), c.differs_at-n.ensures.0, c.loop-i.invariant.2))
+loop-i-preserved c = (omega arith, omega (arith, differing_next c.args.a.now c.args.b.now c.loop-i.i (search rules), c.differs_at-n.ensures.0))
 
 pub returns : goal.returns
-returns c = let e : c.loop-i.n ≡ differing c.args.a.now c.args.b.now =
-    omega (arith, differing_end c.args.a.now c.args.b.now c.loop-i.i (search rules), c.loop-i.invariant.2) in
-    record { count = e; few = search rules; same = λ z. none_differing c.args.a.now c.args.b.now (omega (arith, e, z)) }
+returns c =
+    let e : c.loop-i.n ≡ differing c.args.a.now c.args.b.now = omega (arith, differing_end c.args.a.now c.args.b.now c.loop-i.i (search rules)) in
+    record { count = e; few = omega arith; same = λ z. none_differing c.args.a.now c.args.b.now (omega (arith, e, z)) }

@@ -1,13 +1,9 @@
-use Rattle.trial_compare.proofs.Wrong.{head_same, head_other, head_none}
-use mathlib.Core.Path.{sym}
-use borrow.Author.Rules.{rules}
+use Rattle.trial_compare.proofs.Wrong.{none_there, one_there}
+use Rattle.trial_compare.proofs.differs_at.Goals.{then-bytes-at, else-bytes-at}
 use Rattle.trial_compare.proofs.differs_at.Goals as goal
 
-pub returns-then-bytes-at : goal.returns-then-bytes-at
-returns-then-bytes-at c = (sym (head_same c.args.bytes.now c.args.at c.args.byte (search rules) c.if-bytes-at.true), search rules)
-
-pub returns-else-bytes-at : goal.returns-else-bytes-at
-returns-else-bytes-at c = (sym (head_other c.args.bytes.now c.args.at c.args.byte (search rules) c.if-bytes-at.false), search rules)
-
-pub returns-else-at-bytes : goal.returns-else-at-bytes
-returns-else-at-bytes c = (sym (head_none c.args.bytes.now c.args.at c.args.byte c.if-at-bytes.false), search rules)
+pub returns : goal.returns
+returns c = elim c.if-bytes-at.branch [
+  | then-bytes-at w ↦ none_there c.args.bytes.now c.args.at c.args.byte _ _ c.from.ensures w.if-bytes-at.true w.from-is
+  | else-bytes-at w ↦ one_there c.args.bytes.now c.args.at c.args.byte _ _ c.from.ensures w.if-bytes-at.false w.from-is
+]

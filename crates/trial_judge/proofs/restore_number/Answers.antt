@@ -1,5 +1,10 @@
-use Rattle.trial_judge.proofs.Wanted.{number_told}
+use Rattle.std.proofs.Common.{ℕ, ap, ◌∙◌}
+use Rattle.trial_report.specs.Counts.{answered_with}
+use Rattle.trial_judge.specs.Judge.{restores}
+use Rattle.trial_judge.proofs.Wanted.{wanted_told}
 use Rattle.trial_judge.proofs.restore_number.Goals as goal
 
 pub returns : goal.returns
-returns c = number_told c.args.counts.now _ _ c.args.refusal _ _ _ _ _ c.refusal_of-may.ensures c.restore_refusal.ensures c.first_of-wanted.ensures c.answered.ensures
+returns c =
+    let told = wanted_told c.refusal_of-may.result c.restore_refusal.result c.and-wanted.result _ _ c.refusal_of-may.ensures c.restore_refusal.ensures c.and-wanted.ensures in
+    c.answered-2.ensures ∙ ap (λ (n : ℕ). answered_with c.args.counts.now restores c.args.refusal n) (c.answered.ensures ∙ told)

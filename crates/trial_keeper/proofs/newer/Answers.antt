@@ -6,11 +6,13 @@ use Rattle.trial_keeper.proofs.newer.Goals as goal
 
 pub loop-place-init : goal.loop-place-init
 unfolding count counted
-loop-place-init c = (search rules, search rules, refl)
+loop-place-init c = (search rules, refl)
 
 pub loop-place-preserved : goal.loop-place-preserved
-loop-place-preserved c = (search rules, search rules, count_more (number_at c.args.notes.now c.args.till) c.args.version (c.loop-place.place - 1) c.loop-place.place c.number_at.result c.loop-place.n c.one_if_above-n.result (omega arith) (omega arith) c.number_at.ensures c.loop-place.invariant.2 c.one_if_above-n.ensures.0 c.one_if_above-n.ensures.1)
+loop-place-preserved c =
+    let s = count_more (number_at c.args.notes.now c.args.till) c.args.version (c.loop-place.place - 1) c.loop-place.place c.number_at.result c.loop-place.n c.from-n.result (omega arith) (omega arith) c.number_at.ensures c.loop-place.invariant.1 c.from-n.ensures in
+    (search rules, s)
 
 pub returns : goal.returns
 unfolding newer_than numbers
-returns c = (subst (λ k. c.loop-place.n ≡ count (ltb c.args.version) (from (number_at c.args.notes.now c.args.till) k)) (omega arith) c.loop-place.invariant.2, search rules)
+returns c = (subst (λ k. c.loop-place.n ≡ count (ltb c.args.version) (from (number_at c.args.notes.now c.args.till) k)) (omega arith) c.loop-place.invariant.1, omega arith)

@@ -1,4 +1,4 @@
-use Rattle.std.proofs.Common.{◌≡◌, ◌-◌, refl, subst, arith, rules}
+use Rattle.std.proofs.Common.{◌≡◌, ◌-◌, max, refl, subst, arith, rules}
 use Rattle.lists.specs.Lists.{counted, largest}
 use Rattle.trial_keeper.specs.Notes.{number_at, numbers, newest_of}
 use Rattle.trial_keeper.proofs.Places.{from, largest_more}
@@ -6,11 +6,13 @@ use Rattle.trial_keeper.proofs.newest.Goals as goal
 
 pub loop-place-init : goal.loop-place-init
 unfolding largest counted
-loop-place-init c = (search rules, refl)
+loop-place-init c = refl
 
 pub loop-place-preserved : goal.loop-place-preserved
-loop-place-preserved c = (search rules, largest_more (number_at c.args.notes.now c.args.till) (c.loop-place.place - 1) c.loop-place.place c.number_at.result c.loop-place.most c.larger-most.result (omega arith) (omega arith) c.number_at.ensures c.loop-place.invariant.1 c.larger-most.ensures.0 c.larger-most.ensures.1)
+loop-place-preserved c =
+    let m : c.max-most.result ≡ max c.number_at.result c.loop-place.most = search rules in
+    largest_more (number_at c.args.notes.now c.args.till) (c.loop-place.place - 1) c.loop-place.place c.number_at.result c.loop-place.most c.max-most.result (omega arith) (omega arith) c.number_at.ensures c.loop-place.invariant m
 
 pub returns : goal.returns
 unfolding newest_of numbers
-returns c = subst (λ k. c.loop-place.most ≡ largest (from (number_at c.args.notes.now c.args.till) k)) (omega arith) c.loop-place.invariant.1
+returns c = subst (λ k. c.loop-place.most ≡ largest (from (number_at c.args.notes.now c.args.till) k)) (omega arith) c.loop-place.invariant

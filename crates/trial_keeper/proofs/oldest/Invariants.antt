@@ -1,10 +1,7 @@
-use Rattle.std.proofs.Common.{◌≡◌, ◌-◌, ◌≤◌}
+use Rattle.std.proofs.Common.{◌≡◌}
 use Rattle.trial_keeper.specs.Notes.{number_at, least_held}
 use Rattle.trial_keeper.proofs.Places.{from}
 use Rattle.trial_keeper.proofs.oldest.Given as goal
 
 abbrev pub invariant-loop-place : goal.invariant-loop-place
-invariant-loop-place l = (l.place ≤ 5) × (l.least ≡ least_held (from (number_at l.notes l.till) l.place))
-
-abbrev pub decreases-loop-place : goal.decreases-loop-place
-decreases-loop-place l = l.place
+invariant-loop-place l = l.least ≡ least_held (from (number_at l.notes l.till) l.place)

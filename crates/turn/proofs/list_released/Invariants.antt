@@ -1,12 +1,14 @@
 use mathlib.Core.Path.{◌≡◌}
 use mathlib.Core.List.{◌++◌}
-use Prim.Native.Nat.{◌-◌, ◌≤◌}
-use lib.ListN.{drop, length, take}
+use Prim.Native.Nat.{◌+◌, ◌≤◌}
+use lib.ListN.{length, take}
+use Rattle.std.specs.Iterator.Adapters.{zip_first, zip_second}
+use Rattle.std.specs.Slice.Iter.{iter_rest}
 use Rattle.turn.specs.Turn.{released_of}
 use Rattle.turn.proofs.list_released.Given as goal
 
-abbrev pub invariant-loop-b : goal.invariant-loop-b
-invariant-loop-b l = (l.b ≤ length l.pointers) × (l.m ≤ l.b) × (length l.out ≡ length l.initial.out) × (take l.m l.out ++ released_of (drop l.b l.pointers) (drop l.b l.targets) ≡ released_of l.pointers l.targets)
-
-abbrev pub decreases-loop-b : goal.decreases-loop-b
-decreases-loop-b l = length l.pointers - l.b
+abbrev pub invariant-loop-word : goal.invariant-loop-word
+invariant-loop-word l =
+    let ps = iter_rest (zip_first l.word-iterator) in
+    let ts = iter_rest (zip_second l.word-iterator) in
+    (length ps ≡ length ts) × (l.m + length ps ≤ length l.pointers) × (length l.out ≡ length l.initial.out) × (take l.m l.out ++ released_of ps ts ≡ released_of l.pointers l.targets)

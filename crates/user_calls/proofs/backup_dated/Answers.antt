@@ -1,5 +1,6 @@
-use native.Mathlib.Omega.{arith}
-use mathlib.Core.Path.{sym, ◌∙◌}
+use Rattle.std.proofs.lemmas.Result.{err_from_is_err_and}
+use Rattle.refusals.proofs.Numbers.{not_accepted}
+use mathlib.Core.Path.{refl, sym, ◌∙◌}
 use mathlib.Core.Option.{some}
 use Rattle.model.specs.Calls.{backup_dated_of}
 use Rattle.model.specs.Rights.{backup_refusal, backup_as}
@@ -8,12 +9,13 @@ use Rattle.chain.proofs.Within.{within_still, within_as}
 use Rattle.laws.proofs.Unless.{user_refused, user_served}
 use Rattle.user_calls.proofs.backup_dated.Goals as goal
 
-pub returns-then-refusal-ne0 : goal.returns-then-refusal-ne0
-returns-then-refusal-ne0 c = let a = c.args in
-    unfold backup_as backup_refusal in within_still a.limit.others a.limit.most a.pool.now a.table.now _ _ (user_refused (backup_refusal _ _) _ _ _ c.refusal-refusal.ensures (λ q. omega (arith, q, c.if-refusal-ne0.true))) (λ q. omega (arith, q, c.if-refusal-ne0.true))
+pub returns-in_err-refusal : goal.returns-in_err-refusal
+returns-in_err-refusal c = let a = c.args in
+    let p = err_from_is_err_and c.from_residual.result c.from_residual.ensures.1 in
+    rw (p.1, p.2) (unfold backup_as backup_refusal in within_still a.limit.others a.limit.most a.pool.now a.table.now _ _ (user_refused (backup_refusal _ _) _ _ _ c.in_err-refusal.ensures (not_accepted _)) (not_accepted _))
 
 pub returns : goal.returns
 returns c = let a = c.args in
     unfold backup_dated_of in
-    (user_served (backup_refusal _ _) _ _ _ c.refusal-refusal.ensures (omega (arith, c.if-refusal-ne0.false)) _ c.back_up_dated.ensures
+    (user_served (backup_refusal _ _) _ _ _ c.in_ok-refusal.ensures refl _ c.back_up_dated.ensures
     ∙ sym (within_as a.limit.others a.limit.most a.pool.now a.table.now with_blanks a.user a.till (some a.day) a.image.now))

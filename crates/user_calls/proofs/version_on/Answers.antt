@@ -1,11 +1,14 @@
-use native.Mathlib.Omega.{arith}
+use Rattle.std.proofs.lemmas.Result.{err_from_is_err_and}
+use mathlib.Core.Path.{refl}
+use Rattle.refusals.proofs.Numbers.{not_accepted}
 use Rattle.model.specs.Rights.{version_on_refusal, version_on_as}
 use Rattle.laws.proofs.Unless.{user_refused, user_served}
 use Rattle.user_calls.proofs.version_on.Goals as goal
 
-pub returns-then-refusal-ne0 : goal.returns-then-refusal-ne0
-returns-then-refusal-ne0 c = unfold version_on_as version_on_refusal in user_refused version_on_refusal _ _ _ c.refusal-refusal.ensures (λ q. omega (arith, q, c.if-refusal-ne0.true))
+pub returns-in_err-refusal : goal.returns-in_err-refusal
+returns-in_err-refusal c = let p = err_from_is_err_and c.from_residual.result c.from_residual.ensures.1 in
+    rw (p.1, p.2) (unfold version_on_as version_on_refusal in user_refused version_on_refusal _ _ _ c.in_err-refusal.ensures (not_accepted _))
 
 pub returns : goal.returns
 returns c = unfold version_on_as in
-    user_served version_on_refusal _ _ _ c.refusal-refusal.ensures (omega (arith, c.if-refusal-ne0.false)) _ c.version_on.ensures
+    user_served version_on_refusal _ _ _ c.in_ok-refusal.ensures refl _ c.version_on.ensures

@@ -1,12 +1,9 @@
-use borrow.Author.Tests.{ne_eqb}
-use Rattle.numbers.proofs.Header.{other_than_base, by_percent}
+use Rattle.std.proofs.Common.{ap, ◌∙◌}
+use Rattle.model.specs.Measures.{Measures}
+use Rattle.numbers.specs.Measures.{measures_of}
+use Rattle.numbers.proofs.Header.{base_tests}
 use Rattle.numbers.proofs.Measures.is_base.Goals as goal
 
-pub returns-then-self-ne-BYTES : goal.returns-then-self-ne-BYTES
-returns-then-self-ne-BYTES c = other_than_base _ 0 (ne_eqb _ _ c.if-self-ne-BYTES.true)
-
-pub returns-then-self-ne-BLOCKS : goal.returns-then-self-ne-BLOCKS
-returns-then-self-ne-BLOCKS c = other_than_base _ 1 (ne_eqb _ _ c.if-self-ne-BLOCKS.true)
-
 pub returns : goal.returns
-returns c = by_percent _ c.if-self-ne-BYTES.false c.if-self-ne-BLOCKS.false
+returns c = let b = c.base.ensures.0 in
+    c.eq.ensures ∙ base_tests (measures_of c.args.self) _ _ _ (ap (λ (m : Measures). m.block_bytes) b) (ap (λ (m : Measures). m.segment_blocks) b) (ap (λ (m : Measures). m.rebuild_percent) b)

@@ -1,25 +1,21 @@
-use mathlib.Core.Path.{◌≡◌}
-use Prim.Native.Nat.{◌<◌}
-use native.Mathlib.Omega.{arith}
-use borrow.Author.Rules.{rules}
-use Rattle.records.proofs.Records.{used_few, unreferenced_start, unreferenced_next, unreferenced_small}
+use Rattle.std.proofs.Common.{ap, ◌∙◌, ℕ, Bool, cond, arith, rules}
+use Rattle.records.proofs.Records.{used_few, unreferenced_start, unreferenced_next, unreferenced_small, bit_of, bit_small}
 use Rattle.records.proofs.Record.unreferenced.Goals as goal
 
 pub loop-i-init : goal.loop-i-init
 loop-i-init c = (c.requires, search rules, used_few _ c.requires, unreferenced_start _ c.requires)
 
 pub overflow_mul-mask : goal.overflow_mul-mask
-overflow_mul-mask c =
-    let mask-small : c.loop-i.mask < 65536 = (omega (arith, unreferenced_small _ c.loop-i.invariant.0 c.loop-i.i)) in
-    omega (arith, mask-small)
+overflow_mul-mask c = let i = c.loop-i.invariant in
+    omega (arith, i.3, unreferenced_small _ i.0 c.loop-i.i)
 
 pub overflow_add-mask : goal.overflow_add-mask
-overflow_add-mask c =
-    let mask-small : c.loop-i.mask < 65536 = (omega (arith, unreferenced_small _ c.loop-i.invariant.0 c.loop-i.i)) in
-    omega (arith, mask-small, c.unused.ensures.1)
+overflow_add-mask c = let i = c.loop-i.invariant in
+    omega (arith, i.3, unreferenced_small _ i.0 c.loop-i.i, c.from.ensures, bit_small c.unused.result)
 
 pub loop-i-preserved : goal.loop-i-preserved
-loop-i-preserved c = let l = c.loop-i in (l.invariant.0, omega arith, l.invariant.2, unreferenced_next _ l.invariant.0 l.i _ _ (omega arith) l.invariant.1 l.invariant.3 c.unused.ensures.0)
-
-pub returns : goal.returns
-returns c = let l = c.loop-i in let z : l.i ≡ 0 = omega arith in rw z at l.invariant.3
+loop-i-preserved c =
+    let l = c.loop-i in
+    let i = l.invariant in
+    let u = c.from.ensures ∙ bit_of c.unused.result ∙ ap (λ (b : Bool). cond {A = ℕ} b 1 0) c.unused.ensures in
+    (i.0, omega arith, i.2, unreferenced_next _ i.0 l.i _ _ (omega arith) i.1 i.3 u)

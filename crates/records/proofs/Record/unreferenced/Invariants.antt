@@ -1,6 +1,4 @@
-use mathlib.Core.Path.{◌≡◌}
-use Prim.Native.Nat.{◌≤◌}
-use lib.ListN.{drop}
+use Rattle.std.proofs.Common.{◌≡◌, ◌≤◌, drop}
 use Rattle.lists.specs.Masks.{mask_of}
 use Rattle.model.specs.Sweep.{is_unreferenced}
 use Rattle.records.specs.Records.{positions, Formed}
@@ -8,6 +6,3 @@ use Rattle.records.proofs.Record.unreferenced.Given as goal
 
 abbrev pub invariant-loop-i : goal.invariant-loop-i
 invariant-loop-i l = Formed l.self × (l.i ≤ l.self.used) × (l.self.used ≤ 16) × (l.mask ≡ mask_of is_unreferenced (drop l.i (positions l.self)))
-
-abbrev pub decreases-loop-i : goal.decreases-loop-i
-decreases-loop-i l = l.i

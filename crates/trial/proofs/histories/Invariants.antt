@@ -1,8 +1,0 @@
-use Rattle.std.proofs.Common.{◌≡◌, length, ◌-◌}
-use Rattle.trial.proofs.histories.Given as goal
-
-abbrev pub invariant-loop-n : goal.invariant-loop-n
-invariant-loop-n l = (length l.pool ≡ length l.initial.pool) × (length l.table ≡ length l.initial.table) × (length l.counts ≡ length l.initial.counts)
-
-abbrev pub decreases-loop-n : goal.decreases-loop-n
-decreases-loop-n l = l.count - l.n

@@ -1,2 +1,0 @@
--- The module of the crate's proofs.
-pub mod Counting
