@@ -56,8 +56,21 @@ fn back_up_through(
     requires { Sound pool.old table.old × (73728 ≤ length out.old) × (limit.others ≤ 524288) }
     ensures { backup_result result pool.new table.new ≡ within limit.others limit.most pool.old table.old (backup_sent_of pool.old table.old till bytes fingerprints.now marks.now segments.now) }
 {
-    sent_accept::sent_refusal(pool, table, till, bytes, fingerprints, marks, segments)?;
-    assemble_in(pool, table, bytes, fingerprints, marks, segments, out)?;
+    // Kept: with `?` no refusal has a name, and the edits of these two places were refused for a step's name, not for the number.
+    if let Err(early) = sent_accept::sent_refusal(
+        pool,
+        table,
+        till,
+        bytes,
+        fingerprints,
+        marks,
+        segments,
+    ) {
+        return Err(early);
+    }
+    if let Err(late) = assemble_in(pool, table, bytes, fingerprints, marks, segments, out) {
+        return Err(late);
+    }
     let end = bytes as usize;
     backup::back_up(pool, table, till, &out[..end], limit)
 }

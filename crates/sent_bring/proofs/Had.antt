@@ -47,7 +47,7 @@ brings_so false seg out e q = absurd (false≢true e)
 
 -- ---- one not sent
 
-zero_print : (m : Measures) (zero : Digest) (p f : List ℕ) → zero ≡ digest (zero_segment m) → p ≡ digest_bytes zero → same_numbers p f ≡ same_numbers (sha1 (zero_segment m)) f
+pub zero_print : (m : Measures) (zero : Digest) (p f : List ℕ) → zero ≡ digest (zero_segment m) → p ≡ digest_bytes zero → same_numbers p f ≡ same_numbers (sha1 (zero_segment m)) f
 unfolding sha1
 zero_print m zero p f e q = ap (λ (l : List ℕ). same_numbers l f) (q ∙ ap digest_bytes e)
 

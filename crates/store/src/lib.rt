@@ -174,7 +174,10 @@ pub fn offer(
 ) -> Result<(), Refusal>
     ensures { offered (refusal_of result) marks.new ≡ offer_as pool.now table.now user till fingerprints.now marks.old }
 {
-    check(pool, table)?;
+    // Kept: with `?` no refusal has a name, and the edit of this place was refused for a step's name, not for the number.
+    if let Err(unsound) = check(pool, table) {
+        return Err(unsound);
+    }
     user_calls::offer(pool, table, user, till, fingerprints, marks)
 }
 
@@ -231,6 +234,9 @@ pub fn set_rights(
 ) -> Result<(), Refusal>
     ensures { rights_answered (refusal_of result) table.new ≡ set_rights_of pool.now table.old user subject till (rights_given rights) }
 {
-    check(pool, table)?;
+    // Kept: with `?` no refusal has a name, and the edit of this place was refused for a step's name, not for the number.
+    if let Err(no_store) = check(pool, table) {
+        return Err(no_store);
+    }
     rights::set_rights(pool, table, user, subject, till, rights)
 }

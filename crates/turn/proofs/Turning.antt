@@ -44,7 +44,7 @@ pub next_at : (bytes n : ℕ) → 0 < bytes → n ≤ n * bytes
 next_at bytes n h = let a : n * 1 ≤ n * bytes = mul-le-mul_left n h in omega (arith, a)
 
 -- and its number fits
-pub begins_few : (bytes k n len : ℕ) → 64 ≤ bytes → len ≤ 65536 → n ≡ parts_for bytes len → k < n → (k * bytes < len) × (k ≤ 65536)
+pub begins_few : (bytes k n len : ℕ) → 64 ≤ bytes → len ≤ 65536 → n ≡ parts_for bytes len → k < n → (k * bytes < len) × (k < 65536)
 begins_few bytes k n len least few e h =
     let inside : k * bytes < len = begins_in bytes k len (omega arith) (omega (arith, e)) in
     (inside, omega (arith, inside, next_at bytes k (omega arith)))

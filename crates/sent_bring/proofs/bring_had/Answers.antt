@@ -12,11 +12,11 @@ returns-then-same c = let a = c.args in
     c.if-same.true _ s.5 (c.fill.ensures.after (λ y e. e))
 
 pub overflow_mul-i : goal.overflow_mul-i
-overflow_mul-i c = omega (arith, sent_room (measures_of c.args.m) _ _ c.args.s _ c.segment_bytes-width.ensures.0 c.in-Some.ensures.1 c.requires.stored.2)
+overflow_mul-i c = omega (arith, sent_room (measures_of c.args.m) _ c.in-Some.i c.args.s _ c.segment_bytes-width.ensures.0 (omega (arith, c.in-Some.ensures.1)) c.requires.stored.2)
 
 pub copy_part-requires : goal.copy_part-requires
 copy_part-requires c = (
-  omega (arith, sent_room (measures_of c.args.m) _ _ c.args.s _ c.segment_bytes-width.ensures.0 c.in-Some.ensures.1 c.requires.stored.2),
+  omega (arith, sent_room (measures_of c.args.m) _ c.in-Some.i c.args.s _ c.segment_bytes-width.ensures.0 (omega (arith, c.in-Some.ensures.1)) c.requires.stored.2),
   omega (arith, c.requires.stored.5, segment_long (measures_of c.args.m), c.segment_bytes-width.ensures.0),
 )
 

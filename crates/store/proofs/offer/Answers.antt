@@ -1,12 +1,9 @@
-use Rattle.std.proofs.lemmas.Result.{err_from_is_err_and}
 use Rattle.store.proofs.Refusals.{is_sound_lem, passed, unsound, offer_10}
 use mathlib.Core.Path.{refl}
 use Rattle.store.proofs.offer.Goals as goal
 
-pub returns-in_err-check : goal.returns-in_err-check
-returns-in_err-check c = let p = err_from_is_err_and c.from_residual.result c.from_residual.ensures.1 in
-    let (n, e) = unsound _ _ c.in_err-check.ensures in
-    rw (p.1, p.2, e) (offer_10 _ _ _ refl n _ _ _ _)
+pub returns-in-Err : goal.returns-in-Err
+returns-in-Err c = let (n, e) = unsound _ _ c.in-Err.ensures in rw e (offer_10 _ _ _ refl n _ _ _ _)
 
 pub offer-requires : goal.offer-requires
-offer-requires c = is_sound_lem _ _ _ refl (passed _ c.in_ok-check.ensures)
+offer-requires c = is_sound_lem _ _ _ refl (passed _ c.in_default.ensures)

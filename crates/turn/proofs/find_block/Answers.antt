@@ -21,7 +21,8 @@ block_same-requires c = let f = begins_few c.args.bytes c.in-Some.k _ (length c.
     let p = c.requires in (omega (arith, c.byte.ensures), p.2, p.3, p.4, p.1)
 
 pub indirect-requires : goal.indirect-requires
-indirect-requires c = (begins_few c.args.bytes c.in-Some.k _ (length c.args.image.now) c.requires.2 c.requires.0 c.parts_for-count.ensures c.in-Some.ensures.1).1
+indirect-requires c = let f = begins_few c.args.bytes c.in-Some.k _ (length c.args.image.now) c.requires.2 c.requires.0 c.parts_for-count.ensures c.in-Some.ensures.1 in
+    omega (arith, f.1)
 
 pub returns-then-block_same : goal.returns-then-block_same
 returns-then-block_same c = let l = c.loop-k in
