@@ -56,7 +56,7 @@ fn back_up_through(
     requires { Sound pool.old table.old × (73728 ≤ length out.old) × (limit.others ≤ 524288) }
     ensures { backup_result result pool.new table.new ≡ within limit.others limit.most pool.old table.old (backup_sent_of pool.old table.old till bytes fingerprints.now marks.now segments.now) }
 {
-    // Kept: with `?` no refusal has a name, and the edits of these two places were refused for a step's name, not for the number.
+    // Kept: after a `?` a refusal has no name: an edit that answered another one by `map_err` added a step, and was refused for that.
     if let Err(early) = sent_accept::sent_refusal(
         pool,
         table,

@@ -174,7 +174,7 @@ pub fn offer(
 ) -> Result<(), Refusal>
     ensures { offered (refusal_of result) marks.new ≡ offer_as pool.now table.now user till fingerprints.now marks.old }
 {
-    // Kept: with `?` no refusal has a name, and the edit of this place was refused for a step's name, not for the number.
+    // Kept: the line with `?` is that of every call, and an edit has to spoil this one alone.
     if let Err(unsound) = check(pool, table) {
         return Err(unsound);
     }
@@ -234,7 +234,7 @@ pub fn set_rights(
 ) -> Result<(), Refusal>
     ensures { rights_answered (refusal_of result) table.new ≡ set_rights_of pool.now table.old user subject till (rights_given rights) }
 {
-    // Kept: with `?` no refusal has a name, and the edit of this place was refused for a step's name, not for the number.
+    // Kept: the line with `?` is that of every call, and an edit has to spoil this one alone.
     if let Err(no_store) = check(pool, table) {
         return Err(no_store);
     }
